@@ -1,0 +1,3 @@
+pub mod KeyBytes
+pub mod Fields
+pub mod Shard

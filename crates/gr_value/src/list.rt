@@ -1,0 +1,67 @@
+ghost use Rattle.std.specs.Prelude.{◌≡◌, ◌==◌, [], ◌∷◌, ◌++◌, length, slice_get, IfOk, OnOk, OnErr, option_copied, IsOk};
+
+use crate::{Copied, Memory};
+use std::alloc::Global;
+use std::marker::Model;
+
+/// A list of items, which contracts see as that list.
+#[derive(Drop)]
+pub struct ItemList<T> {
+    entries: Vec<T>,
+}
+
+impl<T> Model for ItemList<T> {
+    ghost use Rattle.std.specs.Prelude.{List};
+
+    ghost Value = { List T };
+
+    ghost view = { λ list. list.entries.items };
+}
+
+impl<T> ItemList<T> {
+    /// The list with no items.
+    pub fn new(alloc: Global) -> Result<ItemList<T>, Memory>
+        ensures { IfOk result (λ list. list ≡ []) }
+    {
+        Ok(ItemList {
+            entries: Vec::new(alloc),
+        })
+    }
+
+    /// Puts one item last. Where memory is refused the item is dropped.
+    pub fn push(&mut self, item: T) -> Result<(), Memory>
+    where
+        T: Drop,
+        ensures ok { OnOk result (self.new ≡ self.old ++ item ∷ []) }
+        ensures err { OnErr result (self.new ≡ self.old) }
+    {
+        self.entries.push(item)?;
+        Ok(())
+    }
+
+    pub fn len(&self) -> usize
+        ensures { result ≡ length self.now }
+    {
+        self.entries.len()
+    }
+
+    pub fn is_empty(&self) -> bool
+        ensures { result ≡ (length self.now == 0) }
+    {
+        self.entries.is_empty()
+    }
+
+    /// The item at a place, counted from 0.
+    pub fn get(&self, place: usize) -> Option<&T>
+        ensures { option_copied result ≡ slice_get self.now place }
+    {
+        self.entries.get(place)
+    }
+
+    /// All items, in order.
+    pub fn as_slice(&self) -> &[T]
+        ensures { result.now ≡ self.now }
+    {
+        self.entries.as_slice()
+    }
+}
