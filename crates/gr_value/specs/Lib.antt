@@ -1,3 +1,5 @@
-pub mod KeyBytes
 pub mod Fields
+pub mod KeyBytes
+pub mod Sameness
+pub mod Scalars
 pub mod Shard

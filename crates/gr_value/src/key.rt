@@ -1,20 +1,102 @@
+ghost use Rattle.std.specs.Prelude.{◌≡◌, ◌≤◌, ◌<◌, IfSome, IsTrue, Some, None, MatchResult, bytes_eq, length};
+ghost use Rattle.gr_value.specs.KeyBytes.{is_key_byte, bad_place, IsKey, key_fault, FaultIs};
+ghost use Rattle.gr_value.specs.Shard.{shard_of};
+
+use crate::{Copied, ItemList, KeyFault, Memory};
+use std::alloc::Global;
 use std::marker::Model;
 use std::sync::Arc;
 
-/// A key: 1 to 255 bytes, each from 0x21 to 0x7E. Contracts see it as its bytes.
+/// The most bytes of a key.
+const MOST_BYTES: usize = 255;
+
+/// A key: 1 to 255 bytes, each from 0x21 to 0x7E. Contracts see it as its bytes. Copies share them.
 #[derive(Drop)]
 pub struct Key {
-    bytes: Arc<Vec<u8>>,
+    shared: Arc<Vec<u8>>,
 }
 
-pub enum KeyFault { Empty, TooLong, BadByte(u32), Memory }
+pub type KeyList = ItemList<Key>;
 
 impl Model for Key {
     ghost use Rattle.std.specs.Prelude.{List, ℕ};
+    ghost use Rattle.gr_value.specs.KeyBytes.{IsKey};
 
     ghost Value = { List ℕ };
 
-    ghost view = { λ k. k.bytes.value.items };
+    ghost view = { λ key. key.shared.value.items };
+
+    ghost invariant = { λ key. IsKey key.shared.value.items };
 }
 
-pub type KeyList = crate::ItemList<Key>;
+fn is_key_byte(byte: u8) -> bool
+    ensures { result ≡ is_key_byte byte }
+{
+    0x21 <= byte && byte <= 0x7E
+}
+
+fn bad_place(bytes: &[u8]) -> Option<usize>
+    ensures place { result ≡ bad_place bytes.now }
+    ensures within { IfSome result (λ place. place < length bytes.now) }
+{
+    bytes.iter().position(|byte| !is_key_byte(*byte))
+}
+
+fn fault_of(bytes: &[u8]) -> Option<KeyFault>
+    ensures { result ≡ key_fault bytes.now }
+{
+    if bytes.is_empty() {
+        Some(KeyFault::Empty)
+    } else if bytes.len() > MOST_BYTES {
+        Some(KeyFault::TooLong)
+    } else {
+        bad_place(bytes).map(|place| KeyFault::BadByte(place as u32))
+    }
+}
+
+impl Key {
+    /// Reads a key. Its faults are looked for in the order of `KeyFault`.
+    pub fn read(alloc: Global, bytes: &[u8]) -> Result<Key, KeyFault>
+        ensures { MatchResult result (λ key. (key ≡ bytes.now) × IsKey bytes.now) (FaultIs (key_fault bytes.now)) }
+    {
+        if let Some(fault) = fault_of(bytes) {
+            return Err(fault);
+        }
+        let shared = Arc::new(alloc, Vec::from_slice(alloc, bytes)?)?;
+        Ok(Key { shared })
+    }
+
+    pub fn bytes(&self) -> &[u8]
+        ensures bytes { result.now ≡ self.now }
+        ensures key { IsKey self.now }
+    {
+        self.shared.as_slice()
+    }
+
+    /// Whether both are the same bytes.
+    pub fn same(&self, other: &Key) -> bool
+        ensures { result ≡ bytes_eq self.now other.now }
+    {
+        self.bytes() == other.bytes()
+    }
+
+    /// The shard of this key where there are so many, counted from 0.
+    pub fn shard(&self, shards: u8) -> u8
+        requires some { 1 ≤ shards }
+        requires most { shards ≤ 32 }
+        ensures { result ≡ shard_of self.now shards }
+    {
+        let mut hash = 0u64;
+        for byte in self.bytes() {
+            hash = (hash * 31 + u64::from(*byte)) % 0x1_0000_0000;
+        }
+        (hash % u64::from(shards)) as u8
+    }
+}
+
+impl Copied for Key {
+    fn copy(&self, _alloc: Global) -> Result<Key, Memory> {
+        let shared = Arc::try_clone(&self.shared)?;
+        Ok(Key { shared })
+    }
+}

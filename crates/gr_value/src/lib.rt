@@ -2,15 +2,19 @@
 #![tactic(auto)]
 
 mod copied;
+mod fault;
 mod key;
 mod list;
 mod memory;
+mod scalar;
 mod text;
 mod value;
 
 pub use copied::Copied;
-pub use key::{Key, KeyFault, KeyList};
+pub use fault::KeyFault;
+pub use key::{Key, KeyList};
 pub use list::ItemList;
 pub use memory::Memory;
-pub use text::{Scalar, Text};
+pub use scalar::Scalar;
+pub use text::Text;
 pub use value::{Field, Value};

@@ -1,4 +1,5 @@
-ghost use Rattle.std.specs.Prelude.{◌≡◌, ◌==◌, [], ◌∷◌, ◌++◌, length, slice_get, IfOk, OnOk, OnErr, option_copied, IsOk};
+ghost use Rattle.std.specs.Prelude.{◌≡◌, ◌==◌, [], ◌∷◌, ◌++◌, length, slice_get, IfOk, IfNone, OnOk, OnErr, option_copied};
+ghost use Rattle.std.specs.Option.{option_to_list};
 
 use crate::{Copied, Memory};
 use std::alloc::Global;
@@ -63,5 +64,23 @@ impl<T> ItemList<T> {
         ensures { result.now ≡ self.now }
     {
         self.entries.as_slice()
+    }
+
+    /// Takes the last item out.
+    pub fn pop(&mut self) -> Option<T>
+        ensures item { self.old ≡ self.new ++ option_to_list result }
+        ensures none { IfNone result (self.old ≡ []) }
+    {
+        self.entries.pop()
+    }
+}
+
+impl<T: Copied + Drop> Copied for ItemList<T> {
+    fn copy(&self, alloc: Global) -> Result<ItemList<T>, Memory> {
+        let mut copies = Vec::with_capacity(alloc, self.entries.len())?;
+        for item in &self.entries {
+            copies.push(item.copy(alloc)?)?;
+        }
+        Ok(ItemList { entries: copies })
     }
 }

@@ -1,4 +1,8 @@
-use crate::{Scalar, Text};
+ghost use Rattle.std.specs.Prelude.{◌≡◌, ◌↔◌, IsTrue, option_copied};
+ghost use Rattle.gr_value.specs.Fields.{field_of, value_eq};
+
+use crate::{Copied, Memory, Scalar, Text};
+use std::alloc::Global;
 use std::marker::Model;
 use std::sync::Arc;
 
@@ -9,10 +13,31 @@ pub struct Field {
     pub scalar: Scalar,
 }
 
-/// A value: fields with scalars, names ascending and distinct. Contracts see it as the list of its fields.
+impl PartialEq for Field {
+    ghost use Rattle.gr_value.specs.Fields.{field_eq};
+    ghost use Rattle.std.specs.Cmp.{partial_equiv_from_equiv};
+    ghost use Rattle.gr_value.specs.Sameness.{field_eq_equiv};
+
+    ghost eq = { field_eq };
+
+    ghost laws = { partial_equiv_from_equiv field_eq_equiv };
+
+    fn eq(&self, other: &Field) -> bool {
+        self.name == other.name && self.scalar == other.scalar
+    }
+}
+
+impl Eq for Field {
+    ghost use Rattle.gr_value.specs.Sameness.{field_eq_equiv};
+
+    ghost laws = { field_eq_equiv };
+}
+
+/// A value: fields with scalars, names ascending and distinct. Contracts see it as the list of its
+/// fields. Copies share them.
 #[derive(Drop)]
 pub struct Value {
-    fields: Arc<Vec<Field>>,
+    shared: Arc<Vec<Field>>,
 }
 
 impl Model for Value {
@@ -21,5 +46,40 @@ impl Model for Value {
 
     ghost Value = { List Field };
 
-    ghost view = { λ v. v.fields.value.items };
+    ghost view = { λ value. value.shared.value.items };
+}
+
+impl Value {
+    pub fn fields(&self) -> &[Field]
+        ensures { result.now ≡ self.now }
+    {
+        self.shared.as_slice()
+    }
+
+    /// The scalar of the field with this name.
+    pub fn field(&self, name: &str) -> Option<&Scalar>
+        ensures { option_copied result ≡ field_of name.now self.now }
+    {
+        let field = self
+            .fields()
+            .iter()
+            .find(|field| field.name.as_str() == name)?;
+        Some(&field.scalar)
+    }
+
+    /// Whether both have the same fields.
+    #[tactic(auto, using(crate::specs::Sameness::value_eq_decides))]
+    pub fn same(&self, other: &Value) -> bool
+        ensures test { result ≡ value_eq self.now other.now }
+        ensures equal { IsTrue result ↔ (self.now ≡ other.now) }
+    {
+        self.fields() == other.fields()
+    }
+}
+
+impl Copied for Value {
+    fn copy(&self, _alloc: Global) -> Result<Value, Memory> {
+        let shared = Arc::try_clone(&self.shared)?;
+        Ok(Value { shared })
+    }
 }
