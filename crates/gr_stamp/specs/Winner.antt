@@ -1,0 +1,39 @@
+-- Which of the changes of a key wins.
+use Rattle.std.specs.Prelude.{◌≡◌, ℕ, List, [], ◌∷◌, Bool, true, false, ◌&&◌, IsTrue, Contains, bytes_eq, if◌then◌else◌, Option, Some, None, option_and_then}
+use Rattle.std.specs.List.{AllByRecursion}
+use Rattle.gr_value.specs.declared.value.Field.{Field}
+use Rattle.gr_stamp.specs.declared.change.Change.{Change}
+use Rattle.gr_stamp.specs.declared.change.Kind.{Kind}
+use Rattle.gr_stamp.specs.declared.change.Kind.TheVariants.{Put, Remove}
+use Rattle.gr_stamp.specs.Version.{beats}
+
+-- whether a change replaces what won before it
+abbrev pub wins : Change → Option Change → Bool
+wins change None = true
+wins change (Some before) = beats change.stamp before.stamp
+
+-- The change of the key that no other change of it beats, of changes that are listed the newest first.
+-- Of several with one stamp it is the oldest.
+abbrev pub winner : List ℕ → List Change → Option Change
+winner key [] = None
+winner key (change ∷ past) =
+    if bytes_eq change.key key && wins change (winner key past) then Some change else winner key past
+
+-- the value that a kind of change puts
+abbrev pub put_value : Kind → Option (List Field)
+put_value (Put value) = Some value
+put_value Remove = None
+
+-- what the changes leave at a key: the value, where its winner is a put
+abbrev pub holds : List ℕ → List Change → Option (List Field)
+holds key changes = option_and_then (λ change. put_value change.kind) (winner key changes)
+
+-- the key has no change among these
+abbrev pub HasNoChange : List ℕ → List Change → Type 0
+HasNoChange key changes = AllByRecursion (λ change. bytes_eq change.key key ≡ false) changes
+
+-- a change of the key is one of these, and none of the key's among them beats it
+pub record IsUnbeaten (key : List ℕ) (changes : List Change) (best : Change) : Type 0 where
+  pub of_key : IsTrue (bytes_eq best.key key)
+  pub among : Contains changes best
+  pub unbeaten : AllByRecursion (λ change. bytes_eq change.key key ≡ true → beats change.stamp best.stamp ≡ false) changes

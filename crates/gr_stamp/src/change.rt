@@ -1,0 +1,41 @@
+ghost use Rattle.std.specs.Prelude.{◌≡◌};
+
+use crate::Stamp;
+use gr_value::{Copied, ItemList, Key, Memory, Value};
+use std::alloc::Global;
+
+/// What a change does to its key.
+#[derive(Drop)]
+pub enum Kind {
+    Put(Value),
+    Remove,
+}
+
+impl Copied for Kind {
+    fn copy(&self, alloc: Global) -> Result<Kind, Memory> {
+        match self {
+            Kind::Put(value) => Ok(Kind::Put(value.copy(alloc)?)),
+            Kind::Remove => Ok(Kind::Remove),
+        }
+    }
+}
+
+/// A change of one key, with the stamp that names it.
+#[derive(Drop)]
+pub struct Change {
+    pub key: Key,
+    pub kind: Kind,
+    pub stamp: Stamp,
+}
+
+pub type ChangeList = ItemList<Change>;
+
+impl Copied for Change {
+    fn copy(&self, alloc: Global) -> Result<Change, Memory> {
+        Ok(Change {
+            key: self.key.copy(alloc)?,
+            kind: self.kind.copy(alloc)?,
+            stamp: self.stamp,
+        })
+    }
+}

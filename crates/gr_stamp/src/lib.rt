@@ -1,0 +1,10 @@
+//! Stamped changes of a key, and which of them wins.
+#![tactic(auto)]
+
+mod change;
+mod laws;
+mod stamp;
+
+pub use change::{Change, ChangeList, Kind};
+pub use laws::{stamps_are_in_order, winner_is_unbeaten};
+pub use stamp::{LIMIT, Stamp, decide};
