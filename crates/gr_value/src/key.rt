@@ -1,9 +1,10 @@
-ghost use Rattle.std.specs.Prelude.{◌≡◌, ◌≤◌, ◌<◌, IfSome, IsTrue, Some, None, MatchResult, bytes_eq, length};
+ghost use Rattle.std.specs.Prelude.{◌≡◌, ◌≤◌, ◌<◌, IfSome, IsTrue, Some, None, MatchResult, length};
 ghost use Rattle.gr_value.specs.KeyBytes.{is_key_byte, bad_place, IsKey, key_fault, FaultIs};
 ghost use Rattle.gr_value.specs.Shard.{shard_of};
 
 use crate::{Copied, ItemList, KeyFault, Memory};
 use std::alloc::Global;
+use std::cmp::Ordering;
 use std::marker::Model;
 use std::sync::Arc;
 
@@ -73,13 +74,6 @@ impl Key {
         self.shared.as_slice()
     }
 
-    /// Whether both are the same bytes.
-    pub fn same(&self, other: &Key) -> bool
-        ensures { result ≡ bytes_eq self.now other.now }
-    {
-        self.bytes() == other.bytes()
-    }
-
     /// The shard of this key where there are so many, counted from 0.
     pub fn shard(&self, shards: u8) -> u8
         requires some { 1 ≤ shards }
@@ -91,6 +85,63 @@ impl Key {
             hash = (hash * 31 + u64::from(*byte)) % 0x1_0000_0000;
         }
         (hash % u64::from(shards)) as u8
+    }
+}
+
+impl PartialEq for Key {
+    ghost use Rattle.std.specs.Prelude.{bytes_eq};
+    ghost use Rattle.std.proofs.Common.{rules};
+    ghost use Rattle.std.specs.Cmp.Rules.{comparing};
+
+    ghost eq = { bytes_eq };
+
+    ghost laws = { Prim.search (comparing, rules) };
+
+    fn eq(&self, other: &Key) -> bool {
+        self.bytes() == other.bytes()
+    }
+}
+
+impl Eq for Key {
+    ghost use Rattle.std.proofs.Common.{rules};
+    ghost use Rattle.std.specs.Cmp.Rules.{comparing};
+
+    ghost laws = { Prim.search (comparing, rules) };
+}
+
+impl PartialOrd for Key {
+    ghost use Rattle.std.specs.Ordering.{as_partial_cmp, nat_cmp};
+    ghost use Rattle.std.specs.Cmp.Lexicographic.{slice_cmp};
+    ghost use Rattle.std.proofs.Common.{rules};
+    ghost use Rattle.std.specs.Cmp.{partial_order_from_own_ties};
+    ghost use Rattle.std.specs.Cmp.Rules.{comparing};
+
+    ghost partial_cmp = { as_partial_cmp (slice_cmp nat_cmp) };
+
+    ghost laws = { partial_order_from_own_ties (Prim.search (comparing, rules)) (Prim.search (comparing, rules)) };
+
+    fn partial_cmp(&self, other: &Key) -> Option<Ordering> {
+        Some(self.cmp(other))
+    }
+}
+
+/// Keys are in the order of their bytes.
+impl Ord for Key {
+    ghost use Rattle.std.specs.Ordering.{nat_cmp};
+    ghost use Rattle.std.specs.Cmp.Lexicographic.{slice_cmp};
+    ghost use Rattle.std.proofs.Common.{rules};
+    ghost use Rattle.std.specs.Cmp.Rules.{comparing};
+
+    ghost cmp = { slice_cmp nat_cmp };
+
+    ghost total = { Prim.search (comparing, rules) };
+
+    ghost matches_partial_cmp = { Prim.search (comparing, rules) };
+
+    ghost matches_eq = { Prim.search (comparing, rules) };
+
+    fn cmp(&self, other: &Key) -> Ordering {
+        self.bytes().cmp(other.bytes())
     }
 }
 
