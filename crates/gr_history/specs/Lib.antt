@@ -1,0 +1,6 @@
+pub mod Asks
+pub mod Calls
+pub mod Deeds
+pub mod Lawful
+pub mod Regions
+pub mod Standing

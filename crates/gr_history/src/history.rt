@@ -1,0 +1,97 @@
+ghost use Rattle.std.specs.Prelude.{◌≡◌, ◌==◌, ◌≤◌, ◌+◌, [], ◌∷◌, ◌++◌, length, IsOk, IfOk, OnOk, OnErr, option_copied, slice_get, count_by};
+ghost use Rattle.gr_history.specs.Deeds.{is_of_client};
+
+use crate::Deed;
+use gr_value::{Copied, Memory};
+use std::alloc::Global;
+use std::marker::Model;
+
+/// The deeds of one shard of one member, the oldest first. Contracts see the list beside the number
+/// of deeds that there is room for.
+#[derive(Drop)]
+pub struct History {
+    deeds: Vec<Deed>,
+}
+
+impl Model for History {
+    ghost use Rattle.std.specs.Prelude.{◌-◌, vec_len, vec_capacity};
+    ghost use Rattle.gr_history.specs.Deeds.{Deeds};
+
+    ghost Value = { Deeds };
+
+    ghost view = { λ history. record { deeds = history.deeds.items; spare = vec_capacity history.deeds - vec_len history.deeds } };
+}
+
+impl History {
+    pub fn new(alloc: Global) -> Result<History, Memory>
+        ensures { IfOk result (λ history. history.deeds ≡ []) }
+    {
+        Ok(History {
+            deeds: Vec::new(alloc),
+        })
+    }
+
+    pub fn len(&self) -> u64
+        ensures { result ≡ length self.now.deeds }
+    {
+        self.deeds.len() as u64
+    }
+
+    pub fn is_empty(&self) -> bool
+        ensures { result ≡ (length self.now.deeds == 0) }
+    {
+        self.deeds.is_empty()
+    }
+
+    /// The deed at a place, counted from 0.
+    pub fn get(&self, place: u64) -> Option<&Deed>
+        ensures { option_copied result ≡ slice_get self.now.deeds place }
+    {
+        self.deeds.get(place as usize)
+    }
+
+    /// All deeds, the oldest first.
+    pub fn as_slice(&self) -> &[Deed]
+        ensures { result.now ≡ self.now.deeds }
+    {
+        self.deeds.as_slice()
+    }
+
+    /// Makes room for so many more deeds.
+    pub fn reserve(&mut self, more: usize) -> Result<(), Memory>
+        ensures deeds { self.new.deeds ≡ self.old.deeds }
+        ensures room { OnOk result (more ≤ self.new.spare) }
+    {
+        self.deeds.reserve(more)?;
+        Ok(())
+    }
+
+    /// Puts a deed last. Where memory is refused the deed is dropped.
+    pub fn push(&mut self, deed: Deed) -> Result<(), Memory>
+        ensures ok { OnOk result (self.new.deeds ≡ self.old.deeds ++ deed ∷ []) }
+        ensures err { OnErr result (self.new.deeds ≡ self.old.deeds) }
+        ensures room { 1 ≤ self.old.spare → IsOk result }
+        ensures used { self.old.spare ≤ self.new.spare + 1 }
+    {
+        self.deeds.push(deed)?;
+        Ok(())
+    }
+
+    /// How many deeds are the client's. Takes time in proportion to the history.
+    pub fn calls_of(&self, client: u8) -> u64
+        ensures { result ≡ count_by (is_of_client client) self.now.deeds }
+    {
+        self.deeds.iter().filter(|deed| deed.is_of(client)).count() as u64
+    }
+
+    /// The same deeds. The copy has no room to spare.
+    pub fn copy(&self, alloc: Global) -> Result<History, Memory>
+        ensures { IfOk result (λ copy. copy.deeds ≡ self.now.deeds) }
+    {
+        let mut deeds = Vec::with_capacity(alloc, self.deeds.len())?;
+        for deed in &self.deeds {
+            deeds.push(deed.copy(alloc)?)?;
+        }
+        Ok(History { deeds })
+    }
+}

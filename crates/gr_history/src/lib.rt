@@ -1,0 +1,15 @@
+//! What happened at a shard, as a list of deeds that only grows, and what a run leaves.
+#![tactic(auto)]
+
+mod ask;
+mod deed;
+mod history;
+mod identity;
+mod record;
+
+pub use ask::{Ask, Reply};
+pub use deed::Deed;
+pub use history::History;
+pub use identity::Identity;
+pub use record::{Answer, AnswerList, ClientRecord, ClientRecordList, MemberRecord, MemberRecordList};
+pub use record::{Record, Region, ShardRecord, ShardRecordList};
