@@ -8,13 +8,9 @@ use Rattle.gr_history.specs.declared.ask.Ask.{Ask}
 use Rattle.gr_history.specs.declared.ask.Reply.{Reply}
 use Rattle.gr_history.specs.declared.ask.Reply.TheVariants.{Limit}
 use Rattle.gr_history.specs.declared.deed.Deed.{Deed}
-use Rattle.gr_history.specs.Asks.{key_of, outcome, Outcome}
+use Rattle.gr_history.specs.declared.done.Done.{Done}
+use Rattle.gr_history.specs.Asks.{key_of, outcome}
 use Rattle.gr_history.specs.Standing.{standing, present, top, floor}
-
-pub record Given : Type 0 where
-  pub reply : Reply
-  pub made : Option Change
-  pub to : ℕ
 
 -- the version of what stands, or 0
 abbrev pub ver_of : Option Change → ℕ
@@ -54,14 +50,14 @@ made_change id opening past key kind = record {
 }
 
 -- Nothing is made where nothing is to change, nor where a number would pass its limit.
-abbrev pub given : Identity → ℕ → List Deed → List ℕ → Reply → Option Kind → Given
+abbrev pub given : Identity → ℕ → List Deed → List ℕ → Reply → Option Kind → Done
 given id opening past key reply None = record { reply = reply; made = None; to = 0 }
 given id opening past key reply (Some kind) =
     if nat_le LIMIT (greatest id opening past key)
     then record { reply = Limit; made = None; to = 0 }
     else record { reply = reply; made = Some (made_change id opening past key kind); to = recipients id past }
 
-abbrev pub call_gives : Identity → ℕ → List Deed → Ask → Given
+abbrev pub call_gives : Identity → ℕ → List Deed → Ask → Done
 call_gives id opening past ask =
     let told = outcome ask (present (key_of ask) past) in
     given id opening past (key_of ask) told.reply told.change

@@ -3,12 +3,14 @@
 
 mod ask;
 mod deed;
+mod done;
 mod history;
 mod identity;
 mod record;
 
 pub use ask::{Ask, Reply};
 pub use deed::Deed;
+pub use done::Done;
 pub use history::History;
 pub use identity::Identity;
 pub use record::{Answer, AnswerList, ClientRecord, ClientRecordList, MemberRecord, MemberRecordList};

@@ -1,0 +1,11 @@
+use crate::Reply;
+use gr_stamp::Change;
+
+/// What a call gives: the reply, the change that was made, and the members that it goes to, with bit
+/// m - 1 for member m.
+#[derive(Drop)]
+pub struct Done {
+    pub reply: Reply,
+    pub made: Option<Change>,
+    pub to: u8,
+}
