@@ -1,4 +1,4 @@
-ghost use Rattle.std.specs.Prelude.{◌≡◌, IfOk};
+ghost use Rattle.std.specs.Prelude.{◌≡◌, IfOk, string_bytes};
 
 use crate::{Copied, Memory};
 use std::alloc::Global;
@@ -24,6 +24,12 @@ impl Text {
     {
         let text = String::from_str(alloc, text)?;
         Ok(Text { text })
+    }
+
+    pub(crate) fn of_string(text: String) -> Text
+        ensures { result ≡ string_bytes text }
+    {
+        Text { text }
     }
 
     pub fn as_str(&self) -> &str
