@@ -1,11 +1,31 @@
-ghost use Rattle.std.specs.Prelude.{◌≡◌, ◌++◌, OnOk, OnErr};
+ghost use Rattle.std.specs.Prelude.{◌≡◌, ◌<◌, ◌/◌, ◌%◌, [], ◌∷◌, ◌++◌, codes, flat_map, OnOk, OnErr};
+ghost use Rattle.std.specs.Char.{digit_char};
 ghost use Rattle.gr_value.specs.ValueText.{escaped, quoted, scalar_text, field_text, value_text};
 
 use crate::{Field, Memory, Scalar, Value};
 use itoa::Buffer;
 use std::alloc::Global;
 
-const HEX_DIGITS: [u8; 16] = *b"0123456789abcdef";
+fn hex_digit(digit: u8) -> u8
+    requires { digit < 16 }
+    ensures { result ≡ digit_char digit }
+{
+    if digit < 10 {
+        b'0' + digit
+    } else {
+        b'a' - 10 + digit
+    }
+}
+
+fn put_control(byte: u8, out: &mut Vec<u8>) -> Result<(), Memory>
+    ensures { OnOk result (out.new.items
+        ≡ out.old.items ++ codes "\\u00" ++ digit_char (byte / 16) ∷ digit_char (byte % 16) ∷ []) }
+{
+    out.extend_from_slice(b"\\u00")?;
+    out.push(hex_digit(byte / 16))?;
+    out.push(hex_digit(byte % 16))?;
+    Ok(())
+}
 
 #[tactic(auto, unfolding(crate::specs::ValueText::escaped))]
 fn put_escaped(byte: u8, out: &mut Vec<u8>) -> Result<(), Memory>
@@ -19,11 +39,7 @@ fn put_escaped(byte: u8, out: &mut Vec<u8>) -> Result<(), Memory>
         0x0A => out.extend_from_slice(b"\\n")?,
         0x0C => out.extend_from_slice(b"\\f")?,
         0x0D => out.extend_from_slice(b"\\r")?,
-        0x00..0x20 => {
-            out.extend_from_slice(b"\\u00")?;
-            out.push(HEX_DIGITS[usize::from(byte / 16)])?;
-            out.push(HEX_DIGITS[usize::from(byte % 16)])?;
-        }
+        _ if byte < 0x20 => put_control(byte, out)?,
         _ => out.push(byte)?,
     }
     Ok(())
@@ -65,16 +81,25 @@ fn put_field(field: &Field, out: &mut Vec<u8>) -> Result<(), Memory>
     Ok(())
 }
 
+fn put_rest(fields: &[Field], out: &mut Vec<u8>) -> Result<(), Memory>
+    ensures { OnOk result (out.new.items
+        ≡ out.old.items ++ flat_map (λ field. codes "," ++ field_text field) fields.now) }
+{
+    for field in fields {
+        out.push(b',')?;
+        put_field(field, out)?;
+    }
+    Ok(())
+}
+
 #[tactic(auto, unfolding(crate::specs::ValueText::value_text))]
 fn put_fields(fields: &[Field], out: &mut Vec<u8>) -> Result<(), Memory>
     ensures { OnOk result (out.new.items ≡ out.old.items ++ value_text fields.now) }
 {
     out.push(b'{')?;
-    for (place, field) in fields.iter().enumerate() {
-        if place > 0 {
-            out.push(b',')?;
-        }
-        put_field(field, out)?;
+    if let [first, rest @ ..] = fields {
+        put_field(first, out)?;
+        put_rest(rest, out)?;
     }
     out.push(b'}')?;
     Ok(())
