@@ -1,0 +1,4 @@
+pub mod Reasons
+pub mod Rules
+pub mod Scripts
+pub mod Steps
