@@ -5,6 +5,7 @@ mod fault;
 mod form;
 mod line;
 mod script;
+mod text;
 
 pub use fault::{Reason, ScriptEnd, ScriptFault};
 pub use form::Form;
