@@ -1,8 +1,9 @@
-ghost use Rattle.std.specs.Prelude.{◌≡◌, ◌≤◌, ◌<◌, ◌==◌, [], ◌∷◌, ◌++◌, reverse, max, Some, IfOk, OnErr, option_copied, nat_le};
+ghost use Rattle.std.specs.Prelude.{◌≡◌, ◌≤◌, ◌<◌, ◌==◌, [], ◌∷◌, ◌++◌, reverse, max, Some, IfOk, OnOk, OnErr, option_copied, nat_le};
 ghost use Rattle.gr_value.specs.Shard.{shard_of};
 ghost use Rattle.gr_history.specs.declared.deed.Deed.TheVariants as deed;
 ghost use Rattle.gr_history.specs.Asks.{key_of};
 ghost use Rattle.gr_history.specs.Calls.{call_gives, given, is_ready, ver_of};
+ghost use Rattle.gr_history.specs.Lawful.{IsLawful, IsOfShard};
 ghost use Rattle.gr_history.specs.Standing.{standing, present, floor};
 ghost use Rattle.gr_shard.specs.Records.{IsRecordOf};
 ghost use Rattle.gr_shard.specs.View.{IsPlace};
@@ -92,7 +93,9 @@ impl Shard {
     }
 
     pub fn history(&self) -> &History
-        ensures { result.now.deeds ≡ self.now.deeds }
+        ensures deeds { result.now.deeds ≡ self.now.deeds }
+        ensures lawful { IsLawful self.now.id self.now.opening (reverse self.now.deeds) }
+        ensures of_shard { IsOfShard self.now.id (reverse self.now.deeds) }
     {
         &self.history
     }
@@ -109,7 +112,8 @@ impl Shard {
 
     /// What this shard leaves.
     pub fn into_record(self, alloc: Global) -> Result<ShardRecord, Memory>
-        ensures { IfOk result (IsRecordOf self) }
+        ensures left { IfOk result (IsRecordOf self) }
+        ensures lawful { OnOk result (IsLawful self.id self.opening (reverse self.deeds)) }
     {
         let region = region(alloc, &self.entries, self.floor)?;
         let Shard { history, .. } = self;
