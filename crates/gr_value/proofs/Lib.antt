@@ -1,4 +1,8 @@
 mod FieldsRead
+mod Lexing
+mod NumberLengths
+mod Punctuating
+mod Quoting
 mod RoundTrip
 mod Shorter
 mod Texts

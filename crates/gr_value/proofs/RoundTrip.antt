@@ -1,5 +1,5 @@
 -- The text of a value reads as that value.
-use Rattle.std.proofs.Common.{◌≡◌, ◌∙◌, ap, subst, ℕ, zero, suc, ◌+◌, ◌^◌, ◌<◌, ◌≤◌, arith, pos, negsuc, List, [], ◌∷◌, ◌++◌, length, map, true, false, cond, Option, Some, Ok, option_map, option_and_then, Greater, Less, nat_cmp, refl, sym, append_assoc, append-nil, lt-ltb, le-ltb, IsUtf8}
+use Rattle.std.proofs.Common.{◌≡◌, ◌∙◌, ap, subst, ℕ, ◌+◌, ◌^◌, ◌<◌, ◌≤◌, arith, pos, negsuc, List, [], ◌∷◌, ◌++◌, length, map, true, false, Some, Ok, option_map, option_and_then, Greater, Less, nat_cmp, refl, sym, append_assoc, append-nil, lt-ltb, le-ltb, IsUtf8}
 use Rattle.std.proofs.lemmas.Cmp.{nat_list_cmp_total}
 use Rattle.std.proofs.lemmas.Fmt.{IsAscii-signed}
 use Rattle.std.proofs.lemmas.Str.{IsUtf8-append, IsUtf8-from_ascii, IsUtf8-from_is_utf8, is_utf8-from_IsUtf8}
@@ -11,21 +11,20 @@ use Rattle.std.specs.Prelude.{codes}
 use Rattle.std.specs.Str.{is_utf8}
 use Rattle.json.specs.Json as json
 use Rattle.json.specs.Lex.{tokens}
-use Rattle.json.specs.Print.{print, quoted as json_quoted}
 use Rattle.json.specs.Tree as tree
 use Rattle.json.proofs.Printed.Decimals.{IsNumber-signed_decimal}
 use Rattle.json.proofs.Printed.Tokens.{tokens-print}
 use Rattle.json.proofs.Printed.Trees.{value-json_tokens, ArePrintable-json_tokens}
 use Rattle.json.proofs.Printed.Utf8.{IsUtf8-quoted, IsUtf8-are_ascii}
-use Rattle.serde_json.specs.Data.{Data, object, Members, member, put}
+use Rattle.serde_json.specs.Data.{object, member, put}
 use Rattle.serde_json.specs.Read.{read, of_json, of_members, max_depth}
-use Rattle.serde_json.specs.Written.{compact_text, outline, members_outline}
+use Rattle.serde_json.specs.Written.{outline, members_outline}
 use Rattle.serde_json.proofs.Numbers.{number_of-decimal, number_of-negative}
 use Rattle.serde_json.proofs.Texts.{print-outline}
 use Rattle.gr_value.specs.declared.scalar.Scalar.{Scalar}
 use Rattle.gr_value.specs.declared.scalar.Scalar.TheVariants.{Null, Bool as Truth, Int, Text}
 use Rattle.gr_value.specs.declared.value.Field.{Field}
-use Rattle.gr_value.specs.ValueReading.{scalar_at, with_field, fields_from, value_of, read_value}
+use Rattle.gr_value.specs.ValueReading.{scalar_at, with_field, fields_from, read_value}
 use Rattle.gr_value.specs.ValueText.{quoted, scalar_text, field_text, value_text}
 use Rattle.gr_value.specs.Values.{IsScalar, IsField, HasAscendingNames, IsValue}
 use Rattle.gr_value.proofs.Texts.{data_of, members_of, quoted_same, value_text_same}

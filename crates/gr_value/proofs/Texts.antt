@@ -1,5 +1,5 @@
 -- The text of a value is what `serde_json` prints for the same members.
-use Rattle.std.proofs.Common.{◌≡◌, ◌∙◌, ap, ℕ, ◌⊎◌, inl, inr, pos, negsuc, List, [], ◌∷◌, ◌++◌, true, false, refl, sym, append_assoc}
+use Rattle.std.proofs.Common.{◌≡◌, ◌∙◌, ap, ℕ, ◌⊎◌, inl, inr, pos, negsuc, List, [], ◌∷◌, ◌++◌, true, false, refl, append_assoc}
 use Rattle.std.proofs.lemmas.Bool.{cases_eq, ne_eqb}
 use Rattle.std.specs.Prelude.{flat_map, codes}
 use Rattle.json.specs.Print.{escape_byte, quoted as json_quoted}

@@ -1,8 +1,7 @@
-use Rattle.std.proofs.Common.{◌∙◌, ap, subst, sym, arith, inr, Some}
+use Rattle.std.proofs.Common.{◌∙◌, ap, arith, inr, Some}
 use Rattle.std.proofs.lemmas.Bool.{false≢true}
 use Rattle.std.proofs.lemmas.Result.{err_from_is_err_and}
 use Rattle.serde_json.specs.View.{view}
-use Rattle.gr_value.specs.ValueReading.{RefusedAs}
 use Rattle.gr_value.proofs.Shorter.{few_members, text_shorter}
 use Rattle.gr_value.proofs.ValueRead.{by_json, not_json}
 use Rattle.gr_value.proofs.reading.fields_by_json.Goals as goal

@@ -1,4 +1,4 @@
-use Rattle.std.proofs.Common.{[], ◌∷◌, arith, sym, ◌∙◌, inr}
+use Rattle.std.proofs.Common.{[], ◌∷◌, arith, sym, inr}
 use Rattle.std.proofs.lemmas.Result.{err_from_is_err_and}
 use Rattle.gr_value.proofs.FieldsRead.{HasRead, read_none, read_more, read_fault, read_all}
 use Rattle.gr_value.proofs.reading.fields_of.Goals as goal
