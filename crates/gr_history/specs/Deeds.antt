@@ -11,9 +11,9 @@ abbrev pub is_of_client : ℕ → Deed → Bool
 is_of_client client (Call own seq ask reply made to) = own == client
 
 -- whether a change that was taken in was discarded
-abbrev pub is_discarded : Deed → Bool
+unfoldable pub is_discarded : Deed → Bool
 is_discarded (Call client seq ask reply made to) = false
 
 -- whether a change that was taken in was there before
-abbrev pub is_repeat : Deed → Bool
+unfoldable pub is_repeat : Deed → Bool
 is_repeat (Call client seq ask reply made to) = false

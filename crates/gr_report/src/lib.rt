@@ -5,6 +5,6 @@ mod answers;
 mod counts;
 mod put;
 mod regions;
-mod report;
+mod reporting;
 
-pub use report::report;
+pub use reporting::report;

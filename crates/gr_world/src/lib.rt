@@ -2,6 +2,6 @@
 #![tactic(auto)]
 
 mod play;
-mod replay;
+mod replaying;
 
-pub use replay::replay;
+pub use replaying::replay;
