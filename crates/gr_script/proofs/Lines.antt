@@ -11,11 +11,12 @@ use Rattle.gr_script.specs.declared.line.Act.{Act}
 use Rattle.gr_script.specs.declared.line.Line.{Line}
 use Rattle.gr_script.specs.declared.line.Line.TheVariants as line
 use Rattle.gr_script.specs.declared.line.Step.{Step}
+use Rattle.gr_script.specs.declared.fault.ScriptEnd.TheVariants.{Memory as NoMemory}
 use Rattle.gr_script.specs.declared.stop.Stop.{Stop}
 use Rattle.gr_script.specs.declared.stop.Stop.TheVariants.{Refused, Memory}
 use Rattle.gr_script.specs.Reading.{◌>>=◌, step_at, lines_at}
 use Rattle.gr_script.specs.Steps.{step_of, step_count}
-use Rattle.gr_script.specs.Stops.{Stops, Gives}
+use Rattle.gr_script.specs.Stops.{Stops, Gives, end_at}
 
 -- ---- what stops
 
@@ -62,3 +63,8 @@ count_step client seq act past =
     in
     let all = sum_by-cons counts (line.Step client seq act) past in
     all ∙ ap (λ (n : ℕ). n + sum_by counts past) first ∙ omega arith
+
+-- what stopped at what can be read stopped for memory
+pub stops_for_memory : {Y : Type 0} (line : ℕ) (stop : Stop) (read : Result Y Reason) (x : Y) → read ≡ Ok x → Stops stop read → end_at line stop ≡ NoMemory
+stops_for_memory line Memory read x is stops = refl
+stops_for_memory line (Refused reason) read x is stops = absurd (let e = sym stops ∙ is in cc)

@@ -2,6 +2,7 @@ ghost use Rattle.std.specs.Prelude.{◌≡◌, ◌<◌, ◌^◌, ◌∷◌, [], 
 ghost use Rattle.gr_script.specs.declared.line.Line.{Line as ALine};
 ghost use Rattle.gr_script.specs.Rules.{Heading, IsScript, AllStand};
 ghost use Rattle.gr_script.specs.Scripts.{heading_of};
+ghost use Rattle.gr_script.specs.Spelling.{IsSpelled};
 ghost use Rattle.gr_script.specs.Stops.{Gives, Ends};
 ghost use Rattle.gr_script.specs.Reading.{lines_at, script_in, script_of};
 ghost use Rattle.gr_script.specs.Texts.{lines_of};
@@ -63,10 +64,19 @@ fn read_script(alloc: Global, bytes: &[u8]) -> Result<Script, Stop>
     })
 }
 
-/// Reads a script. Where it is in the form and memory isn't refused, it is read.
+/// Reads a script.
 pub fn read(alloc: Global, bytes: &[u8], _form: Form) -> Result<Script, ScriptEnd>
     requires { length bytes.now < 2 ^ 32 }
-    ensures { MatchResult result (λ script. script_of bytes.now ≡ Ok (heading_of script, script.lines))
+
+    // What is read is spelled so.
+    ensures found { IfOk result (λ script. IsSpelled bytes.now (heading_of script) script.lines) }
+
+    // What is spelled so is read, unless memory is refused.
+    ensures only { (h : Heading) (lines : List ALine) → IsScript h lines → IsSpelled bytes.now h lines
+        → MatchResult result (λ script. (heading_of script ≡ h) × (script.lines ≡ lines)) (λ end. end ≡ ScriptEnd.Memory) }
+
+    // Which script it is, or which fault.
+    ensures exact { MatchResult result (λ script. script_of bytes.now ≡ Ok (heading_of script, script.lines))
         (λ end. Ends end (script_of bytes.now)) }
 {
     match read_script(alloc, bytes) {
