@@ -18,3 +18,6 @@ pub use form::Form;
 pub use line::{Act, Line, LineList, Step, StepList};
 pub use reading::read;
 pub use script::{MemberNumberList, Script};
+
+#[cfg(test)]
+mod tests;
