@@ -1,15 +1,14 @@
-//! The program: words, standard input and output, and the status.
+//! The program: its words, standard input and output, and the status that it ends with.
 #![tactic(auto)]
 
 use gr_io::{StdSink, StdSource};
 use gr_top::{cause_text, replay_words};
-use gr_value::Memory;
-use std::alloc::Global;
 use std::env;
 use std::io;
 use std::io::Write;
 use std::process::ExitCode;
 
+// The words without the program's name.
 fn words(rt: &HostRuntime) -> io::Result<Vec<String>> {
     let mut words = Vec::new(rt.alloc());
     for word in env::args(rt)?.skip(1) {
@@ -18,13 +17,14 @@ fn words(rt: &HostRuntime) -> io::Result<Vec<String>> {
     Ok(words)
 }
 
-fn main(rt: HostRuntime) -> io::Result<ExitCode> {
-    let words = words(&rt)?;
+fn main(rt: HostRuntime) -> ExitCode {
+    // Words that can't be had as text are answered as words that aren't understood.
+    let words = words(&rt).unwrap_or(Vec::new(rt.alloc()));
     let mut source = StdSource::new(rt.stdin());
     let mut sink = StdSink::new(rt.stdout());
     let outcome = replay_words(rt.alloc(), words.as_slice(), &mut source, &mut sink);
     if let Ok(text) = cause_text(rt.alloc(), &outcome.cause) {
         let _ = rt.stderr().write_all(text.as_slice());
     }
-    Ok(ExitCode::from(outcome.status))
+    ExitCode::from(outcome.status)
 }
