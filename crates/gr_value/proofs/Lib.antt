@@ -1,6 +1,8 @@
 mod FieldsRead
+mod FieldsTaken
 mod Lexing
 mod NumberLengths
+mod PlainBytes
 mod Punctuating
 mod Quoting
 mod RoundTrip
