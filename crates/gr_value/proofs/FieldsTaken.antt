@@ -1,10 +1,12 @@
 -- Fields that a text begins with.
-use Rattle.std.proofs.Common.{◌≡◌, ◌∙◌, ap, ℕ, ◌+◌, ◌<◌, ◌≤◌, arith, List, [], ◌∷◌, ◌++◌, length, get_or, Ordering, Less, Equal, Greater, false, is_ge, nat_cmp, ◌-◌, ◌⊎◌, inl, inr, refl, sym, append_assoc, append-nil, length-append}
+use Rattle.std.proofs.Common.{◌≡◌, ◌∙◌, ap, ℕ, ◌+◌, ◌<◌, ◌≤◌, arith, List, [], ◌∷◌, ◌++◌, length, get_or, Ordering, Less, Equal, Greater, true, false, bytes_eq, is_ge, nat_cmp, ◌-◌, ◌⊎◌, inl, inr, refl, sym, append_assoc, append-nil, length-append}
 use Rattle.std.proofs.lemmas.List.{get_or-map}
 use Rattle.std.proofs.lemmas.Bool.{cases_lt, true≢false}
 use Rattle.std.proofs.lemmas.Cmp.{nat_list_cmp_total}
 use Rattle.std.proofs.lemmas.Grind.{flat_map-append}
 use Rattle.std.proofs.lemmas.Map.Keys.{sorted_from_all_adjacent}
+use Rattle.std.proofs.lemmas.Slice.Eq.{bytes_eq-Decides}
+use Rattle.std.specs.List.Sorted.{IsStrictlySortedBy}
 use Rattle.std.specs.Cmp.Lexicographic.{slice_cmp}
 use Rattle.std.specs.List.{AllByRecursion, join_by}
 use Rattle.std.specs.Prelude.{flat_map, codes}
@@ -82,3 +84,12 @@ pub value_taken : (text first second last : List ℕ) (fields : List Field) → 
 unfolding value_text
 value_taken text first second last fields open_brace taken close_brace none =
     open_brace ∙ ap (λ rest. 123 ∷ rest) (taken ∙ ap (λ rest. join_by field_text (codes ",") fields ++ rest) (close_brace ∙ ap (λ rest. 125 ∷ rest) (no_bytes last none)))
+
+-- the value with no fields
+pub braces_taken : (text braces : List ℕ) → braces ≡ 123 ∷ 125 ∷ [] → true ≡ bytes_eq text braces → text ≡ value_text []
+unfolding value_text
+braces_taken text braces is same = (bytes_eq-Decides text braces).0 (sym same) ∙ is
+
+pub none_ascend : HasAscendingNames []
+unfolding IsStrictlySortedBy
+none_ascend = tt

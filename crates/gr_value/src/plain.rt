@@ -146,10 +146,12 @@ impl<'a> Cursor<'a> {
             (self.old ≡ join_by field_text (codes ",") fields.items ++ self.new)
             × AllByRecursion IsField fields.items)) }
     {
+        let commas = self.rest.iter().filter(|byte| **byte == b',').count();
         let Some(first) = self.take_field(alloc)? else {
             return Ok(None);
         };
-        let mut fields = vec![in alloc; first]?;
+        let mut fields = Vec::with_capacity(alloc, 1 + commas)?;
+        fields.push(first)?;
         'fields: while self.take(b",") {
             let Some(field) = self.take_field(alloc)? else {
                 return Ok(None);
@@ -198,6 +200,9 @@ pub(crate) fn fields_by_text(alloc: Global, bytes: &[u8]) -> Result<Option<Vec<F
     ensures readable { IfOk result (λ found. IfSome found (λ fields.
         AllByRecursion IsField fields.items)) }
 {
+    if bytes == b"{}".as_slice() {
+        return Ok(Some(Vec::new(alloc)));
+    }
     let mut cursor = Cursor { rest: bytes };
     let Some(fields) = cursor.take_value(alloc)? else {
         return Ok(None);
