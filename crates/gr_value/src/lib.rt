@@ -10,6 +10,8 @@ mod plain;
 mod printing;
 mod reading;
 mod scalar;
+#[cfg(test)]
+mod tests;
 mod text;
 mod value;
 
