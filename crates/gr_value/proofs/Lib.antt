@@ -2,6 +2,7 @@ mod FieldsRead
 mod FieldsTaken
 mod Lexing
 mod NumberLengths
+mod OneLine
 mod PlainBytes
 mod Punctuating
 mod Quoting
