@@ -45,7 +45,7 @@ field_last : (done : List Field) (name : List ℕ) (scalar : Scalar) (rest : Res
 field_last done name scalar (Ok rest) = ap Ok (sym (append_assoc done (record { name = name; scalar = scalar } ∷ []) rest))
 field_last done name scalar (Err fault) = refl
 
-readable_push : (done : List Field) (field : Field) → AllByRecursion IsField done → IsField field → AllByRecursion IsField (done ++ field ∷ [])
+pub readable_push : (done : List Field) (field : Field) → AllByRecursion IsField done → IsField field → AllByRecursion IsField (done ++ field ∷ [])
 readable_push [] field h is = (is, tt)
 readable_push (first ∷ done) field h is = (h.0, readable_push done field h.1 is)
 

@@ -1,6 +1,9 @@
 mod FieldsRead
+mod FieldsTaken
 mod Lexing
 mod NumberLengths
+mod OneLine
+mod PlainBytes
 mod Punctuating
 mod Quoting
 mod RoundTrip

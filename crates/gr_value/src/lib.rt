@@ -6,9 +6,12 @@ mod fault;
 mod key;
 mod list;
 mod memory;
+mod plain;
 mod printing;
 mod reading;
 mod scalar;
+#[cfg(test)]
+mod tests;
 mod text;
 mod value;
 
@@ -17,6 +20,7 @@ pub use fault::{KeyFault, ValueFault};
 pub use key::{Key, KeyList};
 pub use list::ItemList;
 pub use memory::Memory;
+pub use printing::values_print_on_one_line;
 pub use reading::values_read_back;
 pub use scalar::Scalar;
 pub use text::Text;

@@ -1,6 +1,8 @@
-ghost use Rattle.std.specs.Prelude.{◌≡◌, ◌<◌, ◌/◌, ◌%◌, [], ◌∷◌, ◌++◌, codes, flat_map, OnOk, OnErr};
+ghost use Rattle.std.specs.Prelude.{◌≤◌, List, slice_index, All, ◌≡◌, ◌<◌, ◌/◌, ◌%◌, [], ◌∷◌, ◌++◌, codes, flat_map, OnOk, OnErr};
 ghost use Rattle.std.specs.Char.{digit_char};
 ghost use Rattle.gr_value.specs.ValueText.{escaped, quoted, scalar_text, field_text, value_text};
+ghost use Rattle.gr_value.specs.Values.{IsValue};
+ghost use Rattle.gr_value.specs.declared.value.Field.{Field as AField};
 
 use crate::{Field, Memory, Scalar, Value};
 use itoa::Buffer;
@@ -117,3 +119,10 @@ impl Value {
         Ok(())
     }
 }
+
+/// What a value prints begins with a brace, and stands on one line.
+pub fn values_print_on_one_line()
+    ensures brace { (fields : List AField) → slice_index (value_text fields) 0 ≡ 0x7B }
+    ensures line { (fields : List AField) → IsValue fields
+        → All (λ byte. 0x20 ≤ byte) (value_text fields) }
+{}

@@ -9,6 +9,7 @@ ghost use Rattle.serde_json.specs.Data.{Members, object};
 ghost use Rattle.serde_json.specs.Events.{members_len};
 ghost use Rattle.serde_json.specs.View.{view, members_view};
 
+use crate::plain::fields_by_text;
 use crate::{Field, Scalar, Text, Value, ValueFault};
 use serde_json::Map;
 use std::alloc::Global;
@@ -92,6 +93,20 @@ fn fields_by_json(alloc: Global, bytes: &[u8]) -> Result<Vec<Field>, ValueFault>
     }
 }
 
+/// Most texts are what their value prints, and need no JSON reader.
+fn fields_of_bytes(alloc: Global, bytes: &[u8]) -> Result<Vec<Field>, ValueFault>
+    requires { length bytes.now ≤ 1024 }
+    ensures value { MatchResult result (λ fields. read_value bytes.now ≡ Ok fields.items)
+        (λ fault. RefusedAs fault (read_value bytes.now)) }
+    ensures kept { IfOk result (λ fields. IsValue fields.items) }
+    ensures shorter { IfOk result (λ fields. length (value_text fields.items) ≤ length bytes.now) }
+{
+    match fields_by_text(alloc, bytes)? {
+        Some(fields) => Ok(fields),
+        None => Ok(fields_by_json(alloc, bytes)?),
+    }
+}
+
 impl Value {
     /// Reads a value. Its faults are looked for in the order of `ValueFault`.
     #[tactic(auto, using(crate::proofs::ValueRead::too_long))]
@@ -105,7 +120,7 @@ impl Value {
         if bytes.len() > MOST_BYTES {
             return Err(ValueFault::TooLong);
         }
-        let fields = fields_by_json(alloc, bytes)?;
+        let fields = fields_of_bytes(alloc, bytes)?;
         Ok(Value::of_fields(alloc, fields)?)
     }
 }

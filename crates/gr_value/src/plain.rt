@@ -1,0 +1,215 @@
+// A text that is just what its value prints is read without the JSON reader, which costs some ten
+// times as much. That is right since a value's text reads as that value: each call here shows that
+// what it took is the text of what it answers, and any other text is left to the JSON reader.
+ghost use Rattle.std.specs.Prelude.{◌≡◌, ◌<◌, ◌≤◌, ◌++◌, length, take, flat_map, codes, IsTrue, IfSome, IfOk};
+ghost use Rattle.std.specs.Bool.{MatchBool};
+ghost use Rattle.std.specs.Fmt.{signed_decimal};
+ghost use Rattle.std.specs.List.{AllByRecursion, join_by};
+ghost use Rattle.std.specs.Str.{is_utf8};
+ghost use Rattle.gr_value.specs.ValueText.{escaped, quoted, scalar_text, field_text, value_text};
+ghost use Rattle.gr_value.specs.Values.{IsScalar, IsField, HasAscendingNames};
+
+use crate::{Field, Memory, Scalar, Text};
+use itoa::Buffer;
+use std::alloc::Global;
+use std::marker::Model;
+
+/// What is left of a text.
+#[derive(Drop)]
+struct Cursor<'a> {
+    rest: &'a [u8],
+}
+
+impl<'a> Model for Cursor<'a> {
+    ghost use Rattle.std.specs.Prelude.{List, ℕ};
+
+    ghost Value = { List ℕ };
+
+    ghost view = { λ cursor. cursor.rest.now };
+}
+
+/// How many bytes stand for themselves in a quoted text, up to the first that doesn't.
+#[tactic(auto, using(crate::proofs::PlainBytes::plain_more))]
+fn plain_len(bytes: &[u8]) -> usize
+    ensures within { result ≤ length bytes.now }
+    ensures plain { flat_map escaped (take result bytes.now) ≡ take result bytes.now }
+{
+    for (place, byte) in bytes.iter().enumerate() {
+        if *byte < 0x20 || *byte == b'"' || *byte == b'\\' {
+            return place;
+        }
+    }
+    bytes.len()
+}
+
+/// The number that the bytes begin with, if it is small. It is tried, and not relied on.
+fn number_guess(bytes: &[u8]) -> i64 {
+    let (negative, digits) = match bytes {
+        [b'-', digits @ ..] => (true, digits),
+        _ => (false, bytes),
+    };
+    let mut number = 0i64;
+    for digit in digits {
+        if !digit.is_ascii_digit() {
+            break;
+        }
+        number = number
+            .wrapping_mul(10)
+            .wrapping_add(i64::from(*digit & 0x0F));
+    }
+    if negative {
+        number.wrapping_neg()
+    } else {
+        number
+    }
+}
+
+impl<'a> Cursor<'a> {
+    /// Takes these bytes, if the text goes on with them.
+    fn take(&mut self, front: &[u8]) -> bool
+        ensures { MatchBool result (self.old ≡ front.now ++ self.new) (self.new ≡ self.old) }
+    {
+        match self.rest.strip_prefix(front) {
+            Some(rest) => {
+                self.rest = rest;
+                true
+            }
+            None => false,
+        }
+    }
+
+    fn take_quoted(&mut self) -> Option<&'a str>
+        ensures { IfSome result (λ text. self.old ≡ quoted text.now ++ self.new) }
+    {
+        if !self.take(b"\"") {
+            return None;
+        }
+        let (text, rest) = self.rest.split_at(plain_len(self.rest));
+        self.rest = rest;
+        if !self.take(b"\"") {
+            return None;
+        }
+        str::from_utf8(text).ok()
+    }
+
+    fn take_number(&mut self) -> Option<i64>
+        ensures { IfSome result (λ number. self.old ≡ signed_decimal number ++ self.new) }
+    {
+        let number = number_guess(self.rest);
+        let mut digits = Buffer::new();
+        self.take(digits.format(number).as_bytes())
+            .then_some(number)
+    }
+
+    fn take_text(&mut self, alloc: Global) -> Result<Option<Text>, Memory>
+        ensures { IfOk result (λ found. IfSome found (λ text.
+            (self.old ≡ quoted text ++ self.new) × IsTrue (is_utf8 text))) }
+    {
+        match self.take_quoted() {
+            Some(text) => Ok(Some(Text::new(alloc, text)?)),
+            None => Ok(None),
+        }
+    }
+
+    fn take_scalar(&mut self, alloc: Global) -> Result<Option<Scalar>, Memory>
+        ensures { IfOk result (λ found. IfSome found (λ scalar.
+            (self.old ≡ scalar_text scalar ++ self.new) × IsScalar scalar)) }
+    {
+        match self.rest.first() {
+            Some(b'"') => Ok(self.take_text(alloc)?.map(Scalar::Text)),
+            Some(b'n') => Ok(self.take(b"null").then_some(Scalar::Null)),
+            Some(b't') => Ok(self.take(b"true").then_some(Scalar::Bool(true))),
+            Some(b'f') => Ok(self.take(b"false").then_some(Scalar::Bool(false))),
+            _ => Ok(self.take_number().map(Scalar::Int)),
+        }
+    }
+
+    fn take_field(&mut self, alloc: Global) -> Result<Option<Field>, Memory>
+        ensures { IfOk result (λ found. IfSome found (λ field.
+            (self.old ≡ field_text field ++ self.new) × IsField field)) }
+    {
+        let Some(name) = self.take_text(alloc)? else {
+            return Ok(None);
+        };
+        if !self.take(b":") {
+            return Ok(None);
+        }
+        let Some(scalar) = self.take_scalar(alloc)? else {
+            return Ok(None);
+        };
+        Ok(Some(Field { name, scalar }))
+    }
+
+    /// Takes fields with commas between them, one at least.
+    fn take_fields(&mut self, alloc: Global) -> Result<Option<Vec<Field>>, Memory>
+        ensures { IfOk result (λ found. IfSome found (λ fields.
+            (self.old ≡ join_by field_text (codes ",") fields.items ++ self.new)
+            × AllByRecursion IsField fields.items)) }
+    {
+        let commas = self.rest.iter().filter(|byte| **byte == b',').count();
+        let Some(first) = self.take_field(alloc)? else {
+            return Ok(None);
+        };
+        let mut fields = Vec::with_capacity(alloc, 1 + commas)?;
+        fields.push(first)?;
+        'fields: while self.take(b",") {
+            let Some(field) = self.take_field(alloc)? else {
+                return Ok(None);
+            };
+            fields.push(field)?;
+        }
+        Ok(Some(fields))
+    }
+
+    /// The fields of all that is left, unless that is another text than the value prints.
+    fn take_value(&mut self, alloc: Global) -> Result<Option<Vec<Field>>, Memory>
+        ensures { IfOk result (λ found. IfSome found (λ fields.
+            (self.old ≡ value_text fields.items) × AllByRecursion IsField fields.items)) }
+    {
+        if !self.take(b"{") {
+            return Ok(None);
+        }
+        let Some(fields) = self.take_fields(alloc)? else {
+            return Ok(None);
+        };
+        if self.take(b"}") && self.rest.is_empty() {
+            Ok(Some(fields))
+        } else {
+            Ok(None)
+        }
+    }
+}
+
+fn names_ascend(fields: &[Field]) -> bool
+    ensures { IsTrue result → HasAscendingNames fields.now }
+{
+    for place in 1..fields.len() {
+        if fields[place - 1].name.as_str() >= fields[place].name.as_str() {
+            return false;
+        }
+    }
+    true
+}
+
+/// The fields of the value that prints these very bytes, if they are found in one plain pass.
+pub(crate) fn fields_by_text(alloc: Global, bytes: &[u8]) -> Result<Option<Vec<Field>>, Memory>
+    ensures text { IfOk result (λ found. IfSome found (λ fields.
+        bytes.now ≡ value_text fields.items)) }
+    ensures ascending { IfOk result (λ found. IfSome found (λ fields.
+        HasAscendingNames fields.items)) }
+    ensures readable { IfOk result (λ found. IfSome found (λ fields.
+        AllByRecursion IsField fields.items)) }
+{
+    if bytes == b"{}".as_slice() {
+        return Ok(Some(Vec::new(alloc)));
+    }
+    let mut cursor = Cursor { rest: bytes };
+    let Some(fields) = cursor.take_value(alloc)? else {
+        return Ok(None);
+    };
+    if names_ascend(&fields) {
+        Ok(Some(fields))
+    } else {
+        Ok(None)
+    }
+}
