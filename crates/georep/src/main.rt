@@ -3,10 +3,9 @@
 
 use gr_io::{StdSink, StdSource};
 use gr_top::{cause_text, replay_words};
-use std::env;
-use std::io;
 use std::io::Write;
 use std::process::ExitCode;
+use std::{env, io};
 
 // The words without the program's name.
 fn words(rt: &HostRuntime) -> io::Result<Vec<String>> {

@@ -54,7 +54,7 @@ only_shard hash = grind (arith, nat_tests)
 asked_here : (script : Script) → script.clients ≡ 1 ∷ [] → script.shards ≡ 1 → (line : Line) → client_in line ≡ 1 → asked_at script 1 0 line ≡ Some (asking_in line)
 asked_here script clients shards (Step client seq (act.Call ask)) one =
     let member : (member_of script client == 1) ≡ true =
-      ap (λ n. slice_index script.clients (n - 1) == 1) one ∙ ap (λ cs. slice_index cs (1 - 1) == 1) clients in
+    ap (λ n. slice_index script.clients (n - 1) == 1) one ∙ ap (λ cs. slice_index cs (1 - 1) == 1) clients in
     let shard : (shard_of (key_of ask) script.shards == 0) ≡ true = ap (λ n. shard_of (key_of ask) n == 0) shards ∙ only_shard (key_hash (key_of ask)) in
     rw (member, shard) refl
 
@@ -79,13 +79,13 @@ follows-more script ruled old new answers i line answer follows within is (deed,
       id = ap (λ a. a.id) adds.added ∙ follows.id;
       opening = ap (λ a. a.opening) adds.added ∙ follows.opening;
       asked = ap (λ a. map asking_of a.deeds) adds.added ∙ map-append asking_of old.deeds (deed ∷ [])
-        ∙ ap (λ xs. xs ++ asking_of deed ∷ []) follows.asked
-        ∙ ap (λ x. all_asked_at script 1 0 (take i all) ++ x ∷ []) adds.asked
-        ∙ sym (ap (all_asked_at script 1 0) longer ∙ filter_map-append (asked_at script 1 0) (take i all) (line ∷ [])
+          ∙ ap (λ xs. xs ++ asking_of deed ∷ []) follows.asked
+          ∙ ap (λ x. all_asked_at script 1 0 (take i all) ++ x ∷ []) adds.asked
+          ∙ sym (ap (all_asked_at script 1 0) longer ∙ filter_map-append (asked_at script 1 0) (take i all) (line ∷ [])
           ∙ ap (λ rest. all_asked_at script 1 0 (take i all) ++ rest) one_asked);
       told = ap (λ told. told ++ answer ∷ []) follows.told
-        ∙ ap (λ a. map answer_of (filter (is_of_client 1) old.deeds) ++ a ∷ []) (sym adds.told)
-        ∙ sym (ap (λ a. map answer_of (filter (is_of_client 1) a.deeds)) adds.added
+          ∙ ap (λ a. map answer_of (filter (is_of_client 1) old.deeds) ++ a ∷ []) (sym adds.told)
+          ∙ sym (ap (λ a. map answer_of (filter (is_of_client 1) a.deeds)) adds.added
           ∙ ap (map answer_of) (filter-append (is_of_client 1) old.deeds (deed ∷ []) ∙ ap (λ rest. filter (is_of_client 1) old.deeds ++ rest) kept)
           ∙ map-append answer_of (filter (is_of_client 1) old.deeds) (deed ∷ []));
     }

@@ -3,8 +3,10 @@ ghost use Rattle.gr_world.specs.Plays.{IsSingle};
 ghost use Rattle.gr_world.specs.Replayed.{IsReplayed};
 
 use crate::play::play;
-use gr_history::{Answer, AnswerList, ClientRecord, ClientRecordList, Identity, MemberRecord};
-use gr_history::{MemberRecordList, Record, ShardRecord, ShardRecordList};
+use gr_history::{
+    Answer, AnswerList, ClientRecord, ClientRecordList, Identity, MemberRecord, MemberRecordList,
+    Record, ShardRecord, ShardRecordList,
+};
 use gr_script::Script;
 use gr_shard::Shard;
 use gr_value::Memory;
