@@ -9,12 +9,10 @@ pub fn stamps_are_in_order()
     ensures itself { (a : Version) → beats a a ≡ false }
     ensures transitive { (a b c : Version) → IsTrue (beats a b) → IsTrue (beats b c) → IsTrue (beats a c) }
     ensures total { (a b : Version) → (a ≡ b) ⊎ (beats a b ≡ true) ⊎ (beats b a ≡ true) }
-{
-}
+{}
 
 /// The winner of a key is one of its changes, and none of them beats it.
 pub fn winner_is_unbeaten()
     ensures found { (key : List ℕ) (changes : List Change) →
         MatchOption (winner key changes) (HasNoChange key changes) (IsUnbeaten key changes) }
-{
-}
+{}
