@@ -8,7 +8,7 @@ use Rattle.gr_script.specs.declared.line.Line.{Line}
 use Rattle.gr_script.specs.declared.line.Step.{Step}
 use Rattle.gr_script.specs.Steps.{step_of, steps_of}
 
-one_or_none : (step : Option Step) → cons_option step [] ≡ option_to_list step
+pub one_or_none : (step : Option Step) → cons_option step [] ≡ option_to_list step
 one_or_none None = refl
 one_or_none (Some step) = refl
 

@@ -1,5 +1,5 @@
 -- The steps of a client.
-use Rattle.std.specs.Prelude.{ℕ, List, ◌==◌, Option, Some, None, count_by, is_some, if◌then◌else◌}
+use Rattle.std.specs.Prelude.{◌≡◌, ℕ, ◌+◌, List, [], ◌∷◌, ◌==◌, Option, Some, None, count_by, is_some, if◌then◌else◌}
 use Rattle.std.specs.List.{filter_map}
 use Rattle.gr_script.specs.declared.line.Line.{Line}
 use Rattle.gr_script.specs.declared.line.Line.TheVariants as line
@@ -12,6 +12,11 @@ step_of client (line.Step own seq act) = if own == client then Some (record { se
 -- the client's steps, in order
 abbrev pub steps_of : ℕ → List Line → List Step
 steps_of client lines = filter_map (step_of client) lines
+
+-- The steps are numbered on from this number.
+abbrev pub AreNumbered : ℕ → List Step → Type 0
+AreNumbered number [] = Unit {0}
+AreNumbered number (step ∷ steps) = (step.seq ≡ number) × AreNumbered (number + 1) steps
 
 -- how many of the lines are steps of the client
 abbrev pub step_count : ℕ → List Line → ℕ

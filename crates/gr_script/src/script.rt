@@ -22,11 +22,12 @@ pub struct Script {
 
 impl Script {
     ghost use Rattle.std.specs.Prelude.{◌≡◌, IfOk};
-    ghost use Rattle.gr_script.specs.Steps.{steps_of};
+    ghost use Rattle.gr_script.specs.Steps.{steps_of, AreNumbered};
 
     /// The client's steps, in order.
     pub fn steps(&self, alloc: Global, client: u8) -> Result<StepList, Memory>
-        ensures { IfOk result (λ steps. steps ≡ steps_of client self.now.lines) }
+        ensures steps { IfOk result (λ steps. steps ≡ steps_of client self.now.lines) }
+        ensures numbered { IfOk result (AreNumbered 1) }
     {
         let mut steps = StepList::new(alloc)?;
         for line in self.lines.as_slice() {

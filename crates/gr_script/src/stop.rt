@@ -1,10 +1,9 @@
-ghost use Rattle.std.specs.Prelude.{◌≡◌, ℕ, Err};
+ghost use Rattle.std.specs.Prelude.{◌≡◌};
 ghost use Rattle.gr_script.specs.Stops.{key_stop, value_stop, end_at};
-ghost use Rattle.gr_script.specs.declared.stop.Stop.TheVariants.{Refused, Memory as OutOfMemory};
+ghost use Rattle.gr_script.specs.declared.stop.Stop.TheVariants.{Memory as OutOfMemory};
 
 use crate::{Reason, ScriptEnd, ScriptFault};
 use gr_value::{KeyFault, Memory, ValueFault};
-use std::alloc::{AllocError, AllocFailed};
 
 /// Why a line, or a part of one, isn't read.
 #[derive(Clone, Copy)]
@@ -22,14 +21,6 @@ impl Stop {
             Stop::Refused(reason) => ScriptEnd::Fault(ScriptFault { line, reason }),
             Stop::Memory => ScriptEnd::Memory,
         }
-    }
-}
-
-impl From<Reason> for Stop {
-    ghost from_gives = { λ reason stop. stop ≡ Refused reason };
-
-    fn from(reason: Reason) -> Stop {
-        Stop::Refused(reason)
     }
 }
 
@@ -59,22 +50,6 @@ impl From<Memory> for Stop {
     ghost from_gives = { λ _ stop. stop ≡ OutOfMemory };
 
     fn from(_: Memory) -> Stop {
-        Stop::Memory
-    }
-}
-
-impl From<AllocError> for Stop {
-    ghost from_gives = { λ _ stop. stop ≡ OutOfMemory };
-
-    fn from(_: AllocError) -> Stop {
-        Stop::Memory
-    }
-}
-
-impl<T: Drop> From<AllocFailed<T>> for Stop {
-    ghost from_gives = { λ _ stop. stop ≡ OutOfMemory };
-
-    fn from(_: AllocFailed<T>) -> Stop {
         Stop::Memory
     }
 }
