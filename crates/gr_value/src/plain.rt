@@ -1,4 +1,4 @@
-// A text that is just what its value prints is read without the JSON reader, which costs some ten
+// A text that is just what its value prints is read without the JSON reader, which costs several
 // times as much. That is right since a value's text reads as that value: each call here shows that
 // what it took is the text of what it answers, and any other text is left to the JSON reader.
 ghost use Rattle.std.specs.Prelude.{◌≡◌, ◌<◌, ◌≤◌, ◌++◌, length, take, flat_map, codes, IsTrue, IfSome, IfOk};
