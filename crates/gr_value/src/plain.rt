@@ -42,6 +42,21 @@ fn plain_len(bytes: &[u8]) -> usize
     bytes.len()
 }
 
+/// How often a comma stands before a quote, so room for so many fields is seldom too much.
+fn further_fields(bytes: &[u8]) -> usize
+    ensures { result ≤ length bytes.now }
+{
+    let mut count = 0;
+    let mut after_comma = false;
+    for byte in bytes {
+        if after_comma && *byte == b'"' {
+            count += 1;
+        }
+        after_comma = *byte == b',';
+    }
+    count
+}
+
 /// The number that the bytes begin with, if it is small. It is tried, and not relied on.
 fn number_guess(bytes: &[u8]) -> i64 {
     let (negative, digits) = match bytes {
@@ -146,11 +161,11 @@ impl<'a> Cursor<'a> {
             (self.old ≡ join_by field_text (codes ",") fields.items ++ self.new)
             × AllByRecursion IsField fields.items)) }
     {
-        let commas = self.rest.iter().filter(|byte| **byte == b',').count();
+        let further = further_fields(self.rest);
         let Some(first) = self.take_field(alloc)? else {
             return Ok(None);
         };
-        let mut fields = Vec::with_capacity(alloc, 1 + commas)?;
+        let mut fields = Vec::with_capacity(alloc, 1 + further)?;
         fields.push(first)?;
         'fields: while self.take(b",") {
             let Some(field) = self.take_field(alloc)? else {
