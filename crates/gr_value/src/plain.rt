@@ -1,4 +1,4 @@
-// A text that is just what its value prints is read without the JSON reader, which costs some ten
+// A text that is just what its value prints is read without the JSON reader, which costs several
 // times as much. That is right since a value's text reads as that value: each call here shows that
 // what it took is the text of what it answers, and any other text is left to the JSON reader.
 ghost use Rattle.std.specs.Prelude.{◌≡◌, ◌<◌, ◌≤◌, ◌++◌, length, take, flat_map, codes, IsTrue, IfSome, IfOk};
@@ -40,6 +40,21 @@ fn plain_len(bytes: &[u8]) -> usize
         }
     }
     bytes.len()
+}
+
+/// How often a comma stands before a quote, so room for so many fields is seldom too much.
+fn further_fields(bytes: &[u8]) -> usize
+    ensures { result ≤ length bytes.now }
+{
+    let mut count = 0;
+    let mut after_comma = false;
+    for byte in bytes {
+        if after_comma && *byte == b'"' {
+            count += 1;
+        }
+        after_comma = *byte == b',';
+    }
+    count
 }
 
 /// The number that the bytes begin with, if it is small. It is tried, and not relied on.
@@ -146,11 +161,11 @@ impl<'a> Cursor<'a> {
             (self.old ≡ join_by field_text (codes ",") fields.items ++ self.new)
             × AllByRecursion IsField fields.items)) }
     {
-        let commas = self.rest.iter().filter(|byte| **byte == b',').count();
+        let further = further_fields(self.rest);
         let Some(first) = self.take_field(alloc)? else {
             return Ok(None);
         };
-        let mut fields = Vec::with_capacity(alloc, 1 + commas)?;
+        let mut fields = Vec::with_capacity(alloc, 1 + further)?;
         fields.push(first)?;
         'fields: while self.take(b",") {
             let Some(field) = self.take_field(alloc)? else {

@@ -113,6 +113,7 @@ impl Value {
     pub fn read(alloc: Global, bytes: &[u8]) -> Result<Value, ValueFault>
         ensures value { MatchResult result (λ value. read_value bytes.now ≡ Ok value)
             (λ fault. RefusedAs fault (read_value bytes.now)) }
+        ensures kept { IfOk result IsValue }
 
         // What the value prints is never longer than what was read.
         ensures shorter { IfOk result (λ value. length (value_text value) ≤ length bytes.now) }
