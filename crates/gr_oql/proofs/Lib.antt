@@ -1,0 +1,2 @@
+mod LikeLemmas
+pub mod EventLemmas

@@ -2,3 +2,8 @@ pub mod Tree
 pub mod View
 pub mod Code
 pub mod Question
+pub mod Events
+pub mod Like
+pub mod Matching
+pub mod Truth
+pub mod Walk

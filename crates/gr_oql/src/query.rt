@@ -6,7 +6,7 @@ use std::sync::Arc;
 /// A query. Its parts are shared by its copies.
 #[derive(Drop)]
 pub struct Query {
-    parts: Arc<Parts>,
+    pub(crate) parts: Arc<Parts>,
 }
 
 #[derive(Drop)]
