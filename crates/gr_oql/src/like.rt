@@ -1,24 +1,14 @@
 ghost use Rattle.std.specs.Prelude.{◌≡◌, ◌∷◌, ◌<◌, ◌≤◌, [], length, MatchOption, IfSome, IsUtf8};
 ghost use Rattle.std.specs.Str.{chars};
 ghost use Rattle.gr_oql.specs.Like.{is_like, has_end_like, stands_for};
-ghost use Rattle.gr_oql.specs.Walk.{LeadsTo, Shortens, Takes, StepShortens, walk_ended};
+ghost use Rattle.gr_oql.specs.Walk.{LeadsTo, Shortens, Takes, StepShortens};
 
 /// How far a pattern and a text agree, taken character by character.
-pub(crate) enum Walk<'a> {
-    /// To the end of both.
-    Whole,
-    /// Up to characters that differ, or to the end of one of them alone.
-    Nowhere,
+enum Walk<'a> {
+    /// Up to characters that differ or an end: whether to the end of both.
+    End(bool),
     /// Up to a `%`: the pattern behind it, and the text that is left.
     Open(&'a str, &'a str),
-}
-
-impl Walk<'_> {
-    fn ended(agree: bool) -> Self
-        ensures { result ≡ walk_ended agree }
-    {
-        if agree { Walk::Whole } else { Walk::Nowhere }
-    }
 }
 
 /// What comes of the first characters of a pattern and a text.
@@ -36,8 +26,7 @@ pub(crate) fn is_like(pattern: &str, text: &str) -> bool
     ensures { result ≡ is_like (chars pattern.now) (chars text.now) }
 {
     match follow(pattern, text) {
-        Walk::Whole => true,
-        Walk::Nowhere => false,
+        Walk::End(agree) => agree,
         Walk::Open(behind, left) => has_end_like(behind, left),
     }
 }
@@ -50,9 +39,9 @@ fn has_end_like(pattern: &str, text: &str) -> bool
     let (mut pattern, mut text) = (pattern, text);
     loop {
         match follow(pattern, text) {
-            Walk::Whole => return true,
+            Walk::End(true) => return true,
             Walk::Open(behind, left) => (pattern, text) = (behind, left),
-            Walk::Nowhere => match first_char(text) {
+            Walk::End(false) => match first_char(text) {
                 None => return false,
                 Some((_, rest)) => text = rest,
             },
@@ -68,7 +57,7 @@ fn follow<'a>(pattern: &'a str, text: &'a str) -> Walk<'a>
     let (mut pattern, mut text) = (pattern, text);
     loop {
         match first_step(pattern, text) {
-            Step::End(agree) => return Walk::ended(agree),
+            Step::End(agree) => return Walk::End(agree),
             Step::Percent(behind) => return Walk::Open(behind, text),
             Step::Further(behind, rest) => (pattern, text) = (behind, rest),
         }

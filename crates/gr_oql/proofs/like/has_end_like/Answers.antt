@@ -3,14 +3,14 @@ use Rattle.std.specs.Str.{chars}
 use Rattle.gr_oql.proofs.LikeLemmas.{has_end_like-whole, has_end_like-open}
 use Rattle.gr_oql.proofs.like.has_end_like.Goals as goal
 
-pub returns-in-Whole : goal.returns-in-Whole
-returns-in-Whole c = sym (c.loop-behind.invariant.same ∙ has_end_like-whole (chars c.loop-behind.pattern.now) (chars c.loop-behind.text.now) c.in-Whole.ensures.leads)
+pub returns-in-End-true : goal.returns-in-End-true
+returns-in-End-true c = sym (c.loop-rest.invariant.same ∙ has_end_like-whole (chars c.loop-rest.pattern.now) (chars c.loop-rest.text.now) (c.in-End-true.ensures.leads ∙ c.in-End-true.field-0-test))
 
-pub loop-behind-preserved-in-Open : goal.loop-behind-preserved-in-Open
-loop-behind-preserved-in-Open c =
+pub loop-rest-preserved : goal.loop-rest-preserved
+loop-rest-preserved c =
     let met = c.in-Open.ensures in
     record {
       pattern_text = met.shortens.0;
       left_text = met.shortens.1;
-      same = c.loop-behind.invariant.same ∙ has_end_like-open (chars c.loop-behind.pattern.now) (chars c.loop-behind.text.now) (chars c.in-Open.behind.now) (chars c.in-Open.left.now) met.leads;
+      same = c.loop-rest.invariant.same ∙ has_end_like-open (chars c.loop-rest.pattern.now) (chars c.loop-rest.text.now) (chars c.in-Open.behind.now) (chars c.in-Open.left.now) met.leads;
     }

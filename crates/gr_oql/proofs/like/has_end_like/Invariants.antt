@@ -6,12 +6,12 @@ use Rattle.std.specs.Str.{chars}
 use Rattle.gr_oql.specs.Like.{has_end_like}
 use Rattle.gr_oql.proofs.like.has_end_like.Given as goal
 
-abbrev pub invariant-loop-behind : goal.invariant-loop-behind
-invariant-loop-behind l = record {
+abbrev pub invariant-loop-rest : goal.invariant-loop-rest
+invariant-loop-rest l = record {
   pattern_text : shadow (Utf8 l.pattern);
   left_text : shadow (Utf8 l.text);
   same : has_end_like (chars l.initial.pattern) (chars l.initial.text) ≡ has_end_like (chars l.pattern) (chars l.text);
 }
 
-abbrev pub decreases-loop-behind : goal.decreases-loop-behind
-decreases-loop-behind l = length l.pattern + length l.text
+abbrev pub decreases-loop-rest : goal.decreases-loop-rest
+decreases-loop-rest l = length l.pattern + length l.text
