@@ -20,10 +20,14 @@ put_text Remove = []
 unfoldable pub row_line : Change → List ℕ
 row_line row = row.key ++ codes " " ++ put_text row.kind ++ codes " " ++ stamp_text row.stamp ++ codes "\n"
 
+-- a word and the number behind it
+abbrev pub counted : List ℕ → ℕ → List ℕ
+counted word number = word ++ decimal number
+
 unfoldable pub member_line : ℕ → Counts → List ℕ
 member_line member counts =
-    codes "member " ++ decimal member ++ codes " entries " ++ decimal counts.entries ++ codes " tombstones " ++ decimal counts.tombstones
-    ++ codes " conflated " ++ decimal counts.conflated ++ codes " repeats " ++ decimal counts.repeats ++ codes "\n"
+    counted (codes "member ") member ++ counted (codes " entries ") counts.entries ++ counted (codes " tombstones ") counts.tombstones
+    ++ counted (codes " conflated ") counts.conflated ++ counted (codes " repeats ") counts.repeats ++ codes "\n"
 
 -- the rows of all shards
 abbrev pub rows_text : MemberRecord → List ℕ

@@ -1,4 +1,4 @@
-ghost use Rattle.std.specs.Prelude.{◌≡◌};
+ghost use Rattle.std.specs.Prelude.{◌≡◌, ◌+◌, ◌<◌, ◌≤◌, ◌^◌};
 ghost use Rattle.gr_report.specs.Counts.{counts_of};
 
 use gr_history::ShardRecord;
@@ -12,6 +12,14 @@ pub struct Counts {
     pub repeats: u128,
 }
 
+fn sum(total: u128, more: u64) -> u128
+    requires { total < 2 ^ 127 }
+    ensures sum { result ≡ total + more }
+    ensures most { result ≤ total + 2 ^ 64 }
+{
+    total + u128::from(more)
+}
+
 pub fn count_all(shards: &[ShardRecord]) -> Counts
     ensures { result ≡ counts_of shards.now }
 {
@@ -22,10 +30,10 @@ pub fn count_all(shards: &[ShardRecord]) -> Counts
         repeats: 0,
     };
     for shard in shards {
-        counts.entries += shard.region.rows.len() as u128;
-        counts.tombstones += u128::from(shard.region.tombstones);
-        counts.conflated += u128::from(shard.history.discarded());
-        counts.repeats += u128::from(shard.history.repeats());
+        counts.entries = sum(counts.entries, shard.region.rows.len() as u64);
+        counts.tombstones = sum(counts.tombstones, shard.region.tombstones);
+        counts.conflated = sum(counts.conflated, shard.history.discarded());
+        counts.repeats = sum(counts.repeats, shard.history.repeats());
     }
     counts
 }

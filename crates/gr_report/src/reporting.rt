@@ -10,20 +10,20 @@ use gr_history::{ClientRecord, MemberRecord, Record};
 use gr_value::Memory;
 use std::alloc::Global;
 
-fn put_clients(out: &mut Vec<u8>, clients: &[ClientRecord]) -> Result<(), Memory>
+fn put_clients(alloc: Global, out: &mut Vec<u8>, clients: &[ClientRecord]) -> Result<(), Memory>
     ensures { OnOk result (out.new.items ≡ out.old.items ++ flat_map client_text clients.now) }
 {
     for client in clients {
-        put_client(out, client)?;
+        put_client(alloc, out, client)?;
     }
     Ok(())
 }
 
-fn put_members(out: &mut Vec<u8>, members: &[MemberRecord]) -> Result<(), Memory>
+fn put_members(alloc: Global, out: &mut Vec<u8>, members: &[MemberRecord]) -> Result<(), Memory>
     ensures { OnOk result (out.new.items ≡ out.old.items ++ flat_map member_text members.now) }
 {
     for member in members {
-        put_member(out, member)?;
+        put_member(alloc, out, member)?;
     }
     Ok(())
 }
@@ -34,9 +34,9 @@ pub fn report(alloc: Global, record_of: &Record) -> Result<Vec<u8>, Memory>
 {
     let mut out = Vec::new(alloc);
     put_text(&mut out, "replies\n")?;
-    put_clients(&mut out, record_of.clients.as_slice())?;
+    put_clients(alloc, &mut out, record_of.clients.as_slice())?;
     put_text(&mut out, "regions\n")?;
-    put_members(&mut out, record_of.members.as_slice())?;
+    put_members(alloc, &mut out, record_of.members.as_slice())?;
     put_text(&mut out, "end\n")?;
     Ok(out)
 }

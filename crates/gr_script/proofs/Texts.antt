@@ -9,10 +9,10 @@ use Rattle.gr_script.specs.Texts.{cut, lines_of, is_ended}
 abbrev before : ℕ → List ℕ → ℕ
 before mark bytes = prefix_len (λ byte. not (eqb byte mark)) bytes
 
-abbrev Parts : Type 0
+abbrev pub Parts : Type 0
 Parts = Option (List ℕ × List ℕ)
 
-abbrev with_first : ℕ → Parts → Parts
+abbrev pub with_first : ℕ → Parts → Parts
 with_first byte parts = option_map (λ p. (byte ∷ p.0, p.1)) parts
 
 abbrev parts_at : List ℕ → ℕ → Parts
@@ -37,7 +37,7 @@ before_here mark byte bytes is = ap (λ (b : Bool). cond (not b) (1 + before mar
 before_there : (mark byte : ℕ) (bytes : List ℕ) → eqb byte mark ≡ false → before mark (byte ∷ bytes) ≡ suc (before mark bytes)
 before_there mark byte bytes isnt = ap (λ (b : Bool). cond (not b) (1 + before mark bytes) 0) isnt ∙ omega arith
 
-cut_there : (mark byte : ℕ) (bytes : List ℕ) → eqb byte mark ≡ false → cut mark (byte ∷ bytes) ≡ with_first byte (cut mark bytes)
+pub cut_there : (mark byte : ℕ) (bytes : List ℕ) → eqb byte mark ≡ false → cut mark (byte ∷ bytes) ≡ with_first byte (cut mark bytes)
 cut_there mark byte bytes isnt = cond-false (eqb byte mark) _ _ isnt
 
 pub cut_is : (mark : ℕ) (bytes : List ℕ) → cut mark bytes ≡ parts_at bytes (before mark bytes)
@@ -66,11 +66,11 @@ all_behind bytes n m is = ap (λ (k : ℕ). take (length bytes - k) (drop k byte
 
 -- ---- lines
 
-some_is : (one two : List ℕ × List ℕ) → Some one ≡ Some two → one ≡ two
+pub some_is : (one two : List ℕ × List ℕ) → Some one ≡ Some two → one ≡ two
 some_is one two e = cc
 
 -- what is cut behind a first byte
-cut_first : (byte : ℕ) (found : Parts) (parts : List ℕ × List ℕ) → with_first byte found ≡ Some parts
+pub cut_first : (byte : ℕ) (found : Parts) (parts : List ℕ × List ℕ) → with_first byte found ≡ Some parts
     → (rest : List ℕ × List ℕ) × (found ≡ Some rest) × ((byte ∷ rest.0, rest.1) ≡ parts)
 cut_first byte None parts e = absurd cc
 cut_first byte (Some rest) parts e = (rest, refl, some_is (byte ∷ rest.0, rest.1) parts e)
@@ -79,13 +79,13 @@ uncut_first : (byte : ℕ) (found : Parts) → with_first byte found ≡ None �
 uncut_first byte None e = refl
 uncut_first byte (Some rest) e = absurd cc
 
-lines_here : (byte : ℕ) (bytes : List ℕ) → eqb byte 10 ≡ true → lines_of (byte ∷ bytes) ≡ [] ∷ lines_of bytes
+pub lines_here : (byte : ℕ) (bytes : List ℕ) → eqb byte 10 ≡ true → lines_of (byte ∷ bytes) ≡ [] ∷ lines_of bytes
 lines_here byte bytes is = cond-true (eqb byte 10) _ _ is
 
-lines_there : (byte : ℕ) (bytes : List ℕ) → eqb byte 10 ≡ false → lines_of (byte ∷ bytes) ≡ onto_first byte (lines_of bytes)
+pub lines_there : (byte : ℕ) (bytes : List ℕ) → eqb byte 10 ≡ false → lines_of (byte ∷ bytes) ≡ onto_first byte (lines_of bytes)
 lines_there byte bytes isnt = cond-false (eqb byte 10) _ _ isnt
 
-cut_here : (mark byte : ℕ) (bytes : List ℕ) → eqb byte mark ≡ true → cut mark (byte ∷ bytes) ≡ Some ([], bytes)
+pub cut_here : (mark byte : ℕ) (bytes : List ℕ) → eqb byte mark ≡ true → cut mark (byte ∷ bytes) ≡ Some ([], bytes)
 cut_here mark byte bytes is = cond-true (eqb byte mark) _ _ is
 
 pub lines_cut : (bytes : List ℕ) (parts : List ℕ × List ℕ) → cut 10 bytes ≡ Some parts → lines_of bytes ≡ parts.0 ∷ lines_of parts.1
