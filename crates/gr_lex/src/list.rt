@@ -1,0 +1,66 @@
+ghost use Rattle.std.specs.Prelude.{◌≡◌, ◌==◌, [], ◌∷◌, ◌++◌, length, slice_get, IfOk, OnOk, OnErr, option_copied};
+
+use crate::{LexFault, Token};
+use std::alloc::Global;
+use std::marker::Model;
+
+/// The tokens of a text, which contracts see as a list.
+#[derive(Drop)]
+pub struct TokenList {
+    entries: Vec<Token>,
+}
+
+impl Model for TokenList {
+    ghost use Rattle.std.specs.Prelude.{List};
+    ghost use Rattle.gr_lex.specs.declared.token.Token.{Token};
+
+    ghost Value = { List Token };
+
+    ghost view = { λ list. list.entries.items };
+}
+
+impl TokenList {
+    /// The list with no tokens.
+    pub fn new(alloc: Global) -> Result<TokenList, LexFault>
+        ensures { IfOk result (λ list. list ≡ []) }
+    {
+        Ok(TokenList {
+            entries: Vec::new(alloc),
+        })
+    }
+
+    /// Puts one token last.
+    pub fn push(&mut self, token: Token) -> Result<(), LexFault>
+        ensures ok { OnOk result (self.new ≡ self.old ++ token ∷ []) }
+        ensures err { OnErr result (self.new ≡ self.old) }
+    {
+        self.entries.push(token)?;
+        Ok(())
+    }
+
+    pub fn len(&self) -> usize
+        ensures { result ≡ length self.now }
+    {
+        self.entries.len()
+    }
+
+    pub fn is_empty(&self) -> bool
+        ensures { result ≡ (length self.now == 0) }
+    {
+        self.entries.is_empty()
+    }
+
+    /// The token at a place, counted from 0.
+    pub fn get(&self, place: usize) -> Option<&Token>
+        ensures { option_copied result ≡ slice_get self.now place }
+    {
+        self.entries.get(place)
+    }
+
+    /// All tokens, in order.
+    pub fn as_slice(&self) -> &[Token]
+        ensures { result.now ≡ self.now }
+    {
+        self.entries.as_slice()
+    }
+}

@@ -1,0 +1,10 @@
+//! Queries: their text, and what it asks for.
+#![tactic(auto)]
+
+mod condition;
+mod fault;
+mod query;
+
+pub use condition::{Condition, Operand, Relation, Test};
+pub use fault::{OqlFault, Part};
+pub use query::Query;
