@@ -1,4 +1,5 @@
-ghost use Rattle.std.specs.Prelude.{◌≡◌, ◌==◌, [], ◌∷◌, ◌++◌, length, slice_get, IfOk, OnOk, OnErr, option_copied};
+ghost use Rattle.std.specs.Prelude.{◌≡◌, ◌==◌, [], ◌∷◌, ◌++◌, length, slice_get, IfOk, IfErr, OnOk, OnErr, option_copied};
+ghost use Rattle.gr_lex.specs.declared.fault.LexFault.TheVariants.{Memory};
 
 use crate::{LexFault, Token};
 use std::alloc::Global;
@@ -22,7 +23,8 @@ impl Model for TokenList {
 impl TokenList {
     /// The list with no tokens.
     pub fn new(alloc: Global) -> Result<TokenList, LexFault>
-        ensures { IfOk result (λ list. list ≡ []) }
+        ensures ok { IfOk result (λ list. list ≡ []) }
+        ensures err { IfErr result (λ fault. fault ≡ Memory) }
     {
         Ok(TokenList {
             entries: Vec::new(alloc),
@@ -33,6 +35,7 @@ impl TokenList {
     pub fn push(&mut self, token: Token) -> Result<(), LexFault>
         ensures ok { OnOk result (self.new ≡ self.old ++ token ∷ []) }
         ensures err { OnErr result (self.new ≡ self.old) }
+        ensures fault { IfErr result (λ fault. fault ≡ Memory) }
     {
         self.entries.push(token)?;
         Ok(())
