@@ -3,6 +3,7 @@
 
 mod condition;
 mod fault;
+mod keyword;
 mod query;
 
 pub use condition::{Condition, Operand, Relation, Test};
