@@ -4,3 +4,6 @@ pub mod Code
 pub mod Question
 pub mod Words
 pub mod Terminals
+pub mod Lexemes
+pub mod Reading
+pub mod Gives

@@ -1,5 +1,5 @@
 -- A query's tokens as its grammar sees them.
-use Rattle.std.specs.Prelude.{◌≡◌, ℕ, ◌-◌, List, [], ◌∷◌, take, drop, length, map, Bool, true, false, ◌==◌, if◌then◌else◌, bytes_eq, Option, Some, None}
+use Rattle.std.specs.Prelude.{◌≡◌, ℕ, ◌-◌, ◌<◌, List, [], ◌∷◌, ◌++◌, take, drop, length, map, Bool, true, false, ◌==◌, if◌then◌else◌, bytes_eq, Option, Some, None}
 use Rattle.gr_lex.specs.declared.token.Symbol.{Symbol}
 use Rattle.gr_lex.specs.declared.token.TokenKind.{TokenKind}
 use Rattle.gr_lex.specs.declared.token.TokenKind.TheVariants as kind
@@ -27,6 +27,11 @@ abbrev mutual
   pub behind_quote : List ℕ → List ℕ
   behind_quote [] = []
   behind_quote (b ∷ bs) = if b == quote then undoubled bs else b ∷ undoubled bs
+
+-- The text is one part without quotes, two quotes, and another part.
+pub record SplitsAtQuotes (text before behind : List ℕ) : Type 0 where
+  pub said : undoubled text ≡ before ++ quote ∷ undoubled behind
+  pub shorter : length behind < length text
 
 -- what stands between the outer quotes
 abbrev pub inside : List ℕ → List ℕ

@@ -62,6 +62,12 @@ impl Keyword {
         ALL.iter().copied().find(|keyword| same_word(word, keyword.letters()))
     }
 
+    pub(crate) fn is(self, other: Keyword) -> bool
+        ensures { result ≡ keyword_eq self other }
+    {
+        self == other
+    }
+
     fn letters(self) -> &'static str
         ensures { result.now ≡ letters self }
     {

@@ -2,9 +2,13 @@
 #![tactic(auto)]
 
 mod condition;
+mod cursor;
 mod fault;
 mod keyword;
+mod lexeme;
 mod query;
+mod stop;
+mod terms;
 
 pub use condition::{Condition, Operand, Relation, Test};
 pub use fault::{OqlFault, Part};
