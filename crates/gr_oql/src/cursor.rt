@@ -1,4 +1,5 @@
-ghost use Rattle.std.specs.Prelude.{◌≡◌, length, if◌then◌else◌, option_map};
+ghost use Rattle.std.specs.Prelude.{◌≡◌, ◌<◌, ◌≤◌, length, if◌then◌else◌, option_map};
+ghost use Rattle.std.specs.Bool.{OnTrue};
 ghost use Rattle.gr_oql.specs.Lexemes.{terminals};
 ghost use Rattle.gr_oql.specs.Terminals.{symbol_eq, is_symbol, is_keyword, begins, front, rest, as_name, as_word, as_number, as_quoted, undoubled};
 
@@ -101,7 +102,8 @@ impl<'a> Cursor<'a> {
 
     /// Passes one token, where one is left.
     pub(crate) fn advance(&mut self)
-        ensures { self.new ≡ rest self.old }
+        ensures after { self.new ≡ rest self.old }
+        ensures within { length self.new ≤ length self.old }
     {
         if !self.left.is_empty() {
             self.left = &self.left[1..];
@@ -112,6 +114,8 @@ impl<'a> Cursor<'a> {
     pub(crate) fn takes_symbol(&mut self, symbol: Symbol) -> bool
         ensures test { result ≡ begins (is_symbol symbol) self.old }
         ensures after { self.new ≡ (if result then rest self.old else self.old) }
+        ensures within { length self.new ≤ length self.old }
+        ensures shorter { OnTrue result (length self.new < length self.old) }
     {
         let found = self.is_symbol(symbol);
         if found {
@@ -124,6 +128,8 @@ impl<'a> Cursor<'a> {
     pub(crate) fn takes_keyword(&mut self, keyword: Keyword) -> bool
         ensures test { result ≡ begins (is_keyword keyword) self.old }
         ensures after { self.new ≡ (if result then rest self.old else self.old) }
+        ensures within { length self.new ≤ length self.old }
+        ensures shorter { OnTrue result (length self.new < length self.old) }
     {
         let found = self.is_keyword(keyword);
         if found {

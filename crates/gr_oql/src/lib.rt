@@ -1,7 +1,9 @@
 //! Queries: their text, and what it asks for.
 #![tactic(auto)]
 
+mod comparisons;
 mod condition;
+mod conditions;
 mod cursor;
 mod fault;
 mod keyword;

@@ -1,6 +1,6 @@
 //! Fields, literals and operands.
 
-ghost use Rattle.std.specs.Prelude.{◌≡◌, ℤ, pos, neg_ℤ, ◌^◌, nat_le, nat_lt, if◌then◌else◌, Some, None, Option, IfOk, List, ℕ, option_map, MatchOption};
+ghost use Rattle.std.specs.Prelude.{◌≡◌, ◌≤◌, length, ℤ, pos, neg_ℤ, ◌^◌, nat_le, nat_lt, if◌then◌else◌, Some, None, Option, IfOk, List, ℕ, option_map, MatchOption};
 ghost use Rattle.gr_oql.specs.Gives.{Gives};
 ghost use Rattle.gr_oql.specs.Reading.{symbol_at, keyword_at, name_at, is_alias, member_at, field_of_name, field_at, negative_at, literal_at, operand_at, missing, plain_by};
 ghost use Rattle.gr_oql.specs.Terminals.{undoubled, front, as_number, as_quoted, SplitsAtQuotes};
@@ -17,7 +17,8 @@ use std::alloc::Global;
 const LEAST_MAGNITUDE: u64 = 9223372036854775808;
 
 pub(crate) fn symbol_due(cursor: &mut Cursor, symbol: Symbol) -> Result<(), Stop>
-    ensures { Gives (λ x. x) result cursor.new (symbol_at symbol cursor.old) }
+    ensures exact { Gives (λ x. x) result cursor.new (symbol_at symbol cursor.old) }
+    ensures within { length cursor.new ≤ length cursor.old }
 {
     if cursor.takes_symbol(symbol) {
         Ok(())
@@ -27,7 +28,8 @@ pub(crate) fn symbol_due(cursor: &mut Cursor, symbol: Symbol) -> Result<(), Stop
 }
 
 pub(crate) fn keyword_due(cursor: &mut Cursor, keyword: Keyword) -> Result<(), Stop>
-    ensures { Gives (λ x. x) result cursor.new (keyword_at keyword cursor.old) }
+    ensures exact { Gives (λ x. x) result cursor.new (keyword_at keyword cursor.old) }
+    ensures within { length cursor.new ≤ length cursor.old }
 {
     if cursor.takes_keyword(keyword) {
         Ok(())
@@ -37,7 +39,8 @@ pub(crate) fn keyword_due(cursor: &mut Cursor, keyword: Keyword) -> Result<(), S
 }
 
 pub(crate) fn name_due<'a>(cursor: &mut Cursor<'a>) -> Result<&'a str, Stop>
-    ensures { Gives (λ x. x.now) result cursor.new (name_at cursor.old) }
+    ensures exact { Gives (λ x. x.now) result cursor.new (name_at cursor.old) }
+    ensures within { length cursor.new ≤ length cursor.old }
 {
     match cursor.name() {
         Some(word) => {
@@ -59,7 +62,8 @@ fn is_alias(alias: Option<&str>, word: &str) -> bool
 
 /// The member behind an alias.
 fn member<'a>(cursor: &mut Cursor<'a>) -> Result<&'a str, Stop>
-    ensures { Gives (λ x. x.now) result cursor.new (member_at cursor.old) }
+    ensures exact { Gives (λ x. x.now) result cursor.new (member_at cursor.old) }
+    ensures within { length cursor.new ≤ length cursor.old }
 {
     symbol_due(cursor, Symbol::Dot)?;
     match cursor.word() {
@@ -73,7 +77,8 @@ fn member<'a>(cursor: &mut Cursor<'a>) -> Result<&'a str, Stop>
 
 /// The field that a name begins.
 fn field_of_name<'a>(cursor: &mut Cursor<'a>, alias: Option<&str>, word: &'a str) -> Result<&'a str, Stop>
-    ensures { Gives (λ x. x.now) result cursor.new (field_of_name (option_map (λ a. a.now) alias.entry) word.now cursor.old) }
+    ensures exact { Gives (λ x. x.now) result cursor.new (field_of_name (option_map (λ a. a.now) alias.entry) word.now cursor.old) }
+    ensures within { length cursor.new ≤ length cursor.old }
 {
     if is_alias(alias, word) {
         member(cursor)
@@ -83,7 +88,8 @@ fn field_of_name<'a>(cursor: &mut Cursor<'a>, alias: Option<&str>, word: &'a str
 }
 
 pub(crate) fn field<'a>(cursor: &mut Cursor<'a>, alias: Option<&str>) -> Result<&'a str, Stop>
-    ensures { Gives (λ x. x.now) result cursor.new (field_at (option_map (λ a. a.now) alias.entry) cursor.old) }
+    ensures exact { Gives (λ x. x.now) result cursor.new (field_at (option_map (λ a. a.now) alias.entry) cursor.old) }
+    ensures within { length cursor.new ≤ length cursor.old }
 {
     match cursor.name() {
         Some(word) => {
@@ -136,7 +142,8 @@ fn negated(number: u64) -> Option<i64>
 }
 
 fn negative(cursor: &mut Cursor) -> Result<Scalar, Stop>
-    ensures { Gives (λ x. x) result cursor.new (negative_at cursor.old) }
+    ensures exact { Gives (λ x. x) result cursor.new (negative_at cursor.old) }
+    ensures within { length cursor.new ≤ length cursor.old }
 {
     match cursor.number() {
         Some(number) => match negated(number) {
@@ -163,7 +170,8 @@ fn missing(cursor: &Cursor) -> Wrong
 
 /// A number or a text.
 fn plain(cursor: &mut Cursor, alloc: Global) -> Result<Scalar, Stop>
-    ensures { Gives (λ x. x) result cursor.new (plain_by (front as_number cursor.old) (front as_quoted cursor.old) cursor.old) }
+    ensures exact { Gives (λ x. x) result cursor.new (plain_by (front as_number cursor.old) (front as_quoted cursor.old) cursor.old) }
+    ensures within { length cursor.new ≤ length cursor.old }
 {
     if let Some(number) = cursor.number() {
         if number < LEAST_MAGNITUDE {
@@ -182,7 +190,8 @@ fn plain(cursor: &mut Cursor, alloc: Global) -> Result<Scalar, Stop>
 }
 
 pub(crate) fn literal(cursor: &mut Cursor, alloc: Global) -> Result<Scalar, Stop>
-    ensures { Gives (λ x. x) result cursor.new (literal_at cursor.old) }
+    ensures exact { Gives (λ x. x) result cursor.new (literal_at cursor.old) }
+    ensures within { length cursor.new ≤ length cursor.old }
 {
     if cursor.takes_symbol(Symbol::Minus) {
         negative(cursor)
@@ -198,7 +207,8 @@ pub(crate) fn literal(cursor: &mut Cursor, alloc: Global) -> Result<Scalar, Stop
 }
 
 pub(crate) fn operand(cursor: &mut Cursor, alloc: Global, alias: Option<&str>) -> Result<Operand, Stop>
-    ensures { Gives (λ x. x) result cursor.new (operand_at (option_map (λ a. a.now) alias.entry) cursor.old) }
+    ensures exact { Gives (λ x. x) result cursor.new (operand_at (option_map (λ a. a.now) alias.entry) cursor.old) }
+    ensures within { length cursor.new ≤ length cursor.old }
 {
     match cursor.name() {
         Some(word) => {
