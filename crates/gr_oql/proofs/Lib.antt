@@ -1,2 +1,3 @@
 pub mod Quotes
 pub mod Rows
+pub mod Trees

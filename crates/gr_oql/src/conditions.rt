@@ -3,7 +3,8 @@
 ghost use Rattle.std.specs.Prelude.{◌≡◌, ◌≤◌, length, option_map};
 ghost use Rattle.gr_oql.specs.View.{tree_of};
 ghost use Rattle.gr_oql.specs.Gives.{Gives};
-ghost use Rattle.gr_oql.specs.Reading.{all_at, any_at, bracket_at, part_at, condition_at};
+ghost use Rattle.gr_oql.specs.Reading.{all_at, any_at, bracket_at, part_at, condition_at, read_as, test_at};
+ghost use Rattle.gr_oql.specs.Tree.{test};
 
 use crate::comparisons::test;
 use crate::cursor::Cursor;
@@ -17,7 +18,17 @@ use std::alloc::Global;
 /// The most brackets and NOTs around one condition.
 const MOST_DEPTH: u32 = 64;
 
+/// A test as a condition.
+fn tested(cursor: &mut Cursor, alloc: Global, alias: Option<&str>) -> Result<Condition, Stop>
+    ensures exact { Gives tree_of result cursor.new (read_as test (test_at (option_map (λ a. a.now) alias.entry) cursor.old)) }
+    ensures within { length cursor.new ≤ length cursor.old }
+{
+    let test = test(cursor, alloc, alias)?;
+    Ok(Condition::Test(test))
+}
+
 /// One part of an AND, inside which so many brackets and NOTs may still be opened.
+#[tactic(auto, using(crate::proofs::Trees::part_at_test))]
 #[cycle(conditions)]
 fn part(cursor: &mut Cursor, alloc: Global, alias: Option<&str>, depth: u32) -> Result<Condition, Stop>
     ensures exact { Gives tree_of result cursor.new (part_at (option_map (λ a. a.now) alias.entry) depth cursor.old) }
@@ -27,7 +38,7 @@ fn part(cursor: &mut Cursor, alloc: Global, alias: Option<&str>, depth: u32) -> 
         if cursor.is_keyword(Keyword::Not) || cursor.is_symbol(Symbol::LeftBracket) {
             Err(Stop::Wrong(Wrong::TooDeep))
         } else {
-            Ok(Condition::Test(test(cursor, alloc, alias)?))
+            tested(cursor, alloc, alias)
         }
     } else if cursor.takes_keyword(Keyword::Not) {
         let negated = part(cursor, alloc, alias, depth - 1)?;
@@ -35,7 +46,7 @@ fn part(cursor: &mut Cursor, alloc: Global, alias: Option<&str>, depth: u32) -> 
     } else if cursor.takes_symbol(Symbol::LeftBracket) {
         bracket(cursor, alloc, alias, depth - 1)
     } else {
-        Ok(Condition::Test(test(cursor, alloc, alias)?))
+        tested(cursor, alloc, alias)
     }
 }
 
