@@ -1,12 +1,12 @@
 -- Conditions beside their trees, and how their parts are read.
-use Rattle.std.proofs.Common.{◌≡◌, ℕ, zero, suc, List, [], ◌∷◌, ◌++◌, map, Ok, Err, Option, Bool, true, false, ◌||◌, Vec, Global, refl, sym, ap, ◌∙◌, rules}
+use Rattle.std.proofs.Common.{◌≡◌, ℕ, zero, suc, List, [], ◌∷◌, ◌++◌, map, Ok, Option, false, Vec, Global, refl, ap, ◌∙◌, rules}
 use Rattle.std.proofs.lemmas.List.{map_push}
 use Rattle.gr_lex.specs.declared.token.Symbol.TheVariants as symbols
 use Rattle.gr_oql.specs.declared.condition.Condition.{Condition, Any, All, the_lemmas}
 use Rattle.gr_oql.specs.declared.keyword.Keyword.TheVariants as word
 use Rattle.gr_oql.specs.declared.stop.Stop.{Stop}
 use Rattle.gr_oql.specs.declared.stop.Stop.TheVariants as stops
-use Rattle.gr_oql.specs.Tree.{Tree, any, all, test}
+use Rattle.gr_oql.specs.Tree.{any, all, test}
 use Rattle.gr_oql.specs.View.{tree_of, in_order}
 use Rattle.gr_oql.specs.Gives.{Stops}
 use Rattle.gr_oql.specs.Terminals.{Terminal, begins, is_keyword, is_symbol}

@@ -7,3 +7,5 @@ pub mod Terminals
 pub mod Lexemes
 pub mod Reading
 pub mod Gives
+pub mod Sources
+pub mod Faults

@@ -1,7 +1,7 @@
 -- What a query's tokens say, or where they cease to begin a query: a definition for each rule of the grammar.
 -- Each reads at the front, and gives what stands there and the tokens behind it; or what is wrong, and the
 -- tokens from the first wrong one on.
-use Rattle.std.specs.Prelude.{◌≡◌, ℕ, zero, suc, ◌^◌, ℤ, pos, neg_ℤ, List, [], ◌∷◌, ◌++◌, length, Bool, true, false, ◌||◌, ◌==◌, if◌then◌else◌, nat_lt, nat_le, bytes_eq, Option, Some, None, Result, Ok, Err}
+use Rattle.std.specs.Prelude.{ℕ, zero, suc, ◌^◌, pos, neg_ℤ, List, [], ◌∷◌, length, Bool, true, false, ◌||◌, ◌==◌, if◌then◌else◌, nat_lt, nat_le, bytes_eq, Option, Some, None, Result, Ok, Err}
 use Rattle.std.specs.List.{list_any}
 use Rattle.gr_value.specs.declared.scalar.Scalar.{Scalar}
 use Rattle.gr_value.specs.declared.scalar.Scalar.TheVariants as scalar
@@ -193,7 +193,7 @@ part_at alias (suc depth) ts =
 abbrev pub most_depth : ℕ
 most_depth = 64
 
-abbrev pub condition_at : Option (List ℕ) → List Terminal → Reading Tree
+unfoldable pub condition_at : Option (List ℕ) → List Terminal → Reading Tree
 condition_at alias ts = any_at (part_at alias most_depth) ts
 
 -- The query.

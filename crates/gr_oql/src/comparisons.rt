@@ -99,16 +99,30 @@ fn among(cursor: &mut Cursor, alloc: Global, operand: Operand) -> Result<Test, S
     Ok(Test::Among { operand, literals })
 }
 
-fn compare(cursor: &mut Cursor, alloc: Global, alias: Option<&str>, left: Operand) -> Result<Test, Stop>
+fn compare(
+    cursor: &mut Cursor,
+    alloc: Global,
+    alias: Option<&str>,
+    left: Operand,
+) -> Result<Test, Stop>
     ensures exact { Gives (λ x. x) result cursor.new (compare_at (option_map (λ a. a.now) alias.entry) left cursor.old) }
     ensures within { length cursor.new ≤ length cursor.old }
 {
     let relation = relation(cursor)?;
     let right = operand(cursor, alloc, alias)?;
-    Ok(Test::Compare { left, relation, right })
+    Ok(Test::Compare {
+        left,
+        relation,
+        right,
+    })
 }
 
-fn behind_operand(cursor: &mut Cursor, alloc: Global, alias: Option<&str>, left: Operand) -> Result<Test, Stop>
+fn behind_operand(
+    cursor: &mut Cursor,
+    alloc: Global,
+    alias: Option<&str>,
+    left: Operand,
+) -> Result<Test, Stop>
     ensures exact { Gives (λ x. x) result cursor.new (behind_operand (option_map (λ a. a.now) alias.entry) left cursor.old) }
     ensures within { length cursor.new ≤ length cursor.old }
 {
@@ -120,7 +134,12 @@ fn behind_operand(cursor: &mut Cursor, alloc: Global, alias: Option<&str>, left:
 }
 
 /// What stands behind a test's first operand.
-fn behind_first(cursor: &mut Cursor, alloc: Global, alias: Option<&str>, left: Operand) -> Result<Test, Stop>
+fn behind_first(
+    cursor: &mut Cursor,
+    alloc: Global,
+    alias: Option<&str>,
+    left: Operand,
+) -> Result<Test, Stop>
     ensures exact { Gives (λ x. x) result cursor.new (behind_first (option_map (λ a. a.now) alias.entry) left cursor.old) }
     ensures within { length cursor.new ≤ length cursor.old }
 {
@@ -132,7 +151,12 @@ fn behind_first(cursor: &mut Cursor, alloc: Global, alias: Option<&str>, left: O
                 behind_operand(cursor, alloc, alias, Operand::Field(field))
             }
         }
-        Operand::Literal(literal) => behind_operand(cursor, alloc, alias, Operand::Literal(literal)),
+        Operand::Literal(literal) => behind_operand(
+            cursor,
+            alloc,
+            alias,
+            Operand::Literal(literal),
+        ),
     }
 }
 

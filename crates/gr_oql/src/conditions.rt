@@ -6,12 +6,12 @@ ghost use Rattle.gr_oql.specs.Gives.{Gives};
 ghost use Rattle.gr_oql.specs.Reading.{all_at, any_at, bracket_at, part_at, condition_at, read_as, test_at};
 ghost use Rattle.gr_oql.specs.Tree.{test};
 
+use crate::Condition;
 use crate::comparisons::test;
 use crate::cursor::Cursor;
 use crate::keyword::Keyword;
 use crate::stop::{Stop, Wrong};
 use crate::terms::symbol_due;
-use crate::Condition;
 use gr_lex::Symbol;
 use std::alloc::Global;
 
@@ -30,7 +30,12 @@ fn tested(cursor: &mut Cursor, alloc: Global, alias: Option<&str>) -> Result<Con
 /// One part of an AND, inside which so many brackets and NOTs may still be opened.
 #[tactic(auto, using(crate::proofs::Trees::part_at_test))]
 #[cycle(conditions)]
-fn part(cursor: &mut Cursor, alloc: Global, alias: Option<&str>, depth: u32) -> Result<Condition, Stop>
+fn part(
+    cursor: &mut Cursor,
+    alloc: Global,
+    alias: Option<&str>,
+    depth: u32,
+) -> Result<Condition, Stop>
     ensures exact { Gives tree_of result cursor.new (part_at (option_map (λ a. a.now) alias.entry) depth cursor.old) }
     ensures within { length cursor.new ≤ length cursor.old }
 {
@@ -52,7 +57,12 @@ fn part(cursor: &mut Cursor, alloc: Global, alias: Option<&str>, depth: u32) -> 
 
 /// What stands in brackets, and the bracket that ends it.
 #[cycle(conditions)]
-fn bracket(cursor: &mut Cursor, alloc: Global, alias: Option<&str>, depth: u32) -> Result<Condition, Stop>
+fn bracket(
+    cursor: &mut Cursor,
+    alloc: Global,
+    alias: Option<&str>,
+    depth: u32,
+) -> Result<Condition, Stop>
     ensures exact { Gives tree_of result cursor.new (bracket_at (part_at (option_map (λ a. a.now) alias.entry) depth) cursor.old) }
     ensures within { length cursor.new ≤ length cursor.old }
 {
@@ -63,7 +73,12 @@ fn bracket(cursor: &mut Cursor, alloc: Global, alias: Option<&str>, depth: u32) 
 
 /// Parts with AND between them.
 #[cycle(conditions)]
-fn all(cursor: &mut Cursor, alloc: Global, alias: Option<&str>, depth: u32) -> Result<Condition, Stop>
+fn all(
+    cursor: &mut Cursor,
+    alloc: Global,
+    alias: Option<&str>,
+    depth: u32,
+) -> Result<Condition, Stop>
     ensures exact { Gives tree_of result cursor.new (all_at (part_at (option_map (λ a. a.now) alias.entry) depth) cursor.old) }
     ensures within { length cursor.new ≤ length cursor.old }
 {
@@ -79,7 +94,12 @@ fn all(cursor: &mut Cursor, alloc: Global, alias: Option<&str>, depth: u32) -> R
 
 /// Conditions with OR between them.
 #[cycle(conditions)]
-fn any(cursor: &mut Cursor, alloc: Global, alias: Option<&str>, depth: u32) -> Result<Condition, Stop>
+fn any(
+    cursor: &mut Cursor,
+    alloc: Global,
+    alias: Option<&str>,
+    depth: u32,
+) -> Result<Condition, Stop>
     ensures exact { Gives tree_of result cursor.new (any_at (part_at (option_map (λ a. a.now) alias.entry) depth) cursor.old) }
     ensures within { length cursor.new ≤ length cursor.old }
 {
@@ -93,7 +113,12 @@ fn any(cursor: &mut Cursor, alloc: Global, alias: Option<&str>, depth: u32) -> R
     Ok(Condition::Any(parts))
 }
 
-pub(crate) fn condition(cursor: &mut Cursor, alloc: Global, alias: Option<&str>) -> Result<Condition, Stop>
+#[tactic(auto, unfolding(crate::specs::Reading::condition_at))]
+pub(crate) fn condition(
+    cursor: &mut Cursor,
+    alloc: Global,
+    alias: Option<&str>,
+) -> Result<Condition, Stop>
     ensures exact { Gives tree_of result cursor.new (condition_at (option_map (λ a. a.now) alias.entry) cursor.old) }
     ensures within { length cursor.new ≤ length cursor.old }
 {

@@ -9,6 +9,7 @@ use gr_lex::Symbol;
 use std::marker::Model;
 
 /// What is left of a query's tokens. Contracts see it as their list.
+#[derive(Drop)]
 pub(crate) struct Cursor<'a> {
     left: &'a [Lexeme<'a>],
 }

@@ -59,7 +59,9 @@ impl Keyword {
     pub(crate) fn of(word: &str) -> Option<Keyword>
         ensures { result ≡ keyword_of word.now }
     {
-        ALL.iter().copied().find(|keyword| same_word(word, keyword.letters()))
+        ALL.iter()
+            .copied()
+            .find(|keyword| same_word(word, keyword.letters()))
     }
 
     pub(crate) fn is(self, other: Keyword) -> bool

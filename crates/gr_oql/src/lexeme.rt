@@ -41,7 +41,11 @@ fn lexeme_of<'a>(text: &'a str, token: &Token) -> Lexeme<'a>
     }
 }
 
-pub(crate) fn lexemes<'a>(alloc: Global, text: &'a str, tokens: &[Token]) -> Result<Vec<Lexeme<'a>>, Memory>
+pub(crate) fn lexemes<'a>(
+    alloc: Global,
+    text: &'a str,
+    tokens: &[Token],
+) -> Result<Vec<Lexeme<'a>>, Memory>
     requires { All (IsToken text.now) tokens.now }
     ensures { IfOk result (λ found. terminals found.items ≡ terminals_of text.now tokens.now) }
 {

@@ -1,6 +1,7 @@
 //! Queries: their text, and what it asks for.
 #![tactic(auto)]
 
+mod clauses;
 mod comparisons;
 mod condition;
 mod conditions;

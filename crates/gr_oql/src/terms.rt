@@ -5,11 +5,10 @@ ghost use Rattle.gr_oql.specs.Gives.{Gives};
 ghost use Rattle.gr_oql.specs.Reading.{symbol_at, keyword_at, name_at, is_alias, member_at, field_of_name, field_at, negative_at, literal_at, operand_at, missing, plain_by};
 ghost use Rattle.gr_oql.specs.Terminals.{undoubled, front, as_number, as_quoted, SplitsAtQuotes};
 
-use crate::Operand;
-use crate::Part;
 use crate::cursor::Cursor;
 use crate::keyword::Keyword;
 use crate::stop::{Stop, Wrong};
+use crate::{Operand, Part};
 use gr_lex::Symbol;
 use gr_value::{Memory, Scalar, Text};
 use std::alloc::Global;
@@ -76,7 +75,11 @@ fn member<'a>(cursor: &mut Cursor<'a>) -> Result<&'a str, Stop>
 }
 
 /// The field that a name begins.
-fn field_of_name<'a>(cursor: &mut Cursor<'a>, alias: Option<&str>, word: &'a str) -> Result<&'a str, Stop>
+fn field_of_name<'a>(
+    cursor: &mut Cursor<'a>,
+    alias: Option<&str>,
+    word: &'a str,
+) -> Result<&'a str, Stop>
     ensures exact { Gives (λ x. x.now) result cursor.new (field_of_name (option_map (λ a. a.now) alias.entry) word.now cursor.old) }
     ensures within { length cursor.new ≤ length cursor.old }
 {
@@ -206,7 +209,11 @@ pub(crate) fn literal(cursor: &mut Cursor, alloc: Global) -> Result<Scalar, Stop
     }
 }
 
-pub(crate) fn operand(cursor: &mut Cursor, alloc: Global, alias: Option<&str>) -> Result<Operand, Stop>
+pub(crate) fn operand(
+    cursor: &mut Cursor,
+    alloc: Global,
+    alias: Option<&str>,
+) -> Result<Operand, Stop>
     ensures exact { Gives (λ x. x) result cursor.new (operand_at (option_map (λ a. a.now) alias.entry) cursor.old) }
     ensures within { length cursor.new ≤ length cursor.old }
 {

@@ -1,4 +1,4 @@
-use Rattle.std.proofs.Common.{sym, arith, append-nil}
+use Rattle.std.proofs.Common.{sym, arith}
 use Rattle.std.proofs.lemmas.Result.{err_from_is_err_and}
 use Rattle.gr_lex.specs.declared.token.Symbol.TheVariants as symbols
 use Rattle.gr_oql.specs.Terminals.{is_symbol}

@@ -1,7 +1,7 @@
-use Rattle.std.proofs.Common.{List, sym, ap, ◌∙◌, arith, map, option_map}
+use Rattle.std.proofs.Common.{sym, map, option_map}
 use Rattle.std.proofs.lemmas.Result.{err_from_is_err_and}
 use Rattle.gr_oql.specs.declared.keyword.Keyword.TheVariants as word
-use Rattle.gr_oql.specs.Tree.{Tree, any, all}
+use Rattle.gr_oql.specs.Tree.{any, all}
 use Rattle.gr_oql.specs.View.{tree_of, in_order}
 use Rattle.gr_oql.specs.Terminals.{is_keyword}
 use Rattle.gr_oql.specs.Reading.{part_at, all_at}
