@@ -12,6 +12,8 @@ mod lexeme;
 mod query;
 mod stop;
 mod terms;
+#[cfg(test)]
+mod tests;
 
 pub use condition::{Condition, Operand, Relation, Test};
 pub use fault::{OqlFault, Part};
