@@ -1,3 +1,4 @@
 pub mod Quotes
 pub mod Rows
 pub mod Trees
+pub mod Sound

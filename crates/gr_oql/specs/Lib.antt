@@ -9,3 +9,4 @@ pub mod Reading
 pub mod Gives
 pub mod Sources
 pub mod Faults
+pub mod Grammar
