@@ -1,2 +1,6 @@
 mod LikeLemmas
 pub mod EventLemmas
+pub mod Quotes
+pub mod Rows
+pub mod Trees
+pub mod Sound

@@ -7,3 +7,11 @@ pub mod Like
 pub mod Matching
 pub mod Truth
 pub mod Walk
+pub mod Words
+pub mod Terminals
+pub mod Lexemes
+pub mod Reading
+pub mod Gives
+pub mod Sources
+pub mod Faults
+pub mod Grammar
