@@ -120,24 +120,92 @@ fn conditions_hold_of_values(rt: HostRuntime) -> Result<(), Fail> {
         ("SELECT * FROM /r", b"{}", Truth::Holds),
         ("SELECT * FROM /r WHERE y = 1", b"{}", Truth::Undefined),
         ("SELECT * FROM /r WHERE NOT y = 1", b"{}", Truth::Undefined),
-        ("SELECT * FROM /r WHERE NOT y = 1 OR x = 1", b"{\"x\":1}", Truth::Holds),
-        ("SELECT * FROM /r WHERE y = 1 AND x = 2", b"{\"x\":1}", Truth::Fails),
-        ("SELECT * FROM /r WHERE y = 1 AND x = 1", b"{\"x\":1}", Truth::Undefined),
-        ("SELECT * FROM /r WHERE y = 1 OR x = 2", b"{\"x\":1}", Truth::Undefined),
-        ("SELECT * FROM /r WHERE NOT (x = 2 OR x = 3)", b"{\"x\":1}", Truth::Holds),
-        ("SELECT * FROM /r WHERE x LIKE 'a_%'", b"{\"x\":\"ab\"}", Truth::Holds),
-        ("SELECT * FROM /r WHERE x LIKE 'a_%'", b"{\"x\":\"a\"}", Truth::Fails),
-        ("SELECT * FROM /r WHERE x LIKE 'a_%'", b"{\"x\":1}", Truth::Undefined),
+        (
+            "SELECT * FROM /r WHERE NOT y = 1 OR x = 1",
+            b"{\"x\":1}",
+            Truth::Holds,
+        ),
+        (
+            "SELECT * FROM /r WHERE y = 1 AND x = 2",
+            b"{\"x\":1}",
+            Truth::Fails,
+        ),
+        (
+            "SELECT * FROM /r WHERE y = 1 AND x = 1",
+            b"{\"x\":1}",
+            Truth::Undefined,
+        ),
+        (
+            "SELECT * FROM /r WHERE y = 1 OR x = 2",
+            b"{\"x\":1}",
+            Truth::Undefined,
+        ),
+        (
+            "SELECT * FROM /r WHERE NOT (x = 2 OR x = 3)",
+            b"{\"x\":1}",
+            Truth::Holds,
+        ),
+        (
+            "SELECT * FROM /r WHERE x LIKE 'a_%'",
+            b"{\"x\":\"ab\"}",
+            Truth::Holds,
+        ),
+        (
+            "SELECT * FROM /r WHERE x LIKE 'a_%'",
+            b"{\"x\":\"a\"}",
+            Truth::Fails,
+        ),
+        (
+            "SELECT * FROM /r WHERE x LIKE 'a_%'",
+            b"{\"x\":1}",
+            Truth::Undefined,
+        ),
         ("SELECT * FROM /r WHERE x LIKE '%'", b"{}", Truth::Undefined),
-        ("SELECT * FROM /r WHERE x LIKE '_'", b"{\"x\":\"\\u20ac\"}", Truth::Holds),
-        ("SELECT * FROM /r WHERE x = 'it''s'", b"{\"x\":\"it's\"}", Truth::Holds),
-        ("SELECT * FROM /r WHERE x = NULL", b"{\"x\":1}", Truth::Fails),
-        ("SELECT * FROM /r WHERE x < NULL", b"{\"x\":1}", Truth::Undefined),
-        ("SELECT * FROM /r WHERE x IN SET(1, 'a')", b"{\"x\":2}", Truth::Undefined),
-        ("SELECT * FROM /r WHERE x IN SET('a', 2)", b"{\"x\":2}", Truth::Holds),
-        ("SELECT * FROM /r WHERE x IN SET(1, NULL)", b"{\"x\":2}", Truth::Fails),
-        ("SELECT * FROM /r WHERE IS_DEFINED(x)", b"{\"x\":null}", Truth::Holds),
-        ("SELECT * FROM /r WHERE IS_UNDEFINED(x)", b"{\"x\":null}", Truth::Fails),
+        (
+            "SELECT * FROM /r WHERE x LIKE '_'",
+            b"{\"x\":\"\\u20ac\"}",
+            Truth::Holds,
+        ),
+        (
+            "SELECT * FROM /r WHERE x = 'it''s'",
+            b"{\"x\":\"it's\"}",
+            Truth::Holds,
+        ),
+        (
+            "SELECT * FROM /r WHERE x = NULL",
+            b"{\"x\":1}",
+            Truth::Fails,
+        ),
+        (
+            "SELECT * FROM /r WHERE x < NULL",
+            b"{\"x\":1}",
+            Truth::Undefined,
+        ),
+        (
+            "SELECT * FROM /r WHERE x IN SET(1, 'a')",
+            b"{\"x\":2}",
+            Truth::Undefined,
+        ),
+        (
+            "SELECT * FROM /r WHERE x IN SET('a', 2)",
+            b"{\"x\":2}",
+            Truth::Holds,
+        ),
+        (
+            "SELECT * FROM /r WHERE x IN SET(1, NULL)",
+            b"{\"x\":2}",
+            Truth::Fails,
+        ),
+        (
+            "SELECT * FROM /r WHERE IS_DEFINED(x)",
+            b"{\"x\":null}",
+            Truth::Holds,
+        ),
+        (
+            "SELECT * FROM /r WHERE IS_UNDEFINED(x)",
+            b"{\"x\":null}",
+            Truth::Fails,
+        ),
         (
             "select * from /r r where r.x in set(1,2) and is_defined(r.y)",
             b"{\"x\":2,\"y\":null}",
@@ -157,12 +225,27 @@ fn changes_give_events(rt: HostRuntime) -> Result<(), Fail> {
     let alloc = rt.alloc();
     let query = Query::parse(alloc, "SELECT * FROM /r WHERE x > 1")?;
     let key = Key::read(alloc, b"k")?;
-    let (low, high) = (Value::read(alloc, b"{\"x\":1}")?, Value::read(alloc, b"{\"x\":2}")?);
+    let (low, high) = (
+        Value::read(alloc, b"{\"x\":1}")?,
+        Value::read(alloc, b"{\"x\":2}")?,
+    );
     let rows = [
         (None, Some(&high), Some((QueryOp::Create, BaseOp::Create))),
-        (Some(&low), Some(&high), Some((QueryOp::Create, BaseOp::Update))),
-        (Some(&high), Some(&high), Some((QueryOp::Update, BaseOp::Update))),
-        (Some(&high), Some(&low), Some((QueryOp::Destroy, BaseOp::Update))),
+        (
+            Some(&low),
+            Some(&high),
+            Some((QueryOp::Create, BaseOp::Update)),
+        ),
+        (
+            Some(&high),
+            Some(&high),
+            Some((QueryOp::Update, BaseOp::Update)),
+        ),
+        (
+            Some(&high),
+            Some(&low),
+            Some((QueryOp::Destroy, BaseOp::Update)),
+        ),
         (Some(&high), None, Some((QueryOp::Destroy, BaseOp::Destroy))),
         (Some(&low), None, None),
         (None, Some(&low), None),
