@@ -108,4 +108,4 @@ IsWhere alias (Some c) ts = (One (is_keyword word.Where) then IsCondition alias 
 abbrev pub IsQuery : Asked → List Terminal → Type 0
 IsQuery q ts =
     (One (is_keyword word.Select) then One (is_symbol symbols.Star) then One (is_keyword word.From) then One (is_symbol symbols.Slash)
-    then IsRegion q.region then IsAlias q.alias then IsWhere q.alias q.condition) ts
+      then IsRegion q.region then IsAlias q.alias then IsWhere q.alias q.condition) ts
