@@ -4,3 +4,4 @@ pub mod Quotes
 pub mod Rows
 pub mod Trees
 pub mod Sound
+pub mod SoundQuery

@@ -90,7 +90,7 @@ word_sound part ts None w left is read = absurd (cc)
 word_sound part ts (Some v) w left is read =
     subst (λ (u : List ℕ). Front (Is part u) ts left) (value_is read) (subst (Front (Is part v) ts) (left_is read) (one_has part v ts (sym is)))
 
-name_sound : Sound (Is as_name) name_at
+pub name_sound : Sound (Is as_name) name_at
 name_sound ts w left read = word_sound as_name ts _ w left refl read
 
 -- fields, literals and operands
@@ -151,7 +151,7 @@ plain_sound ts None (Some text) x left is quoted_is read =
 plain_sound ts None None x left is quoted_is read = absurd (cc)
 
 -- a terminal that stands for a value
-fixed_sound : {A : Type 0} (Spells : A → List Terminal → Type 0) (passes : Terminal → Bool) (v x : A) (ts left : List Terminal) → begins passes ts ≡ true → ((l : List Terminal) → One passes l → Spells v l) → ◌≡◌ {A = Reading A} (Ok (v, rest ts)) (Ok (x, left)) → Front (Spells x) ts left
+pub fixed_sound : {A : Type 0} (Spells : A → List Terminal → Type 0) (passes : Terminal → Bool) (v x : A) (ts left : List Terminal) → begins passes ts ≡ true → ((l : List Terminal) → One passes l → Spells v l) → ◌≡◌ {A = Reading A} (Ok (v, rest ts)) (Ok (x, left)) → Front (Spells x) ts left
 fixed_sound {A} Spells passes v x ts left is turns read =
     subst (λ (y : A). Front (Spells y) ts left) (value_is read) (subst (Front (Spells v) ts) (left_is read) (weaker (One passes) (Spells v) ts (rest ts) turns (one_begins passes ts is)))
 
