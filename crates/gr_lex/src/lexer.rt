@@ -1,7 +1,8 @@
-ghost use Rattle.std.specs.Prelude.{◌≡◌, ◌+◌, ◌<◌, ◌^◌, length, slice_index, IfOk};
+ghost use Rattle.std.specs.Prelude.{◌≡◌, ◌+◌, ◌<◌, ◌^◌, length, slice_index, IfOk, All};
 ghost use Rattle.gr_lex.specs.Bytes.{symbol_of};
 ghost use Rattle.std.specs.List.{AllPass};
 ghost use Rattle.std.specs.Char.{is_ascii_digit};
+ghost use Rattle.gr_lex.specs.Layout.{IsToken, IsLaidOut};
 ghost use Rattle.gr_lex.specs.Reading.{spanning, number_at, quoted_at, symbol_at, quoted_len, token_at, tokens_of, Gives, Spans};
 
 use crate::bytes::{QUOTE, is_blank, is_letter, symbol_len, symbol_of};
@@ -10,7 +11,16 @@ use crate::{LexFault, Token, TokenKind, TokenList};
 use std::alloc::Global;
 
 /// The tokens of a text. The time that it takes grows as the text does.
+#[tactic(auto, using(crate::proofs::Laid::laid_from_gives, crate::proofs::Laid::each_from_gives))]
 pub fn tokens(alloc: Global, text: &str) -> Result<TokenList, LexFault>
+    ensures exact { Gives result (tokens_of text.now) }
+    ensures laid_out { IfOk result (λ ts. IsLaidOut text.now 0 ts) }
+    ensures each { IfOk result (λ ts. All (IsToken text.now) ts) }
+{
+    tokens_in_turn(alloc, text)
+}
+
+fn tokens_in_turn(alloc: Global, text: &str) -> Result<TokenList, LexFault>
     ensures { Gives result (tokens_of text.now) }
 {
     let bytes = text.as_bytes();

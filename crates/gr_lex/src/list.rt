@@ -66,4 +66,13 @@ impl TokenList {
     {
         self.entries.as_slice()
     }
+
+    pub fn copy(&self, alloc: Global) -> Result<TokenList, LexFault>
+        ensures ok { IfOk result (λ copy. copy ≡ self.now) }
+        ensures err { IfErr result (λ fault. fault ≡ Memory) }
+    {
+        Ok(TokenList {
+            entries: Vec::from_slice(alloc, self.entries.as_slice())?,
+        })
+    }
 }

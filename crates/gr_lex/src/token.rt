@@ -1,3 +1,8 @@
+ghost use Rattle.std.specs.Prelude.{◌≡◌, ◌++◌, ◌∷◌, []};
+ghost use Rattle.gr_lex.specs.declared.token.TokenKind.TheVariants as kind;
+ghost use Rattle.gr_lex.specs.Bytes.{quote};
+ghost use Rattle.gr_lex.specs.Layout.{IsToken, bytes_of};
+
 /// The symbols of a query.
 #[derive(Clone, Copy, Debug, PartialEq, Eq)]
 pub enum Symbol {
@@ -33,4 +38,23 @@ pub struct Token {
     pub kind: TokenKind,
     pub start: u64,
     pub end: u64,
+}
+
+impl Token {
+    /// The token's own bytes in its text.
+    pub fn text<'a>(&self, text: &'a str) -> &'a str
+        requires { IsToken text.now self.now }
+        ensures { result.now ≡ bytes_of text.now self.now }
+    {
+        &text[self.start as usize..self.end as usize]
+    }
+
+    /// What stands between a quoted text's outer quotes, with each quote in it still doubled.
+    pub fn inside<'a>(&self, text: &'a str) -> &'a str
+        requires of { IsToken text.now self.now }
+        requires quoted { self.now.kind ≡ kind.Quoted }
+        ensures { bytes_of text.now self.now ≡ quote ∷ (result.now ++ quote ∷ []) }
+    {
+        &text[self.start as usize + 1..self.end as usize - 1]
+    }
 }

@@ -1,0 +1,7 @@
+mod LikeLemmas
+pub mod EventLemmas
+pub mod Quotes
+pub mod Rows
+pub mod Trees
+pub mod Sound
+pub mod SoundQuery

@@ -2,3 +2,16 @@ pub mod Tree
 pub mod View
 pub mod Code
 pub mod Question
+pub mod Events
+pub mod Like
+pub mod Matching
+pub mod Truth
+pub mod Walk
+pub mod Words
+pub mod Terminals
+pub mod Lexemes
+pub mod Reading
+pub mod Gives
+pub mod Sources
+pub mod Faults
+pub mod Grammar

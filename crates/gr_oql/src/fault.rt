@@ -23,3 +23,36 @@ pub enum OqlFault {
     TooDeep(u64),
     Memory,
 }
+
+impl From<Memory> for OqlFault {
+    ghost use Rattle.std.specs.Prelude.{◌≡◌};
+    ghost use Rattle.gr_oql.specs.declared.fault.OqlFault.TheVariants as oql_fault;
+
+    ghost from_gives = { λ _ fault. fault ≡ oql_fault.Memory };
+
+    fn from(_: Memory) -> OqlFault {
+        OqlFault::Memory
+    }
+}
+
+impl From<AllocError> for OqlFault {
+    ghost use Rattle.std.specs.Prelude.{◌≡◌};
+    ghost use Rattle.gr_oql.specs.declared.fault.OqlFault.TheVariants as oql_fault;
+
+    ghost from_gives = { λ _ fault. fault ≡ oql_fault.Memory };
+
+    fn from(_: AllocError) -> OqlFault {
+        OqlFault::Memory
+    }
+}
+
+impl<T: Drop> From<AllocFailed<T>> for OqlFault {
+    ghost use Rattle.std.specs.Prelude.{◌≡◌};
+    ghost use Rattle.gr_oql.specs.declared.fault.OqlFault.TheVariants as oql_fault;
+
+    ghost from_gives = { λ _ fault. fault ≡ oql_fault.Memory };
+
+    fn from(_: AllocFailed<T>) -> OqlFault {
+        OqlFault::Memory
+    }
+}

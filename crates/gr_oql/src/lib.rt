@@ -1,10 +1,28 @@
-//! Queries: their text, and what it asks for.
+//! Queries: their text, what it asks for, of which values it holds, and what they tell of changes.
 #![tactic(auto)]
 
+mod clauses;
+mod comparisons;
 mod condition;
+mod conditions;
+mod cursor;
+mod event;
 mod fault;
+mod keyword;
+mod lexeme;
+mod like;
+mod matching;
 mod query;
+mod stop;
+mod terms;
+#[cfg(test)]
+mod tests;
+mod truth;
+#[cfg(test)]
+mod truth_tests;
 
 pub use condition::{Condition, Operand, Relation, Test};
+pub use event::{BaseOp, Event, EventList, QueryOp, classify};
 pub use fault::{OqlFault, Part};
 pub use query::Query;
+pub use truth::Truth;

@@ -1,12 +1,30 @@
-use crate::Condition;
-use gr_value::{Key, Text};
+ghost use Rattle.std.specs.Prelude.{◌≡◌, ◌≤◌, length, drop, IfOk, IfErr, All, List, ℕ, option_map};
+ghost use Rattle.gr_oql.specs.Faults.{place_of, named, fault_of, question_of, answer, is_greatest, Answers};
+ghost use Rattle.gr_oql.specs.Reading.{query_at};
+ghost use Rattle.gr_oql.specs.Terminals.{terminals_of};
+ghost use Rattle.gr_oql.specs.View.{tree_of};
+ghost use Rattle.gr_lex.specs.Layout.{IsToken};
+ghost use Rattle.gr_oql.specs.Sources.{asked};
+ghost use Rattle.gr_oql.specs.declared.fault.OqlFault.TheVariants as oql_fault;
+
+use crate::clauses::{Source, query};
+use crate::cursor::Cursor;
+use crate::lexeme::lexemes;
+use crate::stop::{Stop, Wrong};
+use crate::{Condition, OqlFault};
+use gr_lex::{LexFault, Token, tokens};
+use gr_value::{Copied, Key, Memory, Text};
+use std::alloc::Global;
 use std::marker::Model;
 use std::sync::Arc;
+
+/// The whole number that is too large without a sign before it.
+const GREATEST_NUMBER: u64 = 9223372036854775808;
 
 /// A query. Its parts are shared by its copies.
 #[derive(Drop)]
 pub struct Query {
-    parts: Arc<Parts>,
+    pub(crate) parts: Arc<Parts>,
 }
 
 #[derive(Drop)]
@@ -32,4 +50,109 @@ impl Model for Query {
       alias = q.parts.value.alias;
       condition = option_map tree_of q.parts.value.condition;
     } };
+}
+
+/// The first byte of the first of the tokens, or the end of the text.
+fn place_of(text: &str, tokens: &[Token]) -> u64
+    ensures { result ≡ place_of text.now tokens.now }
+{
+    match tokens.first() {
+        Some(token) => token.start,
+        None => text.len() as u64,
+    }
+}
+
+fn named(wrong: Wrong, place: u64) -> OqlFault
+    ensures { result ≡ named wrong place }
+{
+    match wrong {
+        Wrong::Expected => OqlFault::Expected(place),
+        Wrong::NotACq(part) => OqlFault::NotACq(place, part),
+        Wrong::TooDeep => OqlFault::TooDeep(place),
+    }
+}
+
+fn is_greatest(number: Option<u64>) -> bool
+    ensures { result ≡ is_greatest number }
+{
+    match number {
+        Some(number) => number == GREATEST_NUMBER,
+        None => false,
+    }
+}
+
+/// The fault of a text whose tokens cease to begin a query where the cursor stands.
+fn fault_of(text: &str, tokens: &[Token], left: &Cursor, wrong: Wrong) -> OqlFault
+    requires { length left.now ≤ length tokens.now }
+    ensures { result ≡ fault_of text.now tokens.now wrong left.now }
+{
+    let place = place_of(text, &tokens[tokens.len() - left.len()..]);
+    if is_greatest(left.number()) {
+        OqlFault::Lex(LexFault::NumberTooLarge(place))
+    } else {
+        named(wrong, place)
+    }
+}
+
+fn query_of(alloc: Global, text: &str, source: Source) -> Result<Query, OqlFault>
+    ensures ok { IfOk result (λ q. q ≡ record { text = text.now; region = source.region; alias = source.alias; condition = option_map tree_of source.condition }) }
+    ensures err { IfErr result (λ fault. fault ≡ oql_fault.Memory) }
+{
+    let parts = Parts {
+        text: Text::new(alloc, text)?,
+        region: source.region,
+        alias: source.alias,
+        condition: source.condition,
+    };
+    Ok(Query {
+        parts: Arc::new(alloc, parts)?,
+    })
+}
+
+/// What the tokens of a text ask.
+fn asked_by(alloc: Global, text: &str, tokens: &[Token]) -> Result<Query, OqlFault>
+    requires { All (IsToken text.now) tokens.now }
+    ensures { Answers result (answer text.now tokens.now (query_at (terminals_of text.now tokens.now))) }
+{
+    let lexemes = lexemes(alloc, text, tokens)?;
+    let mut cursor = Cursor::new(&lexemes);
+    match query(&mut cursor, alloc) {
+        Ok(source) => query_of(alloc, text, source),
+        Err(Stop::Memory) => Err(OqlFault::Memory),
+        Err(Stop::Wrong(wrong)) => Err(fault_of(text, tokens, &cursor, wrong)),
+    }
+}
+
+impl Query {
+    /// Reads a query. A fault of its tokens comes before any other.
+    pub fn parse(alloc: Global, text: &str) -> Result<Query, OqlFault>
+        ensures { Answers result (question_of text.now) }
+    {
+        match tokens(alloc, text) {
+            Ok(tokens) => asked_by(alloc, text, tokens.as_slice()),
+            Err(LexFault::Memory) => Err(OqlFault::Memory),
+            Err(fault) => Err(OqlFault::Lex(fault)),
+        }
+    }
+
+    /// The region's name, with a slash before it.
+    pub fn region(&self) -> &Key
+        ensures { result.now ≡ self.now.region }
+    {
+        &self.parts.region
+    }
+
+    pub fn text(&self) -> &str
+        ensures { result.now ≡ self.now.text }
+    {
+        self.parts.text.as_str()
+    }
+}
+
+impl Copied for Query {
+    fn copy(&self, _: Global) -> Result<Query, Memory> {
+        Ok(Query {
+            parts: Arc::try_clone(&self.parts)?,
+        })
+    }
 }

@@ -1,7 +1,7 @@
 use Rattle.std.proofs.Common.{sym, ap, ◌∙◌, arith}
 use Rattle.std.proofs.lemmas.Result.{err_from_is_err_and}
 use Rattle.gr_lex.proofs.InTurn.{behind, behind_pushed, tokens_from_blank, tokens_from_fault, tokens_from_token, gives_fault, ends_within}
-use Rattle.gr_lex.proofs.lexer.tokens.Goals as goal
+use Rattle.gr_lex.proofs.lexer.tokens_in_turn.Goals as goal
 
 pub loop-at-preserved-then-is_blank : goal.loop-at-preserved-then-is_blank
 loop-at-preserved-then-is_blank c = record {

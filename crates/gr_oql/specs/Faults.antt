@@ -1,0 +1,57 @@
+-- What a text asks, or its fault and where it is.
+use Rattle.std.specs.Prelude.{◌≡◌, ℕ, ◌-◌, ◌^◌, List, [], ◌∷◌, length, drop, Bool, false, ◌==◌, if◌then◌else◌, Option, Some, None, Result, Ok, Err}
+use Rattle.gr_lex.specs.declared.token.Token.{Token}
+use Rattle.gr_lex.specs.declared.fault.LexFault.{LexFault}
+use Rattle.gr_lex.specs.declared.fault.LexFault.TheVariants as lex
+use Rattle.gr_lex.specs.Reading.{tokens_of}
+use Rattle.gr_oql.specs.declared.fault.OqlFault.{OqlFault}
+use Rattle.gr_oql.specs.declared.fault.OqlFault.TheVariants as fault
+use Rattle.gr_oql.specs.declared.stop.Wrong.{Wrong}
+use Rattle.gr_oql.specs.declared.stop.Wrong.TheVariants as wrong
+use Rattle.gr_oql.specs.Question.{Question}
+use Rattle.gr_oql.specs.Terminals.{Terminal, terminals_of, front, as_number}
+use Rattle.gr_oql.specs.Reading.{Reading, Asked, query_at}
+
+-- the first byte of the first token, or the end of the text
+abbrev pub place_of : List ℕ → List Token → ℕ
+place_of text [] = length text
+place_of text (t ∷ ts) = t.start
+
+-- 2 ^ 63, which is a whole number behind a sign alone
+abbrev pub is_greatest : Option ℕ → Bool
+is_greatest None = false
+is_greatest (Some n) = n == 2 ^ 63
+
+abbrev pub named : Wrong → ℕ → OqlFault
+named wrong.Expected place = fault.Expected place
+named (wrong.NotACq part) place = fault.NotACq place part
+named wrong.TooDeep place = fault.TooDeep place
+
+-- A number that would be right behind a sign is too large wherever the tokens cease to begin a query with it.
+abbrev pub fault_of : List ℕ → List Token → Wrong → List Terminal → OqlFault
+fault_of text tokens w left =
+    let place = place_of text (drop (length tokens - length left) tokens) in
+    if is_greatest (front as_number left) then fault.Lex (lex.NumberTooLarge place) else named w place
+
+abbrev pub answer : List ℕ → List Token → Reading Asked → Result Question OqlFault
+answer text tokens (Ok x) = Ok (record { text = text; region = x.0.region; alias = x.0.alias; condition = x.0.condition })
+answer text tokens (Err e) = Err (fault_of text tokens e.0 e.1)
+
+abbrev pub answer_of_tokens : List ℕ → Result (List Token) LexFault → Result Question OqlFault
+answer_of_tokens text (Ok tokens) = answer text tokens (query_at (terminals_of text tokens))
+answer_of_tokens text (Err f) = Err (fault.Lex f)
+
+abbrev pub question_of : List ℕ → Result Question OqlFault
+question_of text = answer_of_tokens text (tokens_of text)
+
+-- What was answered is what the text asks, unless memory ran out. That is never the fault of a token.
+abbrev pub Answers : Result Question OqlFault → Result Question OqlFault → Type 0
+Answers (Ok q) read = read ≡ Ok q
+Answers (Err fault.Memory) read = Unit {0}
+Answers (Err (fault.Lex lex.Memory)) read = ⊥
+Answers (Err (fault.Lex (lex.BadCharacter place))) read = read ≡ Err (fault.Lex (lex.BadCharacter place))
+Answers (Err (fault.Lex (lex.OpenText place))) read = read ≡ Err (fault.Lex (lex.OpenText place))
+Answers (Err (fault.Lex (lex.NumberTooLarge place))) read = read ≡ Err (fault.Lex (lex.NumberTooLarge place))
+Answers (Err (fault.Expected place)) read = read ≡ Err (fault.Expected place)
+Answers (Err (fault.NotACq place part)) read = read ≡ Err (fault.NotACq place part)
+Answers (Err (fault.TooDeep place)) read = read ≡ Err (fault.TooDeep place)

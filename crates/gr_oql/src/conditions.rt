@@ -1,0 +1,126 @@
+//! Conditions: tests under AND, OR, NOT and brackets.
+
+ghost use Rattle.std.specs.Prelude.{◌≡◌, ◌≤◌, length, option_map};
+ghost use Rattle.gr_oql.specs.View.{tree_of};
+ghost use Rattle.gr_oql.specs.Gives.{Gives};
+ghost use Rattle.gr_oql.specs.Reading.{all_at, any_at, bracket_at, part_at, condition_at, read_as, test_at};
+ghost use Rattle.gr_oql.specs.Tree.{test};
+
+use crate::Condition;
+use crate::comparisons::test;
+use crate::cursor::Cursor;
+use crate::keyword::Keyword;
+use crate::stop::{Stop, Wrong};
+use crate::terms::symbol_due;
+use gr_lex::Symbol;
+use std::alloc::Global;
+
+/// The most brackets and NOTs around one condition.
+const MOST_DEPTH: u32 = 64;
+
+/// A test as a condition.
+fn tested(cursor: &mut Cursor, alloc: Global, alias: Option<&str>) -> Result<Condition, Stop>
+    ensures exact { Gives tree_of result cursor.new (read_as test (test_at (option_map (λ a. a.now) alias.entry) cursor.old)) }
+    ensures within { length cursor.new ≤ length cursor.old }
+{
+    let test = test(cursor, alloc, alias)?;
+    Ok(Condition::Test(test))
+}
+
+/// One part of an AND, inside which so many brackets and NOTs may still be opened.
+#[tactic(auto, using(crate::proofs::Trees::part_at_test))]
+#[cycle(conditions)]
+fn part(
+    cursor: &mut Cursor,
+    alloc: Global,
+    alias: Option<&str>,
+    depth: u32,
+) -> Result<Condition, Stop>
+    ensures exact { Gives tree_of result cursor.new (part_at (option_map (λ a. a.now) alias.entry) depth cursor.old) }
+    ensures within { length cursor.new ≤ length cursor.old }
+{
+    if depth == 0 {
+        if cursor.is_keyword(Keyword::Not) || cursor.is_symbol(Symbol::LeftBracket) {
+            Err(Stop::Wrong(Wrong::TooDeep))
+        } else {
+            tested(cursor, alloc, alias)
+        }
+    } else if cursor.takes_keyword(Keyword::Not) {
+        let negated = part(cursor, alloc, alias, depth - 1)?;
+        Ok(Condition::Not(Box::new(alloc, negated)?))
+    } else if cursor.takes_symbol(Symbol::LeftBracket) {
+        bracket(cursor, alloc, alias, depth - 1)
+    } else {
+        tested(cursor, alloc, alias)
+    }
+}
+
+/// What stands in brackets, and the bracket that ends it.
+#[cycle(conditions)]
+fn bracket(
+    cursor: &mut Cursor,
+    alloc: Global,
+    alias: Option<&str>,
+    depth: u32,
+) -> Result<Condition, Stop>
+    ensures exact { Gives tree_of result cursor.new (bracket_at (part_at (option_map (λ a. a.now) alias.entry) depth) cursor.old) }
+    ensures within { length cursor.new ≤ length cursor.old }
+{
+    let condition = any(cursor, alloc, alias, depth)?;
+    symbol_due(cursor, Symbol::RightBracket)?;
+    Ok(condition)
+}
+
+/// Parts with AND between them.
+#[cycle(conditions)]
+fn all(
+    cursor: &mut Cursor,
+    alloc: Global,
+    alias: Option<&str>,
+    depth: u32,
+) -> Result<Condition, Stop>
+    ensures exact { Gives tree_of result cursor.new (all_at (part_at (option_map (λ a. a.now) alias.entry) depth) cursor.old) }
+    ensures within { length cursor.new ≤ length cursor.old }
+{
+    let mut parts = Vec::new(alloc);
+    let first = part(cursor, alloc, alias, depth)?;
+    parts.push(first)?;
+    'parts: while cursor.takes_keyword(Keyword::And) {
+        let next = part(cursor, alloc, alias, depth)?;
+        parts.push(next)?;
+    }
+    Ok(Condition::All(parts))
+}
+
+/// Conditions with OR between them.
+#[cycle(conditions)]
+fn any(
+    cursor: &mut Cursor,
+    alloc: Global,
+    alias: Option<&str>,
+    depth: u32,
+) -> Result<Condition, Stop>
+    ensures exact { Gives tree_of result cursor.new (any_at (part_at (option_map (λ a. a.now) alias.entry) depth) cursor.old) }
+    ensures within { length cursor.new ≤ length cursor.old }
+{
+    let mut parts = Vec::new(alloc);
+    let first = all(cursor, alloc, alias, depth)?;
+    parts.push(first)?;
+    'parts: while cursor.takes_keyword(Keyword::Or) {
+        let next = all(cursor, alloc, alias, depth)?;
+        parts.push(next)?;
+    }
+    Ok(Condition::Any(parts))
+}
+
+#[tactic(auto, unfolding(crate::specs::Reading::condition_at))]
+pub(crate) fn condition(
+    cursor: &mut Cursor,
+    alloc: Global,
+    alias: Option<&str>,
+) -> Result<Condition, Stop>
+    ensures exact { Gives tree_of result cursor.new (condition_at (option_map (λ a. a.now) alias.entry) cursor.old) }
+    ensures within { length cursor.new ≤ length cursor.old }
+{
+    any(cursor, alloc, alias, MOST_DEPTH)
+}

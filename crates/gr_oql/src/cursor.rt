@@ -1,0 +1,141 @@
+ghost use Rattle.std.specs.Prelude.{◌≡◌, ◌<◌, ◌≤◌, length, if◌then◌else◌, option_map};
+ghost use Rattle.std.specs.Bool.{OnTrue};
+ghost use Rattle.gr_oql.specs.Lexemes.{terminals};
+ghost use Rattle.gr_oql.specs.Terminals.{symbol_eq, is_symbol, is_keyword, begins, front, rest, as_name, as_word, as_number, as_quoted, undoubled};
+
+use crate::keyword::Keyword;
+use crate::lexeme::Lexeme;
+use gr_lex::Symbol;
+use std::marker::Model;
+
+/// What is left of a query's tokens. Contracts see it as their list.
+#[derive(Drop)]
+pub(crate) struct Cursor<'a> {
+    left: &'a [Lexeme<'a>],
+}
+
+impl<'a> Model for Cursor<'a> {
+    ghost use Rattle.std.specs.Prelude.{List};
+    ghost use Rattle.gr_oql.specs.Terminals.{Terminal};
+    ghost use Rattle.gr_oql.specs.Lexemes.{terminals};
+
+    ghost Value = { List Terminal };
+
+    ghost view = { λ cursor. terminals cursor.left.now };
+}
+
+fn same_symbol(one: Symbol, other: Symbol) -> bool
+    ensures { result ≡ symbol_eq one other }
+{
+    one == other
+}
+
+impl<'a> Cursor<'a> {
+    pub(crate) fn new(left: &'a [Lexeme<'a>]) -> Cursor<'a>
+        ensures { result ≡ terminals left.now }
+    {
+        Cursor { left }
+    }
+
+    /// How many tokens are left.
+    pub(crate) fn len(&self) -> usize
+        ensures { result ≡ length self.now }
+    {
+        self.left.len()
+    }
+
+    pub(crate) fn is_symbol(&self, symbol: Symbol) -> bool
+        ensures { result ≡ begins (is_symbol symbol) self.now }
+    {
+        match self.left.first() {
+            Some(Lexeme::Symbol(other)) => same_symbol(*other, symbol),
+            _ => false,
+        }
+    }
+
+    pub(crate) fn is_keyword(&self, keyword: Keyword) -> bool
+        ensures { result ≡ begins (is_keyword keyword) self.now }
+    {
+        match self.left.first() {
+            Some(Lexeme::Keyword(other, _)) => other.is(keyword),
+            _ => false,
+        }
+    }
+
+    pub(crate) fn name(&self) -> Option<&'a str>
+        ensures { option_map (λ word. word.now) result ≡ front as_name self.now }
+    {
+        match self.left.first() {
+            Some(Lexeme::Name(word)) => Some(word),
+            _ => None,
+        }
+    }
+
+    /// A name or a keyword.
+    pub(crate) fn word(&self) -> Option<&'a str>
+        ensures { option_map (λ word. word.now) result ≡ front as_word self.now }
+    {
+        match self.left.first() {
+            Some(Lexeme::Name(word)) => Some(word),
+            Some(Lexeme::Keyword(_, word)) => Some(word),
+            _ => None,
+        }
+    }
+
+    pub(crate) fn number(&self) -> Option<u64>
+        ensures { result ≡ front as_number self.now }
+    {
+        match self.left.first() {
+            Some(Lexeme::Number(number)) => Some(*number),
+            _ => None,
+        }
+    }
+
+    /// A quoted text, with each quote in it still doubled.
+    pub(crate) fn quoted(&self) -> Option<&'a str>
+        ensures { option_map (λ text. undoubled text.now) result ≡ front as_quoted self.now }
+    {
+        match self.left.first() {
+            Some(Lexeme::Quoted(text)) => Some(text),
+            _ => None,
+        }
+    }
+
+    /// Passes one token, where one is left.
+    pub(crate) fn advance(&mut self)
+        ensures after { self.new ≡ rest self.old }
+        ensures within { length self.new ≤ length self.old }
+    {
+        if !self.left.is_empty() {
+            self.left = &self.left[1..];
+        }
+    }
+
+    /// Passes the symbol, where it is the next token.
+    pub(crate) fn takes_symbol(&mut self, symbol: Symbol) -> bool
+        ensures test { result ≡ begins (is_symbol symbol) self.old }
+        ensures after { self.new ≡ (if result then rest self.old else self.old) }
+        ensures within { length self.new ≤ length self.old }
+        ensures shorter { OnTrue result (length self.new < length self.old) }
+    {
+        let found = self.is_symbol(symbol);
+        if found {
+            self.advance();
+        }
+        found
+    }
+
+    /// Passes the keyword, where it is the next token.
+    pub(crate) fn takes_keyword(&mut self, keyword: Keyword) -> bool
+        ensures test { result ≡ begins (is_keyword keyword) self.old }
+        ensures after { self.new ≡ (if result then rest self.old else self.old) }
+        ensures within { length self.new ≤ length self.old }
+        ensures shorter { OnTrue result (length self.new < length self.old) }
+    {
+        let found = self.is_keyword(keyword);
+        if found {
+            self.advance();
+        }
+        found
+    }
+}

@@ -1,0 +1,108 @@
+ghost use Rattle.std.specs.Prelude.{◌≡◌, IfOk};
+ghost use Rattle.std.specs.Option.{option_copied};
+ghost use Rattle.gr_oql.specs.Events.{is_match, query_op, classify, base_op, event_of};
+
+use crate::{Query, Truth};
+use gr_value::{Copied, ItemList, Key, Memory, Value};
+use std::alloc::Global;
+
+/// What a change is to a query.
+#[derive(Clone, Copy, Debug, PartialEq, Eq)]
+pub enum QueryOp {
+    Create,
+    Update,
+    Destroy,
+}
+
+/// What a change is to the region.
+#[derive(Clone, Copy, Debug, PartialEq, Eq)]
+pub enum BaseOp {
+    Create,
+    Update,
+    Destroy,
+}
+
+/// What a query tells of a change. The value is the new one, absent where there is none.
+#[derive(Drop)]
+pub struct Event {
+    pub op: QueryOp,
+    pub base: BaseOp,
+    pub key: Key,
+    pub value: Option<Value>,
+}
+
+pub type EventList = ItemList<Event>;
+
+impl Event {
+    /// What a query tells where a key has had the old value and has the new one, of which one is there.
+    pub fn of(
+        alloc: Global,
+        query: &Query,
+        key: &Key,
+        old: Option<&Value>,
+        new: Option<&Value>,
+    ) -> Result<Option<Event>, Memory>
+        ensures { IfOk result (λ event. event ≡ event_of query.now key.now (option_copied old.entry) (option_copied new.entry)) }
+    {
+        let Some(op) = classify(query, old, new) else {
+            return Ok(None);
+        };
+        Ok(Some(Event {
+            op,
+            base: base_op(old, new),
+            key: key.copy(alloc)?,
+            value: copied(alloc, new)?,
+        }))
+    }
+}
+
+impl Copied for Event {
+    fn copy(&self, alloc: Global) -> Result<Event, Memory> {
+        Ok(Event {
+            op: self.op,
+            base: self.base,
+            key: self.key.copy(alloc)?,
+            value: copied(alloc, self.value.as_ref())?,
+        })
+    }
+}
+
+fn copied(alloc: Global, value: Option<&Value>) -> Result<Option<Value>, Memory>
+    ensures { IfOk result (λ copy. copy ≡ option_copied value.entry) }
+{
+    match value {
+        None => Ok(None),
+        Some(value) => Ok(Some(value.copy(alloc)?)),
+    }
+}
+
+fn base_op(old: Option<&Value>, new: Option<&Value>) -> BaseOp
+    ensures { result ≡ base_op (option_copied old.entry) (option_copied new.entry) }
+{
+    match (old, new) {
+        (None, Some(_)) => BaseOp::Create,
+        (Some(_), Some(_)) => BaseOp::Update,
+        (_, None) => BaseOp::Destroy,
+    }
+}
+
+fn is_match(query: &Query, value: Option<&Value>) -> bool
+    ensures { result ≡ is_match query.now (option_copied value.entry) }
+{
+    match value {
+        None => false,
+        Some(value) => query.matches(value) == Truth::Holds,
+    }
+}
+
+/// What a change is to a query, by its old and new value.
+pub fn classify(query: &Query, old: Option<&Value>, new: Option<&Value>) -> Option<QueryOp>
+    ensures { result ≡ classify query.now (option_copied old.entry) (option_copied new.entry) }
+{
+    match (is_match(query, old), is_match(query, new)) {
+        (false, true) => Some(QueryOp::Create),
+        (true, true) => Some(QueryOp::Update),
+        (true, false) => Some(QueryOp::Destroy),
+        (false, false) => None,
+    }
+}
