@@ -3,3 +3,4 @@ pub mod Rows
 pub mod Trees
 pub mod Sound
 pub mod SoundQuery
+pub mod Complete
