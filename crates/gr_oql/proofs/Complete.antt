@@ -1,6 +1,6 @@
 -- What is spelled so is read.
-use Rattle.std.proofs.Common.{◌≡◌, ◌⊎◌, ℕ, zero, suc, ◌<◌, ◌≤◌, ◌^◌, pos, neg_ℤ, List, [], ◌∷◌, ◌++◌, length, Result, Ok, Err, Option, Some, None, Bool, cond, true, false, ◌||◌, leb, ltb, inl, inr, ⊎_elim, refl, sym, ap, ◌∙◌, subst, arith, append_assoc, append-nil, length-append, bytes_eq}
-use Rattle.std.proofs.lemmas.Bool.{le-leb, lt-ltb, false≢true, true≢false}
+use Rattle.std.proofs.Common.{◌≡◌, ℕ, zero, suc, ◌≤◌, ◌^◌, List, [], ◌∷◌, ◌++◌, length, Ok, Option, Some, None, Bool, true, false, inl, inr, refl, sym, ap, ◌∙◌, subst, arith, append_assoc, length-append, bytes_eq}
+use Rattle.std.proofs.lemmas.Bool.{le-leb, lt-ltb}
 use Rattle.std.proofs.lemmas.Slice.Eq.{bytes_eq-Decides}
 use Rattle.gr_value.specs.declared.scalar.Scalar.{Scalar}
 use Rattle.gr_value.specs.declared.scalar.Scalar.TheVariants as scalar
@@ -9,11 +9,10 @@ use Rattle.gr_lex.specs.declared.token.Symbol.TheVariants as symbols
 use Rattle.gr_lex.specs.Bytes.{spelling}
 use Rattle.gr_oql.specs.declared.keyword.Keyword.{Keyword}
 use Rattle.gr_oql.specs.declared.keyword.Keyword.TheVariants as word
-use Rattle.gr_oql.specs.declared.condition.Operand.{Operand}
 use Rattle.gr_oql.specs.declared.condition.Operand.TheVariants as operand
 use Rattle.gr_oql.specs.Words.{letters, keyword_eq}
-use Rattle.gr_oql.specs.Terminals.{Terminal, keyword, name, number, quoted, symbol, symbol_eq, begins, front, rest, is_symbol, is_keyword, as_name, as_word, as_number, as_quoted}
-use Rattle.gr_oql.specs.Reading.{Reading, ◌>>=◌, read_as, symbol_at, keyword_at, word_by, name_at, is_alias, member_at, field_of_name, field_by, field_at, negative_by, plain_by, literal_at, operand_by, operand_at, more_at, separated_at}
+use Rattle.gr_oql.specs.Terminals.{Terminal, keyword, name, number, quoted, symbol, symbol_eq, begins, front, is_symbol, is_keyword, as_name, as_word, as_number, as_quoted}
+use Rattle.gr_oql.specs.Reading.{Reading, symbol_at, keyword_at, field_of_name, field_at, literal_at, operand_at, more_at, separated_at}
 use Rattle.gr_oql.specs.Grammar.{One, Is, ◌then◌, Row, Field, Literal, IsOperand}
 use Rattle.gr_oql.proofs.Sound.{Front}
 
@@ -189,7 +188,7 @@ operand_complete alias ts (operand.Literal l) left always found =
 
 -- rows
 module _ {A : Type 0} (separator : Terminal → Bool) (item : List Terminal → Reading A) (Spells : A → List Terminal → Type 0) (Allows : List Terminal → Type 0)
-  (complete : Complete Allows Spells item) (goes_on : (t : Terminal) (ts : List Terminal) → separator t ≡ true → Allows (t ∷ ts)) where
+    (complete : Complete Allows Spells item) (goes_on : (t : Terminal) (ts : List Terminal) → separator t ≡ true → Allows (t ∷ ts)) where
   no_more : (turns : ℕ) (left : List Terminal) → begins separator left ≡ false → more_at separator item turns left ≡ Ok ([], left)
   no_more zero left ends = refl
   no_more (suc turns) left ends = rw ends refl

@@ -4,3 +4,5 @@ pub mod Trees
 pub mod Sound
 pub mod SoundQuery
 pub mod Complete
+pub mod CompleteQuery
+pub mod Exact
