@@ -1,5 +1,5 @@
 -- What a call gives: the reply, the change that is made, and whom it goes to.
-use Rattle.std.specs.Prelude.{ℕ, zero, suc, ◌+◌, ◌-◌, ◌^◌, List, Bool, ◌&&◌, ◌==◌, not, nat_le, max, Option, Some, None, if◌then◌else◌}
+use Rattle.std.specs.Prelude.{ℕ, zero, suc, ◌+◌, ◌^◌, List, Bool, ◌&&◌, ◌==◌, not, nat_le, max, Option, Some, None, if◌then◌else◌}
 use Rattle.gr_stamp.specs.declared.change.Change.{Change}
 use Rattle.gr_stamp.specs.declared.change.Kind.{Kind}
 use Rattle.gr_stamp.specs.declared.stamp.TheConstants.{LIMIT}
@@ -30,7 +30,7 @@ abbrev pub member_bits : (ℕ → Bool) → ℕ → ℕ
 member_bits test zero = 0
 member_bits test (suc n) = member_bits test n + (if test (suc n) then 2 ^ n else 0)
 
-abbrev pub recipients : Identity → List Deed → ℕ
+unfoldable pub recipients : Identity → List Deed → ℕ
 recipients id past = member_bits (is_recipient id past) 8
 
 -- the greatest of the version that stands, the floor and this member's region version

@@ -1,10 +1,9 @@
 -- What stands at a key. Here and in all definitions of what is lawful a history is listed the newest
 -- deed first: the tail of a list is the history before its first deed.
-use Rattle.std.specs.Prelude.{ℕ, List, [], ◌∷◌, ◌++◌, ◌==◌, Option, Some, None, max, if◌then◌else◌}
+use Rattle.std.specs.Prelude.{ℕ, List, [], ◌∷◌, ◌++◌, ◌==◌, Option, max, if◌then◌else◌}
 use Rattle.std.specs.Option.{option_to_list}
 use Rattle.gr_value.specs.declared.value.Field.{Field}
 use Rattle.gr_stamp.specs.declared.change.Change.{Change}
-use Rattle.gr_stamp.specs.Version.{Version}
 use Rattle.gr_stamp.specs.Winner.{winner, holds}
 use Rattle.gr_history.specs.declared.deed.Deed.{Deed}
 use Rattle.gr_history.specs.declared.deed.Deed.TheVariants.{Call}

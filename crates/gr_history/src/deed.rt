@@ -1,5 +1,5 @@
 ghost use Rattle.std.specs.Prelude.{◌≡◌, IfOk};
-ghost use Rattle.gr_history.specs.Deeds.{is_of_client};
+ghost use Rattle.gr_history.specs.Deeds.{is_of_client, is_discarded, is_repeat};
 
 use crate::{Ask, Reply};
 use gr_stamp::Change;
@@ -28,6 +28,26 @@ impl Deed {
     {
         match self {
             Deed::Call { client: own, .. } => *own == client,
+        }
+    }
+
+    /// Whether it takes in a change that loses to what stands.
+    #[tactic(auto, unfolding(crate::specs::Deeds::is_discarded))]
+    pub fn is_discarded(&self) -> bool
+        ensures { result ≡ is_discarded self.now }
+    {
+        match self {
+            Deed::Call { .. } => false,
+        }
+    }
+
+    /// Whether it takes in a change that came in before.
+    #[tactic(auto, unfolding(crate::specs::Deeds::is_repeat))]
+    pub fn is_repeat(&self) -> bool
+        ensures { result ≡ is_repeat self.now }
+    {
+        match self {
+            Deed::Call { .. } => false,
         }
     }
 }

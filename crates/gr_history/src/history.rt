@@ -1,5 +1,5 @@
 ghost use Rattle.std.specs.Prelude.{◌≡◌, ◌==◌, ◌≤◌, ◌+◌, [], ◌∷◌, ◌++◌, length, IsOk, IfOk, OnOk, OnErr, option_copied, slice_get, count_by};
-ghost use Rattle.gr_history.specs.Deeds.{is_of_client};
+ghost use Rattle.gr_history.specs.Deeds.{is_of_client, is_discarded, is_repeat};
 
 use crate::Deed;
 use gr_value::{Copied, Memory};
@@ -82,6 +82,32 @@ impl History {
         ensures { result ≡ count_by (is_of_client client) self.now.deeds }
     {
         self.deeds.iter().filter(|deed| deed.is_of(client)).count() as u64
+    }
+
+    /// How many changes were discarded. Takes time in proportion to the history.
+    pub fn discarded(&self) -> u64
+        ensures { result ≡ count_by is_discarded self.now.deeds }
+    {
+        let mut count = 0;
+        for deed in &self.deeds {
+            if deed.is_discarded() {
+                count += 1;
+            }
+        }
+        count
+    }
+
+    /// How many changes came again. Takes time in proportion to the history.
+    pub fn repeats(&self) -> u64
+        ensures { result ≡ count_by is_repeat self.now.deeds }
+    {
+        let mut count = 0;
+        for deed in &self.deeds {
+            if deed.is_repeat() {
+                count += 1;
+            }
+        }
+        count
     }
 
     /// The same deeds. The copy has no room to spare.

@@ -13,5 +13,7 @@ pub use deed::Deed;
 pub use done::Done;
 pub use history::History;
 pub use identity::Identity;
-pub use record::{Answer, AnswerList, ClientRecord, ClientRecordList, MemberRecord, MemberRecordList};
-pub use record::{Record, Region, ShardRecord, ShardRecordList};
+pub use record::{
+    Answer, AnswerList, ClientRecord, ClientRecordList, MemberRecord, MemberRecordList, Record,
+    Region, ShardRecord, ShardRecordList,
+};

@@ -1,13 +1,11 @@
-// A library with one function.
+//! One shard of one member: its history, and what stands after it.
 #![tactic(auto)]
 
-ghost use Rattle.std.specs.Prelude.{◌≡◌};
-ghost use Rattle.gr_shard.specs.Echo.{echo_of};
+mod entries;
+mod making;
+mod regions;
+mod shard;
+mod told;
 
-// The `ensures` clause is the contract: what `echo` returns is `echo_of` of its argument, a definition
-// in `specs/Echo.antt`, which a caller's clause can cite too.
-pub fn echo(x: usize) -> usize
-    ensures { result ≡ echo_of x }
-{
-    x
-}
+pub use gr_history::{Done, Identity};
+pub use shard::Shard;

@@ -1,8 +1,7 @@
 -- Scalars, fields and values that pass the test are equal, and equal ones pass it.
-use Rattle.std.proofs.Common.{◌≡◌, ◌∙◌, ap, Bool, true, false, List, ℕ, bytes_eq, refl}
-use Rattle.std.specs.Ordering.{int_eq}
+use Rattle.std.proofs.Common.{◌≡◌, ◌∙◌, ap, List, ℕ, refl}
 use Rattle.std.specs.Bool.{Decides}
-use Rattle.std.specs.Cmp.{IsEquivalence, IsPartialEquivalence, decided, partial_equiv_from_equiv, booleans_Decides, signed_Decides}
+use Rattle.std.specs.Cmp.{IsEquivalence, decided, booleans_Decides, signed_Decides}
 use Rattle.std.specs.Cmp.Lexicographic.{pointwise_decides}
 use Rattle.std.proofs.lemmas.Slice.Eq.{bytes_eq-Decides}
 use Rattle.std.proofs.lemmas.Bool.Decides.{Decides-and, Decides-like}

@@ -1,4 +1,5 @@
-ghost use Rattle.std.specs.Prelude.{◌≡◌, IfOk};
+ghost use Rattle.std.specs.Prelude.{◌≡◌, IsTrue, IfOk, string_bytes};
+ghost use Rattle.std.specs.Str.{is_utf8};
 
 use crate::{Copied, Memory};
 use std::alloc::Global;
@@ -20,10 +21,18 @@ impl Model for Text {
 
 impl Text {
     pub fn new(alloc: Global, text: &str) -> Result<Text, Memory>
-        ensures { IfOk result (λ made. made ≡ text.now) }
+        ensures text { IfOk result (λ made. made ≡ text.now) }
+        ensures utf8 { IfOk result (λ made. IsTrue (is_utf8 made)) }
     {
         let text = String::from_str(alloc, text)?;
         Ok(Text { text })
+    }
+
+    pub(crate) fn of_string(text: String) -> Text
+        ensures text { result ≡ string_bytes text }
+        ensures utf8 { IsTrue (is_utf8 result) }
+    {
+        Text { text }
     }
 
     pub fn as_str(&self) -> &str

@@ -1,5 +1,6 @@
-ghost use Rattle.std.specs.Prelude.{◌≡◌, ◌↔◌, IsTrue, option_copied};
+ghost use Rattle.std.specs.Prelude.{◌≡◌, ◌↔◌, IsTrue, IfOk, option_copied};
 ghost use Rattle.gr_value.specs.Fields.{field_of, value_eq};
+ghost use Rattle.gr_value.specs.Values.{IsValue};
 
 use crate::{Copied, Memory, Scalar, Text};
 use std::alloc::Global;
@@ -46,12 +47,25 @@ impl Model for Value {
 
     ghost Value = { List Field };
 
+    ghost use Rattle.gr_value.specs.Values.{IsValue};
+
     ghost view = { λ value. value.shared.value.items };
+
+    ghost invariant = { λ value. IsValue value.shared.value.items };
 }
 
 impl Value {
+    pub(crate) fn of_fields(alloc: Global, fields: Vec<Field>) -> Result<Value, Memory>
+        requires { IsValue fields.items }
+        ensures { IfOk result (λ value. value ≡ fields.items) }
+    {
+        let shared = Arc::new(alloc, fields)?;
+        Ok(Value { shared })
+    }
+
     pub fn fields(&self) -> &[Field]
-        ensures { result.now ≡ self.now }
+        ensures fields { result.now ≡ self.now }
+        ensures value { IsValue self.now }
     {
         self.shared.as_slice()
     }

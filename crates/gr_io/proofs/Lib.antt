@@ -1,0 +1,3 @@
+mod CallLemmas
+mod CopyLemmas
+mod EndLemmas

@@ -1,0 +1,31 @@
+-- The text of what the clients were told.
+use Rattle.std.specs.Prelude.{ℕ, ◌+◌, List, [], ◌∷◌, ◌++◌, codes, decimal, flat_map}
+use Rattle.gr_value.specs.ValueText.{value_text}
+use Rattle.gr_history.specs.declared.ask.Reply.{Reply}
+use Rattle.gr_history.specs.declared.ask.Reply.TheVariants.{Null, Value, Done, NotFound, Limit}
+use Rattle.gr_history.specs.declared.record.Answer.{Answer}
+use Rattle.gr_history.specs.declared.record.Answer.TheVariants as answer
+use Rattle.gr_history.specs.declared.record.ClientRecord.{ClientRecord}
+
+abbrev pub reply_text : Reply → List ℕ
+reply_text Null = codes "null"
+reply_text (Value value) = value_text value
+reply_text Done = codes "done"
+reply_text NotFound = codes "not-found"
+reply_text Limit = codes "limit"
+
+abbrev pub answer_text : Answer → List ℕ
+answer_text (answer.Reply reply) = reply_text reply
+
+-- the line of one answer, with its client and the number of its step
+unfoldable pub answer_line : ℕ → ℕ → Answer → List ℕ
+answer_line client seq told = decimal client ++ codes "." ++ decimal seq ++ codes " " ++ answer_text told ++ codes "\n"
+
+-- the lines of a client's answers, of which the first is that of this step
+abbrev pub answers_from : ℕ → ℕ → List Answer → List ℕ
+answers_from client seq [] = []
+answers_from client seq (told ∷ rest) = answer_line client seq told ++ answers_from client (seq + 1) rest
+
+-- Steps are numbered from 1.
+abbrev pub client_text : ClientRecord → List ℕ
+client_text left = answers_from left.client 1 left.answers

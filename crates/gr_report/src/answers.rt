@@ -1,0 +1,55 @@
+ghost use Rattle.std.specs.Prelude.{◌≡◌, ◌++◌, OnOk};
+ghost use Rattle.gr_report.specs.Answers.{reply_text, answer_text, answer_line, client_text};
+
+use crate::put::{put_number, put_text};
+use gr_history::{Answer, ClientRecord, Reply};
+use gr_value::Memory;
+use std::alloc::Global;
+
+fn put_reply(alloc: Global, out: &mut Vec<u8>, reply: &Reply) -> Result<(), Memory>
+    ensures { OnOk result (out.new.items ≡ out.old.items ++ reply_text reply.now) }
+{
+    match reply {
+        Reply::Null => put_text(out, "null"),
+        Reply::Value(value) => value.print_to(alloc, out),
+        Reply::Done => put_text(out, "done"),
+        Reply::NotFound => put_text(out, "not-found"),
+        Reply::Limit => put_text(out, "limit"),
+    }
+}
+
+fn put_answer(alloc: Global, out: &mut Vec<u8>, answer: &Answer) -> Result<(), Memory>
+    ensures { OnOk result (out.new.items ≡ out.old.items ++ answer_text answer.now) }
+{
+    match answer {
+        Answer::Reply(reply) => put_reply(alloc, out, reply),
+    }
+}
+
+#[tactic(auto, unfolding(crate::specs::Answers::answer_line))]
+fn put_answer_line(
+    alloc: Global,
+    out: &mut Vec<u8>,
+    client: u8,
+    seq: u64,
+    answer: &Answer,
+) -> Result<(), Memory>
+    ensures { OnOk result (out.new.items ≡ out.old.items ++ answer_line client seq answer.now) }
+{
+    put_number(out, u128::from(client))?;
+    put_text(out, ".")?;
+    put_number(out, u128::from(seq))?;
+    put_text(out, " ")?;
+    put_answer(alloc, out, answer)?;
+    put_text(out, "\n")
+}
+
+/// Puts the lines of a client's answers last.
+pub fn put_client(alloc: Global, out: &mut Vec<u8>, left: &ClientRecord) -> Result<(), Memory>
+    ensures { OnOk result (out.new.items ≡ out.old.items ++ client_text left.now) }
+{
+    for (place, answer) in left.answers.as_slice().iter().enumerate() {
+        put_answer_line(alloc, out, left.client, place as u64 + 1, answer)?;
+    }
+    Ok(())
+}

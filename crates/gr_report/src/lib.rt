@@ -1,0 +1,10 @@
+//! The text of a record.
+#![tactic(auto)]
+
+mod answers;
+mod counts;
+mod put;
+mod regions;
+mod reporting;
+
+pub use reporting::report;

@@ -1,0 +1,19 @@
+ghost use Rattle.std.specs.Prelude.{◌≡◌, ◌++◌, decimal, OnOk};
+
+use gr_value::Memory;
+use itoa::{Buffer, Integer};
+
+/// Puts a text last.
+pub fn put_text(out: &mut Vec<u8>, text: &str) -> Result<(), Memory>
+    ensures { OnOk result (out.new.items ≡ out.old.items ++ text.now) }
+{
+    out.extend_from_slice(text.as_bytes())?;
+    Ok(())
+}
+
+/// Puts a number last, in decimal digits.
+pub fn put_number(out: &mut Vec<u8>, number: u128) -> Result<(), Memory>
+    ensures { OnOk result (out.new.items ≡ out.old.items ++ decimal number) }
+{
+    put_text(out, Buffer::new().format(number))
+}

@@ -1,0 +1,85 @@
+ghost use Rattle.std.specs.Prelude.{◌≡◌, ◌++◌, OnOk, flat_map};
+ghost use Rattle.gr_report.specs.Regions.{stamp_text, put_text as text_of_put, row_line, rows_text, counted, member_line, member_text};
+
+use crate::counts::{Counts, count_all};
+use crate::put::{put_number, put_text};
+use gr_history::MemberRecord;
+use gr_stamp::{Change, Kind, Stamp};
+use gr_value::Memory;
+use std::alloc::Global;
+
+fn put_stamp(out: &mut Vec<u8>, stamp: &Stamp) -> Result<(), Memory>
+    ensures { OnOk result (out.new.items ≡ out.old.items ++ stamp_text stamp.now) }
+{
+    put_number(out, u128::from(stamp.ver()))?;
+    put_text(out, ".")?;
+    put_number(out, u128::from(stamp.member()))?;
+    put_text(out, ".")?;
+    put_number(out, u128::from(stamp.rv()))
+}
+
+fn put_kind(alloc: Global, out: &mut Vec<u8>, kind: &Kind) -> Result<(), Memory>
+    ensures { OnOk result (out.new.items ≡ out.old.items ++ text_of_put kind.now) }
+{
+    match kind {
+        Kind::Put(value) => value.print_to(alloc, out),
+        Kind::Remove => Ok(()),
+    }
+}
+
+#[tactic(auto, unfolding(crate::specs::Regions::row_line))]
+fn put_row(alloc: Global, out: &mut Vec<u8>, row: &Change) -> Result<(), Memory>
+    ensures { OnOk result (out.new.items ≡ out.old.items ++ row_line row.now) }
+{
+    out.extend_from_slice(row.key.bytes())?;
+    put_text(out, " ")?;
+    put_kind(alloc, out, &row.kind)?;
+    put_text(out, " ")?;
+    put_stamp(out, &row.stamp)?;
+    put_text(out, "\n")
+}
+
+fn put_rows(alloc: Global, out: &mut Vec<u8>, rows: &[Change]) -> Result<(), Memory>
+    ensures { OnOk result (out.new.items ≡ out.old.items ++ flat_map row_line rows.now) }
+{
+    for row in rows {
+        put_row(alloc, out, row)?;
+    }
+    Ok(())
+}
+
+fn put_counted(out: &mut Vec<u8>, word: &str, number: u128) -> Result<(), Memory>
+    ensures { OnOk result (out.new.items ≡ out.old.items ++ counted word.now number) }
+{
+    put_text(out, word)?;
+    put_number(out, number)
+}
+
+#[tactic(auto, unfolding(crate::specs::Regions::member_line))]
+fn put_member_line(out: &mut Vec<u8>, member: u8, counts: Counts) -> Result<(), Memory>
+    ensures { OnOk result (out.new.items ≡ out.old.items ++ member_line member counts) }
+{
+    put_counted(out, "member ", u128::from(member))?;
+    put_counted(out, " entries ", counts.entries)?;
+    put_counted(out, " tombstones ", counts.tombstones)?;
+    put_counted(out, " conflated ", counts.conflated)?;
+    put_counted(out, " repeats ", counts.repeats)?;
+    put_text(out, "\n")
+}
+
+fn put_all_rows(alloc: Global, out: &mut Vec<u8>, left: &MemberRecord) -> Result<(), Memory>
+    ensures { OnOk result (out.new.items ≡ out.old.items ++ rows_text left.now) }
+{
+    for shard in left.shards.as_slice() {
+        put_rows(alloc, out, shard.region.rows.as_slice())?;
+    }
+    Ok(())
+}
+
+/// Puts a member's line and its rows last.
+pub fn put_member(alloc: Global, out: &mut Vec<u8>, left: &MemberRecord) -> Result<(), Memory>
+    ensures { OnOk result (out.new.items ≡ out.old.items ++ member_text left.now) }
+{
+    put_member_line(out, left.member, count_all(left.shards.as_slice()))?;
+    put_all_rows(alloc, out, left)
+}

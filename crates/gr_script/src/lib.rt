@@ -1,0 +1,23 @@
+//! Scripts: what a run is asked to do, read from a text.
+#![tactic(auto)]
+
+mod act;
+mod fault;
+mod field;
+mod form;
+mod heading;
+mod line;
+mod reading;
+mod script;
+mod stop;
+mod text;
+mod word;
+
+pub use fault::{Reason, ScriptEnd, ScriptFault};
+pub use form::Form;
+pub use line::{Act, Line, LineList, Step, StepList};
+pub use reading::read;
+pub use script::{MemberNumberList, Script};
+
+#[cfg(test)]
+mod tests;

@@ -1,0 +1,60 @@
+ghost use Rattle.std.specs.Prelude.{◌≡◌, IfOk};
+ghost use Rattle.gr_script.specs.Steps.{step_of};
+
+use gr_history::Ask;
+use gr_value::{Copied, ItemList, Memory};
+use std::alloc::Global;
+
+/// What a client does at one of its steps.
+#[derive(Drop)]
+pub enum Act {
+    Call(Ask),
+}
+
+impl Copied for Act {
+    fn copy(&self, alloc: Global) -> Result<Act, Memory> {
+        match self {
+            Act::Call(ask) => Ok(Act::Call(ask.copy(alloc)?)),
+        }
+    }
+}
+
+/// A step of a client, with its number among the client's steps.
+#[derive(Drop)]
+pub struct Step {
+    pub seq: u32,
+    pub act: Act,
+}
+
+pub type StepList = ItemList<Step>;
+
+/// A line behind the heading of a script.
+#[derive(Drop)]
+pub enum Line {
+    /// A client's step. Its steps are numbered from 1 in the order of its lines.
+    Step { client: u8, seq: u32, act: Act },
+}
+
+pub type LineList = ItemList<Line>;
+
+impl Line {
+    /// The step, where the line is one of this client.
+    pub fn step_of(&self, alloc: Global, client: u8) -> Result<Option<Step>, Memory>
+        ensures { IfOk result (λ step. step ≡ step_of client self.now) }
+    {
+        match self {
+            Line::Step {
+                client: own,
+                seq,
+                act,
+            } => if *own == client {
+                Ok(Some(Step {
+                    seq: *seq,
+                    act: act.copy(alloc)?,
+                }))
+            } else {
+                Ok(None)
+            },
+        }
+    }
+}

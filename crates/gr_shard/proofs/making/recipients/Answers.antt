@@ -1,0 +1,34 @@
+use Rattle.std.proofs.Common.{◌≡◌, ◌≤◌, ◌+◌, ◌*◌, ◌^◌, arith, ap, sym, ◌∙◌, lit<}
+use Rattle.gr_history.specs.Calls.{is_recipient, recipients, member_bits}
+use Rattle.gr_shard.proofs.Made.{member_bits-set, member_bits-unset, power-one_more}
+use Rattle.std.proofs.Math.Nat.{pow-le-pow_right}
+use Rattle.gr_shard.proofs.making.recipients.Goals as goal
+use Rattle.gr_shard.proofs.making.recipients.Goals.{then-is_recipient, else-is_recipient}
+
+pub loop-below-preserved : goal.loop-below-preserved
+loop-below-preserved c =
+    let now = c.loop-below.invariant in
+    let twice : c.loop-below.bit * 2 ≡ 2 ^ (c.loop-below.below + 1) = omega (arith, now.bit, power-one_more c.loop-below.below) in
+    let most : c.loop-below.bit * 2 ≤ 256 = rw twice (pow-le-pow_right (lit< tt) {i = c.loop-below.below + 1} {j = 8} (omega arith)) in
+    elim c.if-is_recipient.branch [
+      | then-is_recipient w ↦ record {
+        bit = twice;
+        least = omega arith;
+        most = most;
+        small = omega arith;
+        bits = λ past. w.to-is ∙ member_bits-set (is_recipient c.args.id past) c.loop-below.below c.loop-below.to c.loop-below.bit (now.bits past) now.bit (sym (w.if-is_recipient.ensures past));
+      }
+      | else-is_recipient w ↦ record {
+        bit = twice;
+        least = omega arith;
+        most = most;
+        small = omega arith;
+        bits = λ past. w.to-is ∙ member_bits-unset (is_recipient c.args.id past) c.loop-below.below c.loop-below.to c.loop-below.bit (now.bits past) now.bit (sym (w.if-is_recipient.ensures past));
+      }
+    ]
+
+pub returns : goal.returns
+unfolding recipients
+returns c past =
+    let eight : c.loop-below.below ≡ 8 = omega arith in
+    c.loop-below.invariant.bits past ∙ ap (λ n. member_bits (is_recipient c.args.id past) n) eight

@@ -1,0 +1,12 @@
+use Rattle.std.proofs.Common.{reverse, refl}
+use Rattle.gr_shard.proofs.Left.{region-kept}
+use Rattle.gr_shard.proofs.shard.Shard.into_record.Goals as goal
+
+pub returns-clause-left : goal.returns-clause-left
+returns-clause-left c =
+    let was = c.self.inside in
+    rw (← c.self.view_is) record {
+      deeds = refl;
+      region = region-kept was.id was.opening was.floor was.entries was.made (reverse was.history.deeds) c.self.invariant
+          c.in_ok-region.ensures.ordered c.in_ok-region.region c.in_ok-region.ensures.region;
+    }

@@ -1,0 +1,64 @@
+ghost use Rattle.std.specs.Prelude.{◌≡◌, ◌<◌, ◌+◌, ◌^◌, List, IfOk, length};
+ghost use Rattle.std.specs.Option.{option_to_list};
+ghost use Rattle.gr_history.specs.declared.deed.Deed.{Deed as DeedOf};
+ghost use Rattle.gr_history.specs.declared.deed.Deed.TheVariants as deed;
+ghost use Rattle.gr_history.specs.Calls.{is_recipient, recipients};
+
+use gr_history::{Ask, Deed, Done, Identity};
+use gr_stamp::Change;
+use gr_value::{Copied, Memory};
+use std::alloc::Global;
+
+fn is_recipient(id: Identity, member: u8) -> bool
+    ensures { (past : List DeedOf) → result ≡ is_recipient id past member }
+{
+    member <= id.founders && member != id.member
+}
+
+/// The members that a change of this shard goes to, with bit m - 1 for member m.
+pub fn recipients(id: Identity) -> u8
+    ensures { (past : List DeedOf) → result ≡ recipients id past }
+{
+    let (mut to, mut bit) = (0u16, 1u16);
+    for below in 0..8u8 {
+        if is_recipient(id, below + 1) {
+            to += bit;
+        }
+        bit *= 2;
+    }
+    to as u8
+}
+
+/// How many changes were made, with this one.
+pub fn count_with(count: u64, made: &Option<Change>) -> u64
+    requires { count < 2 ^ 63 }
+    ensures { result ≡ count + length (option_to_list made.now) }
+{
+    match made {
+        None => count,
+        Some(_) => count + 1,
+    }
+}
+
+fn copy_of(alloc: Global, change: &Option<Change>) -> Result<Option<Change>, Memory>
+    ensures { IfOk result (λ copy. copy ≡ change.now) }
+{
+    match change {
+        None => Ok(None),
+        Some(change) => Ok(Some(change.copy(alloc)?)),
+    }
+}
+
+/// The deed that says what a call gave.
+pub fn deed_of(alloc: Global, client: u8, seq: u32, ask: &Ask, done: &Done) -> Result<Deed, Memory>
+    ensures { IfOk result (λ said. said ≡ deed.Call client seq ask.now done.now.reply done.now.made done.now.to) }
+{
+    Ok(Deed::Call {
+        client,
+        seq,
+        ask: ask.copy(alloc)?,
+        reply: done.reply.copy(alloc)?,
+        made: copy_of(alloc, &done.made)?,
+        to: done.to,
+    })
+}

@@ -1,0 +1,109 @@
+ghost use Rattle.std.specs.Prelude.{◌≡◌, ◌↔◌, ℕ, map, string_bytes, length, Some, None, MatchResult, ◌^◌, ◌<◌};
+ghost use Rattle.gr_script.specs.Scripts.{heading_of};
+ghost use Rattle.gr_script.specs.Spelling.{IsSpelled};
+ghost use Rattle.gr_top.specs.Causes.{status_of};
+ghost use Rattle.gr_top.specs.Outcomes.{Explains, IsReplayOf, IsScriptOf, ParseEnds, PrintEnds, ReadEnds, stream};
+ghost use Rattle.gr_top.specs.Words.{misfit};
+
+use crate::words::misfit;
+use crate::{Cause, Outcome};
+use gr_history::Record;
+use gr_io::{ReadEnd, Sink, Source, read_all, write_all};
+use gr_report::report;
+use gr_script::{Form, Script, ScriptEnd, read};
+use gr_world::replay;
+use std::alloc::Global;
+
+/// The most bytes of a script.
+const MOST_BYTES: u64 = 8_388_608;
+
+fn script_in(alloc: Global, bytes: &[u8]) -> Result<Script, Cause>
+    requires { length bytes.now < 2 ^ 32 }
+    ensures { MatchResult result (λ script. IsSpelled bytes.now (heading_of script) script.lines) (ParseEnds bytes.now) }
+{
+    match read(alloc, bytes, Form::Replay) {
+        Ok(script) => Ok(script),
+        Err(ScriptEnd::Fault(fault)) => Err(Cause::Script(fault)),
+        Err(ScriptEnd::Memory) => Err(Cause::Memory),
+    }
+}
+
+fn script_from<S: Source>(alloc: Global, source: &mut S) -> Result<Script, Cause>
+    ensures { MatchResult result (IsScriptOf (stream (S.left source.old) (S.left source.new) (S.faults source.old) (S.faults source.new)))
+        (ReadEnds (stream (S.left source.old) (S.left source.new) (S.faults source.old) (S.faults source.new))) }
+{
+    match read_all(alloc, source, MOST_BYTES) {
+        Ok(bytes) => script_in(alloc, bytes.as_slice()),
+        Err(ReadEnd::Fault) => Err(Cause::ReadFault),
+        Err(ReadEnd::TooLarge(bytes)) => Err(Cause::TooLarge {
+            bytes: bytes.len() as u64,
+            lines: 0,
+        }),
+        Err(ReadEnd::Memory) => Err(Cause::Memory),
+    }
+}
+
+fn record_from<S: Source>(alloc: Global, source: &mut S) -> Result<Record, Cause>
+    ensures { MatchResult result (IsReplayOf (stream (S.left source.old) (S.left source.new) (S.faults source.old) (S.faults source.new)))
+        (ReadEnds (stream (S.left source.old) (S.left source.new) (S.faults source.old) (S.faults source.new))) }
+{
+    match script_from(alloc, source) {
+        Err(cause) => Err(cause),
+        Ok(script) => match replay(alloc, &script) {
+            Ok(left) => Ok(left),
+            Err(_) => Err(Cause::Memory),
+        },
+    }
+}
+
+fn print<K: Sink>(alloc: Global, sink: &mut K, left: &Record) -> Cause
+    ensures { PrintEnds (stream (K.held sink.old) (K.held sink.new) (K.faults sink.old) (K.faults sink.new)) left.now result }
+{
+    match report(alloc, left) {
+        Err(_) => Cause::Memory,
+        Ok(text) => match write_all(sink, text.as_slice()) {
+            Ok(()) => Cause::Finished,
+            Err(_) => Cause::WriteFault,
+        },
+    }
+}
+
+fn ended(cause: Cause, kept: Option<Record>) -> Outcome
+    ensures { result ≡ record { status = status_of cause; cause = cause; kept = kept } }
+{
+    Outcome {
+        status: cause.status(),
+        cause,
+        kept,
+    }
+}
+
+/// Answers the words with the script that the source has, and writes to the sink.
+pub fn replay_words<S: Source, K: Sink>(
+    alloc: Global,
+    words: &[String],
+    source: &mut S,
+    sink: &mut K,
+) -> Outcome
+    ensures status { result.status ≡ status_of result.cause }
+
+    // A word isn't understood exactly where the words aren't those of a mode.
+    ensures usage { (place : ℕ) → (result.cause ≡ Cause.Usage place) ↔ (misfit (map (λ word. string_bytes word) words.now) ≡ Some place) }
+
+    // What the cause says of the source, the sink and the record.
+    ensures explained { Explains
+        (stream (S.left source.old) (S.left source.new) (S.faults source.old) (S.faults source.new))
+        (stream (K.held sink.old) (K.held sink.new) (K.faults sink.old) (K.faults sink.new))
+        result.kept result.cause }
+{
+    if let Some(place) = misfit(words) {
+        return ended(Cause::Usage(place), None);
+    }
+    match record_from(alloc, source) {
+        Err(cause) => ended(cause, None),
+        Ok(left) => {
+            let cause = print(alloc, sink, &left);
+            ended(cause, Some(left))
+        }
+    }
+}

@@ -1,0 +1,11 @@
+//! The words of the program, the call that answers them, and the texts of its causes.
+#![tactic(auto)]
+
+mod answering;
+mod cause;
+mod cause_texts;
+mod words;
+
+pub use answering::replay_words;
+pub use cause::{Cause, Outcome};
+pub use cause_texts::cause_text;

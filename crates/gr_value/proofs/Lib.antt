@@ -1,0 +1,10 @@
+mod FieldsRead
+mod Lexing
+mod NumberLengths
+mod Punctuating
+mod Quoting
+mod RoundTrip
+mod Shorter
+mod Texts
+mod Utf8
+mod ValueRead

@@ -1,0 +1,119 @@
+ghost use Rattle.std.specs.Prelude.{◌≡◌, ◌<◌, ◌/◌, ◌%◌, [], ◌∷◌, ◌++◌, codes, flat_map, OnOk, OnErr};
+ghost use Rattle.std.specs.Char.{digit_char};
+ghost use Rattle.gr_value.specs.ValueText.{escaped, quoted, scalar_text, field_text, value_text};
+
+use crate::{Field, Memory, Scalar, Value};
+use itoa::Buffer;
+use std::alloc::Global;
+
+fn hex_digit(digit: u8) -> u8
+    requires { digit < 16 }
+    ensures { result ≡ digit_char digit }
+{
+    if digit < 10 {
+        b'0' + digit
+    } else {
+        b'a' - 10 + digit
+    }
+}
+
+fn put_control(byte: u8, out: &mut Vec<u8>) -> Result<(), Memory>
+    ensures { OnOk result (out.new.items
+        ≡ out.old.items ++ codes "\\u00" ++ digit_char (byte / 16) ∷ digit_char (byte % 16) ∷ []) }
+{
+    out.extend_from_slice(b"\\u00")?;
+    out.push(hex_digit(byte / 16))?;
+    out.push(hex_digit(byte % 16))?;
+    Ok(())
+}
+
+#[tactic(auto, unfolding(crate::specs::ValueText::escaped))]
+fn put_escaped(byte: u8, out: &mut Vec<u8>) -> Result<(), Memory>
+    ensures { OnOk result (out.new.items ≡ out.old.items ++ escaped byte) }
+{
+    match byte {
+        b'"' => out.extend_from_slice(b"\\\"")?,
+        b'\\' => out.extend_from_slice(b"\\\\")?,
+        0x08 => out.extend_from_slice(b"\\b")?,
+        0x09 => out.extend_from_slice(b"\\t")?,
+        0x0A => out.extend_from_slice(b"\\n")?,
+        0x0C => out.extend_from_slice(b"\\f")?,
+        0x0D => out.extend_from_slice(b"\\r")?,
+        _ if byte < 0x20 => put_control(byte, out)?,
+        _ => out.push(byte)?,
+    }
+    Ok(())
+}
+
+fn put_quoted(text: &str, out: &mut Vec<u8>) -> Result<(), Memory>
+    ensures { OnOk result (out.new.items ≡ out.old.items ++ quoted text.now) }
+{
+    out.push(b'"')?;
+    for byte in text.as_bytes() {
+        put_escaped(*byte, out)?;
+    }
+    out.push(b'"')?;
+    Ok(())
+}
+
+fn put_scalar(scalar: &Scalar, out: &mut Vec<u8>) -> Result<(), Memory>
+    ensures { OnOk result (out.new.items ≡ out.old.items ++ scalar_text scalar.now) }
+{
+    match scalar {
+        Scalar::Null => out.extend_from_slice(b"null")?,
+        Scalar::Bool(true) => out.extend_from_slice(b"true")?,
+        Scalar::Bool(false) => out.extend_from_slice(b"false")?,
+        Scalar::Int(number) => {
+            let mut digits = Buffer::new();
+            out.extend_from_slice(digits.format(*number).as_bytes())?;
+        }
+        Scalar::Text(text) => put_quoted(text.as_str(), out)?,
+    }
+    Ok(())
+}
+
+fn put_field(field: &Field, out: &mut Vec<u8>) -> Result<(), Memory>
+    ensures { OnOk result (out.new.items ≡ out.old.items ++ field_text field.now) }
+{
+    put_quoted(field.name.as_str(), out)?;
+    out.push(b':')?;
+    put_scalar(&field.scalar, out)?;
+    Ok(())
+}
+
+fn put_rest(fields: &[Field], out: &mut Vec<u8>) -> Result<(), Memory>
+    ensures { OnOk result (out.new.items
+        ≡ out.old.items ++ flat_map (λ field. codes "," ++ field_text field) fields.now) }
+{
+    for field in fields {
+        out.push(b',')?;
+        put_field(field, out)?;
+    }
+    Ok(())
+}
+
+#[tactic(auto, unfolding(crate::specs::ValueText::value_text))]
+fn put_fields(fields: &[Field], out: &mut Vec<u8>) -> Result<(), Memory>
+    ensures { OnOk result (out.new.items ≡ out.old.items ++ value_text fields.now) }
+{
+    out.push(b'{')?;
+    if let [first, rest @ ..] = fields {
+        put_field(first, out)?;
+        put_rest(rest, out)?;
+    }
+    out.push(b'}')?;
+    Ok(())
+}
+
+impl Value {
+    /// Appends the text of the value, whole or not at all.
+    pub fn print_to(&self, alloc: Global, out: &mut Vec<u8>) -> Result<(), Memory>
+        ensures ok { OnOk result (out.new.items ≡ out.old.items ++ value_text self.now) }
+        ensures err { OnErr result (out.new.items ≡ out.old.items) }
+    {
+        let mut text = Vec::new(alloc);
+        put_fields(self.fields(), &mut text)?;
+        out.extend_from_slice(&text)?;
+        Ok(())
+    }
+}

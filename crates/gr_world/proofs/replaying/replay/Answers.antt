@@ -1,0 +1,8 @@
+use Rattle.gr_world.proofs.Follows.{follows-listed}
+use Rattle.gr_world.proofs.replaying.replay.Goals as goal
+
+pub loop-line-preserved : goal.loop-line-preserved
+loop-line-preserved c =
+    follows-listed c.args.script.now c.args.script.now.ruled c.as_slice-line-items.result.now c.as_slice-line-items.ensures
+    c.loop-line.shard c.play.new.shard c.loop-line.answers c.push.new.self c.loop-line.line-index c.line-item.result c.in_ok-play.field-0
+    c.loop-line.invariant c.loop-line-test.true c.line-item.is c.in_ok-play.ensures c.in_ok-push.ensures.ok

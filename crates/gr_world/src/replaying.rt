@@ -1,0 +1,47 @@
+ghost use Rattle.std.specs.Prelude.{IfOk};
+ghost use Rattle.gr_world.specs.Plays.{IsSingle};
+ghost use Rattle.gr_world.specs.Replayed.{IsReplayed};
+
+use crate::play::play;
+use gr_history::{Answer, AnswerList, ClientRecord, ClientRecordList, Identity, MemberRecord};
+use gr_history::{MemberRecordList, Record, ShardRecord, ShardRecordList};
+use gr_script::Script;
+use gr_shard::Shard;
+use gr_value::Memory;
+use std::alloc::Global;
+
+/// Plays a script line by line, in its one schedule.
+pub fn replay(alloc: Global, script: &Script) -> Result<Record, Memory>
+    ensures { IfOk result (IsReplayed script.now) }
+{
+    let id = Identity {
+        member: 1,
+        members: script.members,
+        founders: script.founders,
+        shard: 0,
+        shards: script.shards,
+    };
+    let mut shard = Shard::new(alloc, id, 0)?;
+    let mut answers = AnswerList::new(alloc)?;
+    for line in script.lines.as_slice() {
+        answers.push(play(alloc, &mut shard, line)?)?;
+    }
+    record_of(alloc, shard.into_record(alloc)?, answers)
+}
+
+// The record of one member with one shard and one client.
+fn record_of(alloc: Global, left: ShardRecord, answers: AnswerList) -> Result<Record, Memory>
+    ensures { IfOk result (IsSingle left answers) }
+{
+    let mut shards = ShardRecordList::new(alloc)?;
+    shards.push(left)?;
+    let mut members = MemberRecordList::new(alloc)?;
+    members.push(MemberRecord { member: 1, shards })?;
+    let mut clients = ClientRecordList::new(alloc)?;
+    clients.push(ClientRecord {
+        client: 1,
+        member: 1,
+        answers,
+    })?;
+    Ok(Record { members, clients })
+}
