@@ -26,7 +26,7 @@ const GREATEST_NUMBER: u64 = 9223372036854775808;
 /// A query. Its parts are shared by its copies.
 #[derive(Drop)]
 pub struct Query {
-    parts: Arc<Parts>,
+    pub(crate) parts: Arc<Parts>,
 }
 
 #[derive(Drop)]
