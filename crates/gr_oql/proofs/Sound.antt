@@ -1,5 +1,5 @@
 -- What is read is spelled so.
-use Rattle.std.proofs.Common.{◌≡◌, ◌⊎◌, ℕ, zero, suc, ◌<◌, ◌≤◌, ◌^◌, pos, neg_ℤ, List, [], ◌∷◌, ◌++◌, length, Result, Ok, Err, Option, Some, None, Bool, cond, true, false, ◌||◌, leb, ltb, inl, inr, ⊎_elim, refl, sym, ap, ◌∙◌, subst, arith, append_assoc, append-nil}
+use Rattle.std.proofs.Common.{◌≡◌, ◌⊎◌, ℕ, zero, suc, ◌^◌, pos, neg_ℤ, List, [], ◌∷◌, ◌++◌, length, Ok, Err, Option, Some, None, Bool, cond, true, false, leb, ltb, inl, inr, ⊎_elim, refl, sym, ap, ◌∙◌, subst, append_assoc, append-nil}
 use Rattle.std.proofs.lemmas.Bool.{leb-true, ltb-true}
 use Rattle.gr_value.specs.declared.scalar.Scalar.{Scalar}
 use Rattle.gr_value.specs.declared.scalar.Scalar.TheVariants as scalar
@@ -7,18 +7,11 @@ use Rattle.gr_lex.specs.declared.token.Symbol.{Symbol}
 use Rattle.gr_lex.specs.declared.token.Symbol.TheVariants as symbols
 use Rattle.gr_oql.specs.declared.keyword.Keyword.{Keyword}
 use Rattle.gr_oql.specs.declared.keyword.Keyword.TheVariants as word
-use Rattle.gr_oql.specs.declared.condition.Relation.{Relation}
-use Rattle.gr_oql.specs.declared.condition.Relation.TheVariants as relation
 use Rattle.gr_oql.specs.declared.condition.Operand.{Operand}
 use Rattle.gr_oql.specs.declared.condition.Operand.TheVariants as operand
-use Rattle.gr_oql.specs.declared.condition.Test.{Test}
-use Rattle.gr_oql.specs.declared.condition.Test.TheVariants as tests
-use Rattle.gr_oql.specs.declared.stop.Wrong.{Wrong}
-use Rattle.gr_oql.specs.Tree.{Tree, any, all, negation, test}
-use Rattle.gr_oql.specs.View.{in_order}
 use Rattle.gr_oql.specs.Terminals.{Terminal, begins, front, rest, is_symbol, is_keyword, as_name, as_word, as_number, as_quoted}
-use Rattle.gr_oql.specs.Reading.{Reading, ◌>>=◌, read_as, symbol_at, keyword_at, word_by, name_at, is_alias, member_at, field_of_name, field_by, field_at, negative_by, negative_at, plain_by, literal_at, operand_by, operand_at, more_at, separated_at, relation_at, has_backslash, pattern_by, like_at, among_at, compare_at, behind_operand, behind_first, bracketed_at, test_at, all_at, any_at, bracket_at, part_at, most_depth, condition_at, Asked, star_at, region_by, region_at, alias_by, alias_at, end_at, bare_end_at, where_at, source_at, query_at}
-use Rattle.gr_oql.specs.Grammar.{One, Is, ◌then◌, Row, Field, Literal, IsOperand, IsRelation, Bracketed, IsTest, IsAll, IsAny, IsPart, IsCondition, IsRegion, IsAlias, IsWhere, IsQuery}
+use Rattle.gr_oql.specs.Reading.{Reading, ◌>>=◌, read_as, symbol_at, keyword_at, word_by, name_at, is_alias, field_of_name, field_by, field_at, negative_by, negative_at, plain_by, literal_at, operand_by, operand_at, more_at, separated_at}
+use Rattle.gr_oql.specs.Grammar.{One, Is, ◌then◌, Row, Field, Literal, IsOperand}
 
 -- The front of the terminals spells so, and these are left behind it.
 pub record Front (P : List Terminal → Type 0) (ts left : List Terminal) : Type 0 where
@@ -100,19 +93,19 @@ module _ (alias : Option (List ℕ)) where
   named_sound t w ts f left is read =
       ⊎_elim
       (λ h.
-          let dot = bound (symbol_at symbols.Dot ts) _ f left h.1 in
-          let dotted = symbol_sound symbols.Dot ts dot.0 dot.1 dot.2 in
-          let member = word_sound as_word dot.1 _ f left refl dot.3 in
-          let name : Front (Is as_name w) (t ∷ ts) ts = record { spelled = t ∷ []; split = refl; holds = (t, is, refl) } in
-          weaker _ (Field alias f) (t ∷ ts) left (λ l spelled. inr (w, h.0, spelled))
-          (joined (Is as_name w) (One (is_symbol symbols.Dot) then Is as_word f) (t ∷ ts) ts left name (joined (One (is_symbol symbols.Dot)) (Is as_word f) ts dot.1 left dotted member)))
+      let dot = bound (symbol_at symbols.Dot ts) _ f left h.1 in
+      let dotted = symbol_sound symbols.Dot ts dot.0 dot.1 dot.2 in
+      let member = word_sound as_word dot.1 _ f left refl dot.3 in
+      let name : Front (Is as_name w) (t ∷ ts) ts = record { spelled = t ∷ []; split = refl; holds = (t, is, refl) } in
+      weaker _ (Field alias f) (t ∷ ts) left (λ l spelled. inr (w, h.0, spelled))
+      (joined (Is as_name w) (One (is_symbol symbols.Dot) then Is as_word f) (t ∷ ts) ts left name (joined (One (is_symbol symbols.Dot)) (Is as_word f) ts dot.1 left dotted member)))
       (λ h.
-          let same : w ≡ f = value_is h.1 in
-          record {
-            spelled = t ∷ [];
-            split = ap (λ (l : List Terminal). t ∷ l) (left_is h.1);
-            holds = inl (subst (λ (u : List ℕ). is_alias alias u ≡ false) same h.0, (t, is ∙ ap Some same, refl));
-          })
+      let same : w ≡ f = value_is h.1 in
+      record {
+        spelled = t ∷ [];
+        split = ap (λ (l : List Terminal). t ∷ l) (left_is h.1);
+        holds = inl (subst (λ (u : List ℕ). is_alias alias u ≡ false) same h.0, (t, is ∙ ap Some same, refl));
+      })
       (chosen (is_alias alias w) _ _ _ read)
 
   field_sound_by : (ts : List Terminal) (o : Option (List ℕ)) (f : List ℕ) (left : List Terminal) → o ≡ front as_name ts → field_by alias o ts ≡ Ok (f, left) → Front (Field alias f) ts left
@@ -128,12 +121,12 @@ negative_sound minus sign ts None x left is read = absurd (cc)
 negative_sound minus sign ts (Some n) x left is read =
     ⊎_elim
     (λ h.
-        let number = one_has as_number n ts (sym is) in
-        let signed : Front (One (is_symbol symbols.Minus)) (minus ∷ ts) ts = record { spelled = minus ∷ []; split = refl; holds = (minus, sign, refl) } in
-        subst (λ (y : Scalar). Front (Literal y) (minus ∷ ts) left) (value_is h.1)
-        (subst (Front (Literal (scalar.Int (neg_ℤ (pos n)))) (minus ∷ ts)) (left_is h.1)
-          (weaker _ (Literal (scalar.Int (neg_ℤ (pos n)))) (minus ∷ ts) (rest ts) (λ l spelled. inr (n, leb-true n _ h.0, refl, spelled))
-            (joined (One (is_symbol symbols.Minus)) (Is as_number n) (minus ∷ ts) ts (rest ts) signed number))))
+    let number = one_has as_number n ts (sym is) in
+    let signed : Front (One (is_symbol symbols.Minus)) (minus ∷ ts) ts = record { spelled = minus ∷ []; split = refl; holds = (minus, sign, refl) } in
+    subst (λ (y : Scalar). Front (Literal y) (minus ∷ ts) left) (value_is h.1)
+    (subst (Front (Literal (scalar.Int (neg_ℤ (pos n)))) (minus ∷ ts)) (left_is h.1)
+    (weaker _ (Literal (scalar.Int (neg_ℤ (pos n)))) (minus ∷ ts) (rest ts) (λ l spelled. inr (n, leb-true n _ h.0, refl, spelled))
+    (joined (One (is_symbol symbols.Minus)) (Is as_number n) (minus ∷ ts) ts (rest ts) signed number))))
     (λ h. absurd (cc h.1))
     (chosen (leb n (2 ^ 63)) _ _ _ read)
 
@@ -141,9 +134,9 @@ plain_sound : (ts : List Terminal) (o : Option ℕ) (p : Option (List ℕ)) (x :
 plain_sound ts (Some n) p x left is quoted_is read =
     ⊎_elim
     (λ h.
-        subst (λ (y : Scalar). Front (Literal y) ts left) (value_is h.1)
-        (subst (Front (Literal (scalar.Int (pos n))) ts) (left_is h.1)
-          (weaker _ (Literal (scalar.Int (pos n))) ts (rest ts) (λ l spelled. inl (n, ltb-true n _ h.0, refl, spelled)) (one_has as_number n ts (sym is)))))
+    subst (λ (y : Scalar). Front (Literal y) ts left) (value_is h.1)
+    (subst (Front (Literal (scalar.Int (pos n))) ts) (left_is h.1)
+    (weaker _ (Literal (scalar.Int (pos n))) ts (rest ts) (λ l spelled. inl (n, ltb-true n _ h.0, refl, spelled)) (one_has as_number n ts (sym is)))))
     (λ h. absurd (cc h.1))
     (chosen (ltb n (2 ^ 63)) _ _ _ read)
 plain_sound ts None (Some text) x left is quoted_is read =
@@ -192,17 +185,17 @@ module _ {A : Type 0} (separator : Terminal → Bool) (item : List Terminal → 
   more_sound (suc turns) x ts xs left read =
       ⊎_elim
       (λ h.
-          let next = bound (item (rest ts)) _ xs left h.1 in
-          let m = made_of (λ ys. next.0 ∷ ys) (more_at separator item turns next.1) xs left next.3 in
-          let one = one_begins separator ts h.0 in
-          let found = sound (rest ts) next.0 next.1 next.2 in
-          let later = more_sound turns next.0 next.1 m.0 left m.1 in
-          let row = later.2 found.spelled found.holds in
-          subst (λ (l : List A). Behind x l ts left) m.2 (
-            one.spelled ++ (found.spelled ++ later.0),
-            one.split ∙ ap (λ (l : List Terminal). one.spelled ++ l) (found.split ∙ ap (λ (l : List Terminal). found.spelled ++ l) later.1 ∙ sym (append_assoc found.spelled later.0 left)) ∙ sym (append_assoc one.spelled (found.spelled ++ later.0) left),
-            λ first holds. (first, one.spelled ++ (found.spelled ++ later.0), refl, holds, (one.spelled, found.spelled ++ later.0, refl, one.holds, row)),
-          ))
+      let next = bound (item (rest ts)) _ xs left h.1 in
+      let m = made_of (λ ys. next.0 ∷ ys) (more_at separator item turns next.1) xs left next.3 in
+      let one = one_begins separator ts h.0 in
+      let found = sound (rest ts) next.0 next.1 next.2 in
+      let later = more_sound turns next.0 next.1 m.0 left m.1 in
+      let row = later.2 found.spelled found.holds in
+      subst (λ (l : List A). Behind x l ts left) m.2 (
+        one.spelled ++ (found.spelled ++ later.0),
+        one.split ∙ ap (λ (l : List Terminal). one.spelled ++ l) (found.split ∙ ap (λ (l : List Terminal). found.spelled ++ l) later.1 ∙ sym (append_assoc found.spelled later.0 left)) ∙ sym (append_assoc one.spelled (found.spelled ++ later.0) left),
+        λ first holds. (first, one.spelled ++ (found.spelled ++ later.0), refl, holds, (one.spelled, found.spelled ++ later.0, refl, one.holds, row)),
+      ))
       (λ h. subst (λ (l : List A). Behind x l ts left) (value_is h.1) ([], left_is h.1, λ first holds. subst (Spells x) (sym (append-nil first)) holds))
       (chosen (begins separator ts) _ _ _ read)
 

@@ -1,10 +1,8 @@
 -- What is read is spelled so: tests, conditions and the query.
-use Rattle.std.proofs.Common.{◌≡◌, ◌⊎◌, ℕ, zero, suc, ◌<◌, ◌≤◌, List, [], ◌∷◌, ◌++◌, length, Result, Ok, Err, Option, Some, None, Bool, cond, true, false, ◌||◌, leb, inl, inr, ⊎_elim, refl, sym, ap, ◌∙◌, subst, arith, append_assoc, append-nil}
+use Rattle.std.proofs.Common.{◌≡◌, ℕ, zero, suc, List, [], ◌∷◌, ◌++◌, length, Ok, Option, Some, None, true, false, ◌||◌, leb, inl, inr, ⊎_elim, refl, sym, ap, ◌∙◌, subst, append-nil}
 use Rattle.std.proofs.lemmas.Bool.{leb-true}
-use Rattle.gr_value.specs.declared.scalar.Scalar.{Scalar}
 use Rattle.gr_lex.specs.declared.token.Symbol.TheVariants as symbols
 use Rattle.gr_oql.specs.declared.keyword.Keyword.TheVariants as word
-use Rattle.gr_oql.specs.declared.condition.Relation.{Relation}
 use Rattle.gr_oql.specs.declared.condition.Relation.TheVariants as relation
 use Rattle.gr_oql.specs.declared.condition.Operand.{Operand}
 use Rattle.gr_oql.specs.declared.condition.Operand.TheVariants as operand
@@ -12,8 +10,8 @@ use Rattle.gr_oql.specs.declared.condition.Test.{Test}
 use Rattle.gr_oql.specs.declared.condition.Test.TheVariants as tests
 use Rattle.gr_oql.specs.Tree.{Tree, any, all, negation, test}
 use Rattle.gr_oql.specs.View.{in_order}
-use Rattle.gr_oql.specs.Terminals.{Terminal, begins, front, rest, is_symbol, is_keyword, as_name, as_word, as_number, as_quoted}
-use Rattle.gr_oql.specs.Reading.{Reading, ◌>>=◌, read_as, symbol_at, keyword_at, name_at, field_at, literal_at, operand_at, separated_at, relation_at, has_backslash, pattern_by, like_at, among_at, compare_at, behind_operand, behind_first, bracketed_at, test_at, all_at, any_at, bracket_at, part_at, most_depth, condition_at, Asked, star_at, region_by, region_at, alias_by, alias_at, end_at, bare_end_at, where_at, source_at, query_at}
+use Rattle.gr_oql.specs.Terminals.{Terminal, begins, front, rest, is_symbol, is_keyword, as_name, as_quoted}
+use Rattle.gr_oql.specs.Reading.{Reading, read_as, symbol_at, keyword_at, name_at, field_at, literal_at, operand_at, separated_at, relation_at, has_backslash, pattern_by, among_at, compare_at, behind_operand, behind_first, bracketed_at, test_at, all_at, any_at, bracket_at, part_at, most_depth, condition_at, Asked, star_at, region_by, region_at, alias_by, alias_at, end_at, bare_end_at, where_at, source_at, query_at}
 use Rattle.gr_oql.specs.Grammar.{One, Is, ◌then◌, Row, Field, Literal, IsOperand, IsRelation, Bracketed, IsTest, IsAll, IsAny, IsPart, IsCondition, IsRegion, IsAlias, IsWhere, IsQuery}
 use Rattle.gr_oql.proofs.Sound.{Front, Sound, joined, weaker, chosen, bound, made_of, value_is, left_is, one_begins, one_has, symbol_sound, keyword_sound, name_sound, field_sound, literal_sound, operand_sound, row_sound, fixed_sound}
 
@@ -35,8 +33,8 @@ pattern_sound ts (Some text) p left is read =
     ⊎_elim
     (λ h. absurd (cc h.1))
     (λ h.
-        let same : text ≡ p = value_is h.1 in
-        subst (λ (u : List ℕ). (has_backslash u ≡ false) × Front (Is as_quoted u) ts left) same (h.0, subst (Front (Is as_quoted text) ts) (left_is h.1) (one_has as_quoted text ts (sym is))))
+    let same : text ≡ p = value_is h.1 in
+    subst (λ (u : List ℕ). (has_backslash u ≡ false) × Front (Is as_quoted u) ts left) same (h.0, subst (Front (Is as_quoted text) ts) (left_is h.1) (one_has as_quoted text ts (sym is))))
     (chosen (has_backslash text) _ _ _ read)
 
 -- something in brackets
@@ -64,8 +62,8 @@ module _ (alias : Option (List ℕ)) where
       let brackets = in_brackets (Row (is_symbol symbols.Comma) Literal row.0) s.1 opens.1 row.1 left opens.2 literals closes.1 in
       subst (λ (y : Test). Front (IsTest alias y) start left) closes.2
       (joined (IsOperand alias o) _ start ts left operand
-        (joined (One (is_keyword word.In)) _ ts (rest ts) left (one_begins (is_keyword word.In) ts is)
-          (joined (One (is_keyword word.Set)) _ (rest ts) s.1 left (keyword_sound word.Set (rest ts) s.0 s.1 s.2) brackets)))
+      (joined (One (is_keyword word.In)) _ ts (rest ts) left (one_begins (is_keyword word.In) ts is)
+      (joined (One (is_keyword word.Set)) _ (rest ts) s.1 left (keyword_sound word.Set (rest ts) s.0 s.1 s.2) brackets)))
 
   compare_sound : (o : Operand) (start ts left : List Terminal) (x : Test) → Front (IsOperand alias o) start ts → compare_at alias o ts ≡ Ok (x, left) → Front (IsTest alias x) start left
   compare_sound o start ts left x operand read =
@@ -73,7 +71,7 @@ module _ (alias : Option (List ℕ)) where
       let right = made_of (λ y. tests.Compare o r.0 y) (operand_at alias r.1) x left r.3 in
       subst (λ (y : Test). Front (IsTest alias y) start left) right.2
       (joined (IsOperand alias o) _ start ts left operand
-        (joined (IsRelation r.0) (IsOperand alias right.0) ts r.1 left (relation_sound ts r.0 r.1 r.2) (operand_sound alias r.1 right.0 left right.1)))
+      (joined (IsRelation r.0) (IsOperand alias right.0) ts r.1 left (relation_sound ts r.0 r.1 r.2) (operand_sound alias r.1 right.0 left right.1)))
 
   behind_sound : (o : Operand) (start ts left : List Terminal) (x : Test) → Front (IsOperand alias o) start ts → behind_operand alias o ts ≡ Ok (x, left) → Front (IsTest alias x) start left
   behind_sound o start ts left x operand read =
@@ -86,12 +84,12 @@ module _ (alias : Option (List ℕ)) where
   first_sound (operand.Field f) start ts left x found read =
       ⊎_elim
       (λ h.
-          let m = made_of (λ p. tests.Like f p) _ x left h.1 in
-          let pattern = pattern_sound (rest ts) _ m.0 left refl m.1 in
-          subst (λ (y : Test). Front (IsTest alias y) start left) m.2
-          (weaker _ (IsTest alias (tests.Like f m.0)) start left (λ l spelled. (pattern.0, spelled))
-            (joined (Field alias f) (One (is_keyword word.Like) then Is as_quoted m.0) start ts left found
-              (joined (One (is_keyword word.Like)) (Is as_quoted m.0) ts (rest ts) left (one_begins (is_keyword word.Like) ts h.0) pattern.1))))
+      let m = made_of (λ p. tests.Like f p) _ x left h.1 in
+      let pattern = pattern_sound (rest ts) _ m.0 left refl m.1 in
+      subst (λ (y : Test). Front (IsTest alias y) start left) m.2
+      (weaker _ (IsTest alias (tests.Like f m.0)) start left (λ l spelled. (pattern.0, spelled))
+      (joined (Field alias f) (One (is_keyword word.Like) then Is as_quoted m.0) start ts left found
+      (joined (One (is_keyword word.Like)) (Is as_quoted m.0) ts (rest ts) left (one_begins (is_keyword word.Like) ts h.0) pattern.1))))
       (λ h. behind_sound (operand.Field f) start ts left x found h.1)
       (chosen (begins (is_keyword word.Like) ts) _ _ _ read)
   first_sound (operand.Literal l) start ts left x found read = behind_sound (operand.Literal l) start ts left x found read
@@ -100,17 +98,17 @@ module _ (alias : Option (List ℕ)) where
   test_sound ts x left read =
       ⊎_elim
       (λ h.
-          let m = made_of tests.Defined (bracketed_at alias (rest ts)) x left h.1 in
-          subst (λ (y : Test). Front (IsTest alias y) ts left) m.2 (joined (One (is_keyword word.IsDefined)) (Bracketed (Field alias m.0)) ts (rest ts) left (one_begins (is_keyword word.IsDefined) ts h.0) (bracketed_sound (rest ts) m.0 left m.1)))
+      let m = made_of tests.Defined (bracketed_at alias (rest ts)) x left h.1 in
+      subst (λ (y : Test). Front (IsTest alias y) ts left) m.2 (joined (One (is_keyword word.IsDefined)) (Bracketed (Field alias m.0)) ts (rest ts) left (one_begins (is_keyword word.IsDefined) ts h.0) (bracketed_sound (rest ts) m.0 left m.1)))
       (λ r1.
-          ⊎_elim
-          (λ h.
-              let m = made_of tests.Undefined (bracketed_at alias (rest ts)) x left h.1 in
-              subst (λ (y : Test). Front (IsTest alias y) ts left) m.2 (joined (One (is_keyword word.IsUndefined)) (Bracketed (Field alias m.0)) ts (rest ts) left (one_begins (is_keyword word.IsUndefined) ts h.0) (bracketed_sound (rest ts) m.0 left m.1)))
-          (λ r2.
-              let o = bound (operand_at alias ts) _ x left r2.1 in
-              first_sound o.0 ts o.1 left x (operand_sound alias ts o.0 o.1 o.2) o.3)
-          (chosen (begins (is_keyword word.IsUndefined) ts) _ _ _ r1.1))
+      ⊎_elim
+      (λ h.
+      let m = made_of tests.Undefined (bracketed_at alias (rest ts)) x left h.1 in
+      subst (λ (y : Test). Front (IsTest alias y) ts left) m.2 (joined (One (is_keyword word.IsUndefined)) (Bracketed (Field alias m.0)) ts (rest ts) left (one_begins (is_keyword word.IsUndefined) ts h.0) (bracketed_sound (rest ts) m.0 left m.1)))
+      (λ r2.
+      let o = bound (operand_at alias ts) _ x left r2.1 in
+      first_sound o.0 ts o.1 left x (operand_sound alias ts o.0 o.1 o.2) o.3)
+      (chosen (begins (is_keyword word.IsUndefined) ts) _ _ _ r1.1))
       (chosen (begins (is_keyword word.IsDefined) ts) _ _ _ read)
 
 -- conditions
@@ -131,7 +129,7 @@ module _ (within : List Terminal → Reading Tree) (Part : Tree → List Termina
       let closes = made_of (λ _. inner.0) (symbol_at symbols.RightBracket inner.1) c left inner.3 in
       subst (λ (d : Tree). Front (Bracketed (IsAny Part d)) ts left) closes.2
       (joined (One (is_symbol symbols.LeftBracket)) _ ts (rest ts) left (one_begins (is_symbol symbols.LeftBracket) ts is)
-        (joined (IsAny Part inner.0) (One (is_symbol symbols.RightBracket)) (rest ts) inner.1 left (any_sound (rest ts) inner.0 inner.1 inner.2) (symbol_sound symbols.RightBracket inner.1 closes.0 left closes.1)))
+      (joined (IsAny Part inner.0) (One (is_symbol symbols.RightBracket)) (rest ts) inner.1 left (any_sound (rest ts) inner.0 inner.1 inner.2) (symbol_sound symbols.RightBracket inner.1 closes.0 left closes.1)))
 
 module _ (alias : Option (List ℕ)) where
   tested_sound : (ts : List Terminal) (c : Tree) (left : List Terminal) → read_as test (test_at alias ts) ≡ Ok (c, left) → Front (λ l. (t : Test) × (c ≡ test t) × IsTest alias t l) ts left
@@ -148,14 +146,14 @@ module _ (alias : Option (List ℕ)) where
   part_sound (suc depth) ts c left read =
       ⊎_elim
       (λ h.
-          let m = made_of negation (part_at alias depth (rest ts)) c left h.1 in
-          let spelled = joined (One (is_keyword word.Not)) (IsPart alias depth m.0) ts (rest ts) left (one_begins (is_keyword word.Not) ts h.0) (part_sound depth (rest ts) m.0 left m.1) in
-          weaker _ (IsPart alias (suc depth) c) ts left (λ l is. inr (inl (m.0, sym m.2, is))) spelled)
+      let m = made_of negation (part_at alias depth (rest ts)) c left h.1 in
+      let spelled = joined (One (is_keyword word.Not)) (IsPart alias depth m.0) ts (rest ts) left (one_begins (is_keyword word.Not) ts h.0) (part_sound depth (rest ts) m.0 left m.1) in
+      weaker _ (IsPart alias (suc depth) c) ts left (λ l is. inr (inl (m.0, sym m.2, is))) spelled)
       (λ r1.
-          ⊎_elim
-          (λ h. weaker _ (IsPart alias (suc depth) c) ts left (λ l is. inr (inr is)) (bracket_sound (part_at alias depth) (IsPart alias depth) (part_sound depth) ts c left h.0 h.1))
-          (λ h. weaker _ (IsPart alias (suc depth) c) ts left (λ l is. inl is) (tested_sound ts c left h.1))
-          (chosen (begins (is_symbol symbols.LeftBracket) ts) _ _ _ r1.1))
+      ⊎_elim
+      (λ h. weaker _ (IsPart alias (suc depth) c) ts left (λ l is. inr (inr is)) (bracket_sound (part_at alias depth) (IsPart alias depth) (part_sound depth) ts c left h.0 h.1))
+      (λ h. weaker _ (IsPart alias (suc depth) c) ts left (λ l is. inl is) (tested_sound ts c left h.1))
+      (chosen (begins (is_symbol symbols.LeftBracket) ts) _ _ _ r1.1))
       (chosen (begins (is_keyword word.Not) ts) _ _ _ read)
 
   pub condition_sound : Sound (IsCondition alias) (condition_at alias)
@@ -189,9 +187,9 @@ alias_sound : Sound IsAlias alias_at
 alias_sound ts a left read =
     ⊎_elim
     (λ h.
-        let m = made_of (λ w. Some w) (name_at (rest ts)) a left h.1 in
-        subst (λ (b : Option (List ℕ)). Front (IsAlias b) ts left) m.2
-        (weaker _ (IsAlias (Some m.0)) ts left (λ l spelled. inr spelled) (joined (One (is_keyword word.As)) (Is as_name m.0) ts (rest ts) left (one_begins (is_keyword word.As) ts h.0) (name_sound (rest ts) m.0 left m.1))))
+    let m = made_of (λ w. Some w) (name_at (rest ts)) a left h.1 in
+    subst (λ (b : Option (List ℕ)). Front (IsAlias b) ts left) m.2
+    (weaker _ (IsAlias (Some m.0)) ts left (λ l spelled. inr spelled) (joined (One (is_keyword word.As)) (Is as_name m.0) ts (rest ts) left (one_begins (is_keyword word.As) ts h.0) (name_sound (rest ts) m.0 left m.1))))
     (λ h. alias_sound_by ts _ a left refl h.1)
     (chosen (begins (is_keyword word.As) ts) _ _ _ read)
 
@@ -208,16 +206,16 @@ where_sound : (alias : Option (List ℕ)) (ts : List Terminal) (c : Option Tree)
 where_sound alias ts c left read =
     ⊎_elim
     (λ h.
-        let condition = bound (condition_at alias (rest ts)) _ c left h.1 in
-        let m = made_of (λ _. Some condition.0) (end_at condition.1) c left condition.3 in
-        let end = end_is condition.1 m.0 left m.1 in
-        let spelled = joined (One (is_keyword word.Where)) (IsCondition alias condition.0) ts (rest ts) condition.1 (one_begins (is_keyword word.Where) ts h.0) (condition_sound alias (rest ts) condition.0 condition.1 condition.2) in
-        let whole : ts ≡ spelled.spelled = spelled.split ∙ ap (λ (l : List Terminal). spelled.spelled ++ l) end.0 ∙ append-nil spelled.spelled in
-        (end.1, subst (λ (d : Option Tree). IsWhere alias d ts) m.2 (subst (One (is_keyword word.Where) then IsCondition alias condition.0) (sym whole) spelled.holds)))
+    let condition = bound (condition_at alias (rest ts)) _ c left h.1 in
+    let m = made_of (λ _. Some condition.0) (end_at condition.1) c left condition.3 in
+    let end = end_is condition.1 m.0 left m.1 in
+    let spelled = joined (One (is_keyword word.Where)) (IsCondition alias condition.0) ts (rest ts) condition.1 (one_begins (is_keyword word.Where) ts h.0) (condition_sound alias (rest ts) condition.0 condition.1 condition.2) in
+    let whole : ts ≡ spelled.spelled = spelled.split ∙ ap (λ (l : List Terminal). spelled.spelled ++ l) end.0 ∙ append-nil spelled.spelled in
+    (end.1, subst (λ (d : Option Tree). IsWhere alias d ts) m.2 (subst (One (is_keyword word.Where) then IsCondition alias condition.0) (sym whole) spelled.holds)))
     (λ h.
-        let m = made_of (λ _. None) (bare_end_at ts) c left h.1 in
-        let end = bare_end_is ts m.0 left m.1 in
-        (end.1, subst (λ (d : Option Tree). IsWhere alias d ts) m.2 end.0))
+    let m = made_of (λ _. None) (bare_end_at ts) c left h.1 in
+    let end = bare_end_is ts m.0 left m.1 in
+    (end.1, subst (λ (d : Option Tree). IsWhere alias d ts) m.2 end.0))
     (chosen (begins (is_keyword word.Where) ts) _ _ _ read)
 
 whole_of : (P : List Terminal → Type 0) (ts left : List Terminal) → left ≡ [] → P ts → Front P ts left
@@ -229,11 +227,10 @@ source_sound ts q left read =
     let alias = bound (alias_at region.1) _ q left region.3 in
     let m = made_of (λ c. record { region = region.0; alias = alias.0; condition = c }) (where_at alias.0 alias.1) q left alias.3 in
     let condition = where_sound alias.0 alias.1 m.0 left m.1 in
-    let behind = joined (IsAlias alias.0) (IsWhere alias.0 m.0) region.1 alias.1 left (alias_sound region.1 alias.0 alias.1 alias.2) (whole_of (IsWhere alias.0 m.0) alias.1 left condition.0 condition.1) in
-    (
+    let behind = joined (IsAlias alias.0) (IsWhere alias.0 m.0) region.1 alias.1 left (alias_sound region.1 alias.0 alias.1 alias.2) (whole_of (IsWhere alias.0 m.0) alias.1 left condition.0 condition.1) in (
       condition.0,
       subst (λ (p : Asked). Front (IsRegion p.region then IsAlias p.alias then IsWhere p.alias p.condition) ts left) m.2
-        (joined (IsRegion region.0) _ ts region.1 left (region_sound_by ts _ region.0 region.1 refl region.2) behind),
+          (joined (IsRegion region.0) _ ts region.1 left (region_sound_by ts _ region.0 region.1 refl region.2) behind),
     )
 
 pub query_sound : (ts : List Terminal) (q : Asked) (left : List Terminal) → query_at ts ≡ Ok (q, left) → (left ≡ []) × IsQuery q ts
@@ -241,16 +238,16 @@ query_sound ts q left read =
     ⊎_elim
     (λ h. absurd (cc h.1))
     (λ h.
-        let select = bound (keyword_at word.Select ts) _ q left h.1 in
-        let star = bound (star_at select.1) _ q left select.3 in
-        let from = bound (keyword_at word.From star.1) _ q left star.3 in
-        let slash = bound (symbol_at symbols.Slash from.1) _ q left from.3 in
-        let source = source_sound slash.1 q left slash.3 in
-        let spelled =
-        joined (One (is_keyword word.Select)) _ ts select.1 left (keyword_sound word.Select ts select.0 select.1 select.2)
-        (joined (One (is_symbol symbols.Star)) _ select.1 star.1 left (star_sound select.1 star.0 star.1 star.2)
-          (joined (One (is_keyword word.From)) _ star.1 from.1 left (keyword_sound word.From star.1 from.0 from.1 from.2)
-            (joined (One (is_symbol symbols.Slash)) _ from.1 slash.1 left (symbol_sound symbols.Slash from.1 slash.0 slash.1 slash.2) source.1))) in
-        let whole : ts ≡ spelled.spelled = spelled.split ∙ ap (λ (l : List Terminal). spelled.spelled ++ l) source.0 ∙ append-nil spelled.spelled in
-        (source.0, subst (IsQuery q) (sym whole) spelled.holds))
+    let select = bound (keyword_at word.Select ts) _ q left h.1 in
+    let star = bound (star_at select.1) _ q left select.3 in
+    let from = bound (keyword_at word.From star.1) _ q left star.3 in
+    let slash = bound (symbol_at symbols.Slash from.1) _ q left from.3 in
+    let source = source_sound slash.1 q left slash.3 in
+    let spelled =
+    joined (One (is_keyword word.Select)) _ ts select.1 left (keyword_sound word.Select ts select.0 select.1 select.2)
+    (joined (One (is_symbol symbols.Star)) _ select.1 star.1 left (star_sound select.1 star.0 star.1 star.2)
+    (joined (One (is_keyword word.From)) _ star.1 from.1 left (keyword_sound word.From star.1 from.0 from.1 from.2)
+    (joined (One (is_symbol symbols.Slash)) _ from.1 slash.1 left (symbol_sound symbols.Slash from.1 slash.0 slash.1 slash.2) source.1))) in
+    let whole : ts ≡ spelled.spelled = spelled.split ∙ ap (λ (l : List Terminal). spelled.spelled ++ l) source.0 ∙ append-nil spelled.spelled in
+    (source.0, subst (IsQuery q) (sym whole) spelled.holds))
     (chosen (begins (is_keyword word.Import) ts) _ _ _ read)

@@ -1,5 +1,5 @@
 -- The grammar of queries: which terminals spell what. Nothing here says how they are read.
-use Rattle.std.specs.Prelude.{◌≡◌, ◌⊎◌, ℕ, zero, suc, ◌<◌, ◌≤◌, ◌^◌, ℤ, pos, neg_ℤ, List, [], ◌∷◌, ◌++◌, length, Bool, true, false, IsTrue, IsFalse, Option, Some, None}
+use Rattle.std.specs.Prelude.{◌≡◌, ◌⊎◌, ℕ, zero, suc, ◌<◌, ◌≤◌, ◌^◌, pos, neg_ℤ, List, [], ◌∷◌, ◌++◌, length, Bool, true, false, IsTrue, IsFalse, Option, Some, None, Ok}
 use Rattle.gr_value.specs.declared.scalar.Scalar.{Scalar}
 use Rattle.gr_value.specs.declared.scalar.Scalar.TheVariants as scalar
 use Rattle.gr_lex.specs.declared.token.Symbol.TheVariants as symbols
@@ -10,9 +10,12 @@ use Rattle.gr_oql.specs.declared.condition.Operand.{Operand}
 use Rattle.gr_oql.specs.declared.condition.Operand.TheVariants as operand
 use Rattle.gr_oql.specs.declared.condition.Test.{Test}
 use Rattle.gr_oql.specs.declared.condition.Test.TheVariants as tests
+use Rattle.gr_lex.specs.declared.token.Token.{Token}
+use Rattle.gr_lex.specs.Reading.{tokens_of}
+use Rattle.gr_oql.specs.Question.{Question}
 use Rattle.gr_oql.specs.Tree.{Tree, any, all, negation, test}
 use Rattle.gr_oql.specs.View.{in_order}
-use Rattle.gr_oql.specs.Terminals.{Terminal, is_symbol, is_keyword, as_name, as_word, as_number, as_quoted}
+use Rattle.gr_oql.specs.Terminals.{Terminal, is_symbol, is_keyword, as_name, as_word, as_number, as_quoted, terminals_of}
 use Rattle.gr_oql.specs.Reading.{is_alias, has_backslash, most_depth, Asked}
 
 -- one terminal that passes a test, as `(`
@@ -108,4 +111,12 @@ IsWhere alias (Some c) ts = (One (is_keyword word.Where) then IsCondition alias 
 abbrev pub IsQuery : Asked → List Terminal → Type 0
 IsQuery q ts =
     (One (is_keyword word.Select) then One (is_symbol symbols.Star) then One (is_keyword word.From) then One (is_symbol symbols.Slash)
-      then IsRegion q.region then IsAlias q.alias then IsWhere q.alias q.condition) ts
+    then IsRegion q.region then IsAlias q.alias then IsWhere q.alias q.condition) ts
+
+-- What a question asks, apart from its text.
+abbrev pub asked_by : Question → Asked
+asked_by q = record { region = q.region; alias = q.alias; condition = q.condition }
+
+-- The text's tokens spell the question.
+abbrev pub Spells : List ℕ → Question → Type 0
+Spells text q = (tokens : List Token) × (tokens_of text ≡ Ok tokens) × (q.text ≡ text) × IsQuery (asked_by q) (terminals_of text tokens)

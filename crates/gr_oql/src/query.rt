@@ -1,9 +1,11 @@
-ghost use Rattle.std.specs.Prelude.{◌≡◌, ◌≤◌, length, drop, IfOk, IfErr, All, List, ℕ, option_map};
+ghost use Rattle.std.specs.Prelude.{◌≡◌, ◌≤◌, length, drop, IfOk, IfErr, All, List, ℕ, option_map, Ok};
 ghost use Rattle.gr_oql.specs.Faults.{place_of, named, fault_of, question_of, answer, is_greatest, Answers};
 ghost use Rattle.gr_oql.specs.Reading.{query_at};
 ghost use Rattle.gr_oql.specs.Terminals.{terminals_of};
 ghost use Rattle.gr_oql.specs.View.{tree_of};
 ghost use Rattle.gr_lex.specs.Layout.{IsToken};
+ghost use Rattle.gr_oql.specs.Grammar.{Spells};
+ghost use Rattle.gr_oql.specs.Question.{Question};
 ghost use Rattle.gr_oql.specs.Sources.{asked};
 ghost use Rattle.gr_oql.specs.declared.fault.OqlFault.TheVariants as oql_fault;
 
@@ -123,16 +125,28 @@ fn asked_by(alloc: Global, text: &str, tokens: &[Token]) -> Result<Query, OqlFau
     }
 }
 
+fn parsed(alloc: Global, text: &str) -> Result<Query, OqlFault>
+    ensures { Answers result (question_of text.now) }
+{
+    match tokens(alloc, text) {
+        Ok(tokens) => asked_by(alloc, text, tokens.as_slice()),
+        Err(LexFault::Memory) => Err(OqlFault::Memory),
+        Err(fault) => Err(OqlFault::Lex(fault)),
+    }
+}
+
 impl Query {
     /// Reads a query. A fault of its tokens comes before any other.
+    #[tactic(auto, using(crate::proofs::Exact::spelled, crate::proofs::Exact::only))]
     pub fn parse(alloc: Global, text: &str) -> Result<Query, OqlFault>
-        ensures { Answers result (question_of text.now) }
+        // What the text asks, or which fault it has and where.
+        ensures exact { Answers result (question_of text.now) }
+        // What is read is spelled so.
+        ensures spelled { IfOk result (Spells text.now) }
+        // What is spelled so is read.
+        ensures only { (q : Question) → Spells text.now q → Answers result (Ok q) }
     {
-        match tokens(alloc, text) {
-            Ok(tokens) => asked_by(alloc, text, tokens.as_slice()),
-            Err(LexFault::Memory) => Err(OqlFault::Memory),
-            Err(fault) => Err(OqlFault::Lex(fault)),
-        }
+        parsed(alloc, text)
     }
 
     /// The region's name, with a slash before it.

@@ -25,12 +25,27 @@ fn a_query_has_its_text_and_region(rt: HostRuntime) -> Result<(), Fail> {
     let table = [
         ("SELECT * FROM /r", "/r"),
         (" select\t* from / trade_1 as t ", "/trade_1"),
-        ("Select * From /r r Where r.x In Set(1,2) And Is_Defined(r.y)", "/r"),
+        (
+            "Select * From /r r Where r.x In Set(1,2) And Is_Defined(r.y)",
+            "/r",
+        ),
         ("SELECT * FROM /r WHERE NOT y = 1 OR x = 1", "/r"),
-        ("SELECT * FROM /r WHERE x LIKE 'a_%' AND x = 'it''s' OR NULL <> x", "/r"),
-        ("SELECT * FROM /r t WHERE t.select = 007 AND NOT (x >= -1 OR TRUE != t.from)", "/r"),
-        ("SELECT * FROM /r WHERE x = -9223372036854775808 AND x < 9223372036854775807", "/r"),
-        ("SELECT * FROM /r WHERE x IN SET(NULL, - 5, 'a', FALSE) AND IS_UNDEFINED(y)", "/r"),
+        (
+            "SELECT * FROM /r WHERE x LIKE 'a_%' AND x = 'it''s' OR NULL <> x",
+            "/r",
+        ),
+        (
+            "SELECT * FROM /r t WHERE t.select = 007 AND NOT (x >= -1 OR TRUE != t.from)",
+            "/r",
+        ),
+        (
+            "SELECT * FROM /r WHERE x = -9223372036854775808 AND x < 9223372036854775807",
+            "/r",
+        ),
+        (
+            "SELECT * FROM /r WHERE x IN SET(NULL, - 5, 'a', FALSE) AND IS_UNDEFINED(y)",
+            "/r",
+        ),
         ("SELECT * FROM /r WHERE 1 = 1 AND 'a' IN SET('\\')", "/r"),
     ];
     for (text, region) in table {
@@ -49,10 +64,16 @@ fn the_head_of_a_query_has_its_faults(rt: HostRuntime) {
         ("x", OqlFault::Expected(0)),
         ("SELECT", OqlFault::Expected(6)),
         (" import a", OqlFault::NotACq(1, Part::Import)),
-        ("SELECT DISTINCT * FROM /r", OqlFault::NotACq(7, Part::Distinct)),
+        (
+            "SELECT DISTINCT * FROM /r",
+            OqlFault::NotACq(7, Part::Distinct),
+        ),
         ("SELECT x FROM /r", OqlFault::NotACq(7, Part::Projection)),
         ("SELECT IMPORT", OqlFault::NotACq(7, Part::Projection)),
-        ("SELECT 9223372036854775808", OqlFault::Lex(LexFault::NumberTooLarge(7))),
+        (
+            "SELECT 9223372036854775808",
+            OqlFault::Lex(LexFault::NumberTooLarge(7)),
+        ),
         ("SELECT * FROM", OqlFault::Expected(13)),
         ("SELECT * /r", OqlFault::Expected(9)),
         ("SELECT * FROM r", OqlFault::Expected(14)),
@@ -70,8 +91,14 @@ fn the_head_of_a_query_has_its_faults(rt: HostRuntime) {
         ("SELECT * FROM /r t order", OqlFault::NotACq(19, Part::Tail)),
         ("SELECT * FROM /r Group", OqlFault::NotACq(17, Part::Tail)),
         ("SELECT * FROM /r HAVING", OqlFault::NotACq(17, Part::Tail)),
-        ("SELECT * FROM /r 9223372036854775808", OqlFault::Lex(LexFault::NumberTooLarge(17))),
-        ("SELECT * FROM /r - 9223372036854775808", OqlFault::Expected(17)),
+        (
+            "SELECT * FROM /r 9223372036854775808",
+            OqlFault::Lex(LexFault::NumberTooLarge(17)),
+        ),
+        (
+            "SELECT * FROM /r - 9223372036854775808",
+            OqlFault::Expected(17),
+        ),
         ("SELECT ; 'a", OqlFault::Lex(LexFault::BadCharacter(7))),
         ("x 'a", OqlFault::Lex(LexFault::OpenText(2))),
     ];
@@ -103,9 +130,18 @@ fn a_condition_has_its_faults(rt: HostRuntime) -> Result<(), Fail> {
         ("IS_UNDEFINED(x", OqlFault::Expected(37)),
         ("x = -$1", OqlFault::Expected(28)),
         ("x = - y", OqlFault::Expected(29)),
-        ("x = 9223372036854775808", OqlFault::Lex(LexFault::NumberTooLarge(27))),
-        ("x = 9223372036854775809", OqlFault::Lex(LexFault::NumberTooLarge(27))),
-        ("x 9223372036854775808", OqlFault::Lex(LexFault::NumberTooLarge(25))),
+        (
+            "x = 9223372036854775808",
+            OqlFault::Lex(LexFault::NumberTooLarge(27)),
+        ),
+        (
+            "x = 9223372036854775809",
+            OqlFault::Lex(LexFault::NumberTooLarge(27)),
+        ),
+        (
+            "x 9223372036854775808",
+            OqlFault::Lex(LexFault::NumberTooLarge(25)),
+        ),
         ("(x = 1 LIMIT", OqlFault::Expected(30)),
         ("(x = 1", OqlFault::Expected(29)),
         ("x = 1 LIMIT 5", OqlFault::NotACq(29, Part::Tail)),
@@ -121,7 +157,10 @@ fn a_condition_has_its_faults(rt: HostRuntime) -> Result<(), Fail> {
     ];
     for (condition, expected) in table {
         let text = repeated(rt.alloc(), "", 0, condition)?;
-        assert!(rt; fault(rt.alloc(), text.as_str()) == Some(expected), "{condition}");
+        assert!(rt;
+            fault(rt.alloc(), text.as_str()) == Some(expected),
+            "{condition}"
+        );
     }
     Ok(())
 }
@@ -132,7 +171,10 @@ fn an_alias_goes_on_with_a_member(rt: HostRuntime) {
         ("SELECT * FROM /r t WHERE t = 1", OqlFault::Expected(27)),
         ("SELECT * FROM /r t WHERE T.x = 1", OqlFault::Expected(26)),
         ("SELECT * FROM /r t WHERE t.1 = 1", OqlFault::Expected(27)),
-        ("SELECT * FROM /r t WHERE IS_DEFINED(t)", OqlFault::Expected(37)),
+        (
+            "SELECT * FROM /r t WHERE IS_DEFINED(t)",
+            OqlFault::Expected(37),
+        ),
         ("SELECT * FROM /r t WHERE t", OqlFault::Expected(26)),
     ];
     for (text, expected) in table {
