@@ -2,10 +2,10 @@
 #![tactic(auto)]
 
 use gr_io::{StdSink, StdSource};
-use gr_top::{cause_text, replay_words};
+use gr_top::{Outcome, cause_text, replay_words};
 use std::io::Write;
 use std::process::ExitCode;
-use std::{env, io};
+use std::{env, io, mem};
 
 // The words without the program's name.
 fn words(rt: &HostRuntime) -> io::Result<Vec<String>> {
@@ -21,9 +21,15 @@ fn main(rt: HostRuntime) -> ExitCode {
     let words = words(&rt).unwrap_or(Vec::new(rt.alloc()));
     let mut source = StdSource::new(rt.stdin());
     let mut sink = StdSink::new(rt.stdout());
-    let outcome = replay_words(rt.alloc(), words.as_slice(), &mut source, &mut sink);
-    if let Ok(text) = cause_text(rt.alloc(), &outcome.cause) {
+    let Outcome {
+        status,
+        cause,
+        kept,
+    } = replay_words(rt.alloc(), words.as_slice(), &mut source, &mut sink);
+    // The process ends here, and its memory with it.
+    mem::forget(kept);
+    if let Ok(text) = cause_text(rt.alloc(), &cause) {
         let _ = rt.stderr().write_all(text.as_slice());
     }
-    ExitCode::from(outcome.status)
+    ExitCode::from(status)
 }
