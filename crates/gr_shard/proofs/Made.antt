@@ -1,10 +1,11 @@
 -- What a call makes, and whom it goes to.
-use Rattle.std.proofs.Common.{◌≡◌, ◌∙◌, ap, sym, refl, ℕ, ◌+◌, ◌^◌, ◌<◌, ◌≤◌, List, Bool, true, false, if◌then◌else◌, nat_le, max, Option, Some, None, option_map, add-one, add-zero, arith, add_comm}
+use Rattle.std.proofs.Common.{◌≡◌, ◌∙◌, ap, sym, refl, ℕ, ◌+◌, ◌^◌, ◌<◌, ◌≤◌, List, Bool, true, false, if◌then◌else◌, nat_le, max, Option, Some, None, option_map, option_and_then, add-one, add-zero, arith, add_comm}
 use Rattle.std.proofs.lemmas.Bool.Decides.{nat_tests}
 use Rattle.gr_stamp.specs.declared.change.Change.{Change}
 use Rattle.gr_stamp.specs.declared.change.Kind.{Kind}
 use Rattle.gr_stamp.specs.declared.stamp.TheConstants.{LIMIT}
 use Rattle.gr_stamp.specs.Version.{Version, IsInRange}
+use Rattle.gr_stamp.specs.Winner.{put_value}
 use Rattle.gr_history.specs.declared.identity.Identity.{Identity}
 use Rattle.gr_history.specs.declared.ask.Reply.{Reply}
 use Rattle.gr_history.specs.declared.ask.Reply.TheVariants.{Limit}
@@ -30,6 +31,10 @@ power-one_more n = rw add-one (omega arith)
 pub held_ver-held_of : (held : Option Change) → held_ver (option_map held_of held) ≡ ver_of held
 held_ver-held_of None = refl
 held_ver-held_of (Some change) = refl
+
+pub value-held_of : (held : Option Change) → option_and_then (λ h. put_value h.kind) (option_map held_of held) ≡ option_and_then (λ change. put_value change.kind) held
+value-held_of None = refl
+value-held_of (Some change) = refl
 
 -- Where no number would pass its limit, this is made.
 pub given-made : (id : Identity) (opening : ℕ) (past : List Deed) (key : List ℕ) (reply : Reply) (kind : Kind) (version : Version)

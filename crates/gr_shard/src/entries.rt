@@ -1,4 +1,4 @@
-ghost use Rattle.std.specs.Prelude.{◌≡◌, ◌≤◌, OnOk, OnErr, option_copied};
+ghost use Rattle.std.specs.Prelude.{◌≡◌, ◌≤◌, OnOk, OnErr, option_copied, option_and_then};
 ghost use Rattle.gr_stamp.specs.Winner.{put_value};
 ghost use Rattle.gr_shard.specs.Entries.{Entered, held_ver};
 
@@ -24,6 +24,13 @@ impl Held {
             Kind::Remove => None,
         }
     }
+}
+
+/// The value of what stands, where a put does.
+pub fn value_of(held: Option<&Held>) -> Option<&Value>
+    ensures { option_copied result ≡ option_and_then (λ h. put_value h.kind) (option_copied held.entry) }
+{
+    held?.value()
 }
 
 /// The version of what stands, or 0.

@@ -5,6 +5,8 @@ mod entries;
 mod making;
 mod regions;
 mod shard;
+#[cfg(test)]
+mod tests;
 mod told;
 
 pub use gr_history::{Done, Identity};

@@ -1,14 +1,16 @@
-ghost use Rattle.std.specs.Prelude.{◌≡◌, ◌≤◌, ◌<◌, ◌==◌, [], ◌∷◌, ◌++◌, reverse, max, Some, IfOk, OnOk, OnErr, option_copied, nat_le};
+ghost use Rattle.std.specs.Prelude.{◌≡◌, ◌≤◌, ◌<◌, ◌==◌, [], ◌∷◌, ◌++◌, reverse, max, Some, IfOk, OnOk, OnErr, option_copied, option_and_then, nat_le};
 ghost use Rattle.gr_value.specs.Shard.{shard_of};
 ghost use Rattle.gr_history.specs.declared.deed.Deed.TheVariants as deed;
 ghost use Rattle.gr_history.specs.Asks.{key_of};
 ghost use Rattle.gr_history.specs.Calls.{call_gives, given, is_ready, ver_of};
 ghost use Rattle.gr_history.specs.Lawful.{IsLawful, IsOfShard};
 ghost use Rattle.gr_history.specs.Standing.{standing, present, floor};
+ghost use Rattle.gr_stamp.specs.Winner.{put_value};
+ghost use Rattle.gr_shard.specs.Entries.{held_ver};
 ghost use Rattle.gr_shard.specs.Records.{IsRecordOf};
 ghost use Rattle.gr_shard.specs.View.{IsPlace};
 
-use crate::entries::{Held, enter, ver_of};
+use crate::entries::{Held, enter, value_of, ver_of};
 use crate::making::{count_with, deed_of, recipients};
 use crate::regions::region;
 use crate::told::{Told, tells};
@@ -83,7 +85,7 @@ impl Shard {
     pub fn present(&self, key: &Key) -> Option<&Value>
         ensures { option_copied result ≡ present key.now (reverse self.now.deeds) }
     {
-        self.entries.get(key)?.value()
+        value_of(self.find(key))
     }
 
     pub fn floor(&self) -> u64
@@ -124,22 +126,33 @@ impl Shard {
     fn gives(&self, alloc: Global, ask: &Ask) -> Result<Done, Memory>
         ensures { IfOk result (λ done. done ≡ call_gives self.now.id self.now.opening (reverse self.now.deeds) ask.now) }
     {
-        let Told { reply, change } = tells(alloc, ask, self.present(ask.key()))?;
+        let held = self.find(ask.key());
+        let Told { reply, change } = tells(alloc, ask, value_of(held))?;
         match change {
             None => Ok(Done {
                 reply,
                 made: None,
                 to: 0,
             }),
-            Some(kind) => self.makes(alloc, ask.key(), reply, kind),
+            Some(kind) => self.makes(alloc, ask.key(), ver_of(held), reply, kind),
         }
     }
 
-    // What the call gives where something is to change.
-    fn makes(&self, alloc: Global, key: &Key, reply: Reply, kind: Kind) -> Result<Done, Memory>
+    // What stands at the key.
+    fn find(&self, key: &Key) -> Option<&Held>
+        ensures ver { held_ver (option_copied result) ≡ ver_of (standing key.now (reverse self.now.deeds)) }
+        ensures value { option_and_then (λ h. put_value h.kind) (option_copied result) ≡ present key.now (reverse self.now.deeds) }
+    {
+        self.entries.get(key)
+    }
+
+    // What the call gives where something is to change, and this version stands.
+    fn makes(&self, alloc: Global, key: &Key, ver: u64, reply: Reply, kind: Kind) -> Result<Done, Memory>
+        requires stands { ver ≡ ver_of (standing key.now (reverse self.now.deeds)) }
+        requires within { ver ≤ LIMIT }
         ensures { IfOk result (λ done. done ≡ given self.now.id self.now.opening (reverse self.now.deeds) key.now reply (Some kind)) }
     {
-        let base = self.base(key);
+        let base = ver.max(self.floor);
         let Some(stamp) = Stamp::new(base + 1, self.id.member, self.made + 1) else {
             return Ok(Done {
                 reply: Reply::Limit,
@@ -153,13 +166,5 @@ impl Shard {
             made: Some(Change { key, kind, stamp }),
             to: recipients(self.id),
         })
-    }
-
-    // The version that the next change of the key has to pass.
-    fn base(&self, key: &Key) -> u64
-        ensures base { result ≡ max (ver_of (standing key.now (reverse self.now.deeds))) (floor self.now.opening (reverse self.now.deeds)) }
-        ensures within { result ≤ LIMIT }
-    {
-        ver_of(self.entries.get(key)).max(self.floor)
     }
 }

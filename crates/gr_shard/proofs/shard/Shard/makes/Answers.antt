@@ -1,19 +1,29 @@
-use Rattle.std.proofs.Common.{reverse, arith, sym}
+use Rattle.std.proofs.Common.{◌≡◌, ◌∙◌, ap, sym, max, reverse, arith}
+use Rattle.gr_history.specs.Calls.{ver_of}
+use Rattle.gr_history.specs.Standing.{standing, floor}
 use Rattle.gr_shard.proofs.Made.{made_here, spent_here}
 use Rattle.gr_shard.proofs.shard.Shard.makes.Goals as goal
 
 pub returns-in_default : goal.returns-in_default
 returns-in_default c =
     let kept = c.self.invariant in
-    let past = reverse c.self.inside.history.deeds in
+    let was = c.self.inside in
+    let past = reverse was.history.deeds in
+    let stands : c.args.ver ≡ ver_of (standing c.args.key.now past) = rw (← c.self.view_is) at c.requires.stands in
+    let base : c.max-base.result ≡ max (ver_of (standing c.args.key.now past)) (floor was.opening past) =
+      c.max-base.ensures ∙ ap (λ v. max v was.floor) stands ∙ ap (max (ver_of (standing c.args.key.now past))) kept.floored in
     rw (← c.self.view_is)
-    (spent_here c.self.inside.id c.self.inside.opening past c.args.key.now c.args.reply c.args.kind c.base-base.result c.self.inside.made
-    (rw (← c.self.view_is) at c.base-base.ensures.base) kept.counted kept.place.some_member (omega (arith, kept.place.stated, kept.place.few)) c.in_default.ensures)
+    (spent_here was.id was.opening past c.args.key.now c.args.reply c.args.kind c.max-base.result was.made
+    base kept.counted kept.place.some_member (omega (arith, kept.place.stated, kept.place.few)) c.in_default.ensures)
 
 pub returns : goal.returns
 returns c =
     let kept = c.self.invariant in
-    let past = reverse c.self.inside.history.deeds in
+    let was = c.self.inside in
+    let past = reverse was.history.deeds in
+    let stands : c.args.ver ≡ ver_of (standing c.args.key.now past) = rw (← c.self.view_is) at c.requires.stands in
+    let base : c.max-base.result ≡ max (ver_of (standing c.args.key.now past)) (floor was.opening past) =
+      c.max-base.ensures ∙ ap (λ v. max v was.floor) stands ∙ ap (max (ver_of (standing c.args.key.now past))) kept.floored in
     rw (← c.self.view_is)
-    (made_here c.self.inside.id c.self.inside.opening past c.args.key.now c.in_ok-key.key c.args.reply c.args.kind c.in-Some.stamp c.base-base.result c.self.inside.made c.recipients.result
-    (rw (← c.self.view_is) at c.base-base.ensures.base) kept.counted (c.recipients.ensures past) c.in_ok-key.ensures (c.in-Some.ensures.0, sym c.in-Some.ensures.1))
+    (made_here was.id was.opening past c.args.key.now c.in_ok-key.key c.args.reply c.args.kind c.in-Some.stamp c.max-base.result was.made c.recipients.result
+    base kept.counted (c.recipients.ensures past) c.in_ok-key.ensures (c.in-Some.ensures.0, sym c.in-Some.ensures.1))
