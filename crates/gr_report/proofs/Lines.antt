@@ -1,5 +1,5 @@
 -- The lines of answers, one after another.
-use Rattle.std.proofs.Common.{◌≡◌, ◌∙◌, ap, sym, refl, ℕ, ◌+◌, List, [], ◌∷◌, ◌++◌, length, append_assoc, append-nil, add-zero, add_assoc, arith}
+use Rattle.std.proofs.Common.{◌≡◌, ◌∙◌, ap, sym, ℕ, ◌+◌, List, [], ◌∷◌, ◌++◌, length, append_assoc, append-nil, add-zero, arith}
 use Rattle.gr_history.specs.declared.record.Answer.{Answer}
 use Rattle.gr_report.specs.Answers.{answer_line, answers_from}
 

@@ -1,5 +1,5 @@
 -- The text of what the clients were told.
-use Rattle.std.specs.Prelude.{ℕ, ◌+◌, List, [], ◌∷◌, ◌++◌, codes, decimal, flat_map}
+use Rattle.std.specs.Prelude.{ℕ, ◌+◌, List, [], ◌∷◌, ◌++◌, codes, decimal}
 use Rattle.gr_value.specs.ValueText.{value_text}
 use Rattle.gr_history.specs.declared.ask.Reply.{Reply}
 use Rattle.gr_history.specs.declared.ask.Reply.TheVariants.{Null, Value, Done, NotFound, Limit}

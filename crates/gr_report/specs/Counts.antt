@@ -1,5 +1,5 @@
 -- What is counted at a member, over its shards.
-use Rattle.std.specs.Prelude.{ℕ, List, length, count_by, sum_by}
+use Rattle.std.specs.Prelude.{List, length, count_by, sum_by}
 use Rattle.gr_history.specs.declared.record.ShardRecord.{ShardRecord}
 use Rattle.gr_report.specs.declared.counts.Counts.{Counts}
 use Rattle.gr_history.specs.Deeds.{is_discarded, is_repeat}

@@ -7,4 +7,5 @@ mod put;
 mod regions;
 mod reporting;
 
+pub use put::{put_number, put_text};
 pub use reporting::report;

@@ -1,5 +1,5 @@
 -- How a call ends where the words are understood.
-use Rattle.std.proofs.Common.{◌≡◌, ◌∙◌, sym, ap, subst, refl, Result, Ok, Err}
+use Rattle.std.proofs.Common.{◌≡◌, Result, Ok, Err}
 use Rattle.gr_script.specs.declared.fault.Reason.{Reason}
 use Rattle.gr_script.specs.declared.fault.Reason.TheVariants.{NotBuilt}
 use Rattle.gr_script.specs.declared.fault.ScriptFault.{ScriptFault}

@@ -1,23 +1,10 @@
-ghost use Rattle.std.specs.Prelude.{◌≡◌, ◌++◌, decimal, IfOk, OnOk};
+ghost use Rattle.std.specs.Prelude.{◌≡◌, IfOk};
 ghost use Rattle.gr_top.specs.CauseTexts.{text_of_cause};
 
 use crate::Cause;
+use gr_report::{put_number, put_text};
 use gr_value::Memory;
-use itoa::Buffer;
 use std::alloc::Global;
-
-fn put_text(out: &mut Vec<u8>, text: &str) -> Result<(), Memory>
-    ensures { OnOk result (out.new.items ≡ out.old.items ++ text.now) }
-{
-    out.extend_from_slice(text.as_bytes())?;
-    Ok(())
-}
-
-fn put_number(out: &mut Vec<u8>, number: u64) -> Result<(), Memory>
-    ensures { OnOk result (out.new.items ≡ out.old.items ++ decimal number) }
-{
-    put_text(out, Buffer::new().format(number))
-}
 
 /// The line that says why the program ended, with its line feed; nothing where it finished.
 pub fn cause_text(alloc: Global, cause: &Cause) -> Result<Vec<u8>, Memory>
@@ -28,16 +15,16 @@ pub fn cause_text(alloc: Global, cause: &Cause) -> Result<Vec<u8>, Memory>
         Cause::Finished => {}
         Cause::Usage(place) => {
             put_text(&mut out, "georep: word ")?;
-            put_number(&mut out, u64::from(*place) + 1)?;
+            put_number(&mut out, u128::from(*place) + 1)?;
             put_text(&mut out, " isn't understood\n")?;
         }
         Cause::ReadFault => put_text(&mut out, "georep: the input can't be read\n")?,
         Cause::TooLarge { .. } => put_text(&mut out, "georep: the script is too large\n")?,
         Cause::Script(fault) => {
             put_text(&mut out, "georep: line ")?;
-            put_number(&mut out, u64::from(fault.line))?;
+            put_number(&mut out, u128::from(fault.line))?;
             put_text(&mut out, ": ")?;
-            put_number(&mut out, u64::from(fault.reason.number()))?;
+            put_number(&mut out, u128::from(fault.reason.number()))?;
             put_text(&mut out, " ")?;
             put_text(&mut out, fault.reason.name())?;
             put_text(&mut out, "\n")?;

@@ -1,5 +1,5 @@
 -- A shard that follows a script's lines, one after another.
-use Rattle.std.proofs.Common.{◌≡◌, ◌∙◌, ap, sym, subst, refl, ℕ, ◌+◌, ◌-◌, ◌%◌, ◌<◌, ◌≤◌, List, [], ◌∷◌, ◌++◌, map, filter, take, get_or, reverse, length, Bool, true, false, ◌&&◌, ◌==◌, slice_index, if◌then◌else◌, Option, Some, None, arith}
+use Rattle.std.proofs.Common.{◌≡◌, ◌∙◌, ap, sym, subst, refl, ℕ, ◌+◌, ◌-◌, ◌%◌, ◌<◌, List, [], ◌∷◌, ◌++◌, map, filter, take, get_or, reverse, length, true, ◌==◌, slice_index, Some, arith}
 use Rattle.std.specs.List.{AllByRecursion, filter_map, All}
 use Rattle.std.proofs.lemmas.List.{map-append, take_more, reverse-reverse}
 use Rattle.std.proofs.lemmas.List.Elements.{filter-append, filter_map-append, All-from_recursion}
@@ -18,7 +18,7 @@ use Rattle.gr_script.specs.declared.script.Script.{Script}
 use Rattle.gr_script.specs.Rules.{Heading, heading, IsScript, AllStand, IsStated}
 use Rattle.gr_shard.specs.View.{Account}
 use Rattle.gr_world.specs.Calls.{identity, member_of, asked_at, all_asked_at, asking_of, answer_of}
-use Rattle.gr_world.specs.Plays.{asking_in, Adds, IsPlayed}
+use Rattle.gr_world.specs.Plays.{asking_in, IsPlayed}
 
 abbrev client_in : Line → ℕ
 client_in (Step client seq act) = client
