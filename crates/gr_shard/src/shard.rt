@@ -147,7 +147,14 @@ impl Shard {
     }
 
     // What the call gives where something is to change, and this version stands.
-    fn makes(&self, alloc: Global, key: &Key, ver: u64, reply: Reply, kind: Kind) -> Result<Done, Memory>
+    fn makes(
+        &self,
+        alloc: Global,
+        key: &Key,
+        ver: u64,
+        reply: Reply,
+        kind: Kind,
+    ) -> Result<Done, Memory>
         requires stands { ver ≡ ver_of (standing key.now (reverse self.now.deeds)) }
         requires within { ver ≤ LIMIT }
         ensures { IfOk result (λ done. done ≡ given self.now.id self.now.opening (reverse self.now.deeds) key.now reply (Some kind)) }

@@ -11,7 +11,7 @@ returns-in_default c =
     let past = reverse was.history.deeds in
     let stands : c.args.ver ≡ ver_of (standing c.args.key.now past) = rw (← c.self.view_is) at c.requires.stands in
     let base : c.max-base.result ≡ max (ver_of (standing c.args.key.now past)) (floor was.opening past) =
-      c.max-base.ensures ∙ ap (λ v. max v was.floor) stands ∙ ap (max (ver_of (standing c.args.key.now past))) kept.floored in
+    c.max-base.ensures ∙ ap (λ v. max v was.floor) stands ∙ ap (max (ver_of (standing c.args.key.now past))) kept.floored in
     rw (← c.self.view_is)
     (spent_here was.id was.opening past c.args.key.now c.args.reply c.args.kind c.max-base.result was.made
     base kept.counted kept.place.some_member (omega (arith, kept.place.stated, kept.place.few)) c.in_default.ensures)
@@ -23,7 +23,7 @@ returns c =
     let past = reverse was.history.deeds in
     let stands : c.args.ver ≡ ver_of (standing c.args.key.now past) = rw (← c.self.view_is) at c.requires.stands in
     let base : c.max-base.result ≡ max (ver_of (standing c.args.key.now past)) (floor was.opening past) =
-      c.max-base.ensures ∙ ap (λ v. max v was.floor) stands ∙ ap (max (ver_of (standing c.args.key.now past))) kept.floored in
+    c.max-base.ensures ∙ ap (λ v. max v was.floor) stands ∙ ap (max (ver_of (standing c.args.key.now past))) kept.floored in
     rw (← c.self.view_is)
     (made_here was.id was.opening past c.args.key.now c.in_ok-key.key c.args.reply c.args.kind c.in-Some.stamp c.max-base.result was.made c.recipients.result
     base kept.counted (c.recipients.ensures past) c.in_ok-key.ensures (c.in-Some.ensures.0, sym c.in-Some.ensures.1))
