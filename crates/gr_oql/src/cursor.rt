@@ -1,6 +1,7 @@
-ghost use Rattle.std.specs.Prelude.{◌≡◌, ◌<◌, ◌≤◌, length, if◌then◌else◌, option_map};
+ghost use Rattle.std.specs.Prelude.{◌≡◌, ◌<◌, ◌≤◌, length, if◌then◌else◌, option_map, IfSome};
 ghost use Rattle.std.specs.Bool.{OnTrue};
 ghost use Rattle.gr_oql.specs.Lexemes.{terminals};
+ghost use Rattle.gr_oql.specs.Names.{AreNamed, HasWordBytes};
 ghost use Rattle.gr_oql.specs.Terminals.{symbol_eq, is_symbol, is_keyword, begins, front, rest, as_name, as_word, as_number, as_quoted, undoubled};
 
 use crate::keyword::Keyword;
@@ -18,10 +19,13 @@ impl<'a> Model for Cursor<'a> {
     ghost use Rattle.std.specs.Prelude.{List};
     ghost use Rattle.gr_oql.specs.Terminals.{Terminal};
     ghost use Rattle.gr_oql.specs.Lexemes.{terminals};
+    ghost use Rattle.gr_oql.specs.Names.{AreNamed};
 
     ghost Value = { List Terminal };
 
     ghost view = { λ cursor. terminals cursor.left.now };
+
+    ghost invariant = { λ cursor. AreNamed (terminals cursor.left.now) };
 }
 
 fn same_symbol(one: Symbol, other: Symbol) -> bool
@@ -32,6 +36,7 @@ fn same_symbol(one: Symbol, other: Symbol) -> bool
 
 impl<'a> Cursor<'a> {
     pub(crate) fn new(left: &'a [Lexeme<'a>]) -> Cursor<'a>
+        requires { AreNamed (terminals left.now) }
         ensures { result ≡ terminals left.now }
     {
         Cursor { left }
@@ -63,7 +68,8 @@ impl<'a> Cursor<'a> {
     }
 
     pub(crate) fn name(&self) -> Option<&'a str>
-        ensures { option_map (λ word. word.now) result ≡ front as_name self.now }
+        ensures exact { option_map (λ word. word.now) result ≡ front as_name self.now }
+        ensures named { IfSome result (λ word. HasWordBytes word.now) }
     {
         match self.left.first() {
             Some(Lexeme::Name(word)) => Some(word),
