@@ -1,5 +1,5 @@
 -- What is spelled so is read: tests, conditions and the query.
-use Rattle.std.proofs.Common.{◌≡◌, ℕ, zero, suc, List, [], ◌∷◌, ◌++◌, Ok, Option, Some, None, true, false, inl, inr, ⊎_elim, refl, sym, ap, ◌∙◌, subst, append-nil}
+use Rattle.std.proofs.Common.{◌≡◌, ℕ, zero, suc, List, [], ◌∷◌, ◌++◌, Ok, Err, Option, Some, None, true, false, inl, inr, ⊎_elim, refl, sym, ap, ◌∙◌, subst, append-nil}
 use Rattle.std.proofs.lemmas.Bool.{le-leb}
 use Rattle.gr_value.specs.declared.scalar.Scalar.{Scalar}
 use Rattle.gr_value.specs.declared.scalar.Scalar.TheVariants as scalar
@@ -14,8 +14,8 @@ use Rattle.gr_oql.specs.declared.condition.Test.TheVariants as tests
 use Rattle.gr_oql.specs.Tree.{Tree, any, all, test}
 use Rattle.gr_oql.specs.View.{in_order}
 use Rattle.gr_oql.specs.Terminals.{Terminal, begins, front, rest, is_symbol, is_keyword, as_name, as_number, as_quoted}
-use Rattle.gr_oql.specs.Reading.{Reading, read_as, literal_at, relation_at, has_backslash, behind_operand, behind_first, bracketed_at, test_at, all_at, any_at, bracket_at, part_at, most_depth, condition_at, Asked, star_at, region_at, alias_at, where_at, source_at, query_at}
-use Rattle.gr_oql.specs.Grammar.{One, Is, ◌then◌, Row, Field, Literal, IsOperand, IsRelation, Bracketed, IsTest, IsAll, IsAny, IsPart, IsCondition, IsRegion, IsAlias, IsWhere, IsQuery}
+use Rattle.gr_oql.specs.Reading.{Reading, read_as, literal_at, relation_at, has_backslash, behind_operand, behind_first, bracketed_at, test_at, all_at, any_at, bracket_at, part_at, condition_at, Asked, star_at, region_at, alias_at, end_at, bare_end_at, where_at, source_at, query_within}
+use Rattle.gr_oql.specs.Grammar.{One, Is, ◌then◌, Row, Field, Literal, IsOperand, IsRelation, Bracketed, IsTest, IsAll, IsAny, IsPart, IsCondition, IsRegion, IsAlias, IsWhere, IsQueryWithin}
 use Rattle.gr_oql.proofs.Sound.{Front}
 use Rattle.gr_oql.proofs.Complete.{Complete, Always, first_of, has_of, parts_of, name_no_symbol, name_no_keyword, number_is, quoted_is, keyword_no_symbol, keyword_no_name, symbol_no_keyword, keyword_other, symbol_other, symbol_complete, keyword_complete, field_of_name_complete, field_complete, literal_complete, operand_complete, row_complete}
 
@@ -274,9 +274,9 @@ module _ (alias : Option (List ℕ)) where
       rw (no_not, no_bracket) t.2
   part_complete (suc depth) ts c left always found = part_step depth (part_complete depth) ts c left always found
 
-  pub condition_complete : Complete EndsAny (IsCondition alias) (condition_at alias)
+  pub condition_complete : (depth : ℕ) → Complete EndsAny (IsCondition depth alias) (condition_at depth alias)
   unfolding condition_at
-  condition_complete = any_complete (part_at alias most_depth) (IsPart alias most_depth) (part_complete most_depth)
+  condition_complete depth = any_complete (part_at alias depth) (IsPart alias depth) (part_complete depth)
 
 -- the query
 star_complete : (ts left : List Terminal) → Front (One (is_symbol symbols.Star)) ts left → star_at ts ≡ Ok (tt, left)
@@ -289,11 +289,25 @@ region_complete ts region left always found =
     let short = le-leb _ _ h.1 in
     rw (name.2, name.1, short) (ap (λ (r : List ℕ). Ok (r, left)) (sym h.2))
 
+-- Nothing but the end of a query begins so.
+pub record EndsQuery (left : List Terminal) : Type 0 where
+  pub no_as : begins (is_keyword word.As) left ≡ false
+  pub no_name : front as_name left ≡ None
+  pub no_where : begins (is_keyword word.Where) left ≡ false
+  pub no_more : EndsAny left
+
+-- how the end of a query is read, with or without a condition before it
+abbrev pub end_by : Option Tree → List Terminal → Reading (Unit {0})
+end_by None ts = bare_end_at ts
+end_by (Some c) ts = end_at ts
+
 -- what may stand behind an alias, or in its place
-where_begins : (alias : Option (List ℕ)) (c : Option Tree) (ts : List Terminal) → IsWhere alias c ts → (begins (is_keyword word.As) ts ≡ false) × (front as_name ts ≡ None)
-where_begins alias None ts is = rw is (refl, refl)
-where_begins alias (Some c) ts is =
-    let parts = parts_of (One (is_keyword word.Where)) (IsCondition alias c) ts [] (record { spelled = ts; split = sym (append-nil ts); holds = is }) in
+where_begins : (depth : ℕ) (alias : Option (List ℕ)) (c : Option Tree) (ts left : List Terminal) → EndsQuery left → Front (IsWhere depth alias c) ts left → (begins (is_keyword word.As) ts ≡ false) × (front as_name ts ≡ None)
+where_begins depth alias None ts left ends found =
+    let same : ts ≡ left = found.split ∙ ap (λ (l : List Terminal). l ++ left) found.holds in
+    (ap (begins (is_keyword word.As)) same ∙ ends.no_as, ap (front as_name) same ∙ ends.no_name)
+where_begins depth alias (Some c) ts left ends found =
+    let parts = parts_of (One (is_keyword word.Where)) (IsCondition depth alias c) ts left found in
     let h = first_of (is_keyword word.Where) ts parts.0 parts.1 in
     (rw h.2 (keyword_other word.Where word.As h.0 refl h.1), rw h.2 (keyword_no_name word.Where h.0 h.1))
 
@@ -313,39 +327,54 @@ alias_complete ts (Some a) left no_as no_name found = by_case found.holds
         let name = has_of as_name a parts.0 left parts.2 in
         rw (as_word.2, as_word.1, name.2, name.1) refl
 
-where_complete : (alias : Option (List ℕ)) (c : Option Tree) (ts : List Terminal) → IsWhere alias c ts → where_at alias ts ≡ Ok (c, [])
-where_complete alias None ts is = rw is refl
-where_complete alias (Some c) ts is =
-    let parts = parts_of (One (is_keyword word.Where)) (IsCondition alias c) ts [] (record { spelled = ts; split = sym (append-nil ts); holds = is }) in
+where_complete : (depth : ℕ) (alias : Option (List ℕ)) (c : Option Tree) (ts left : List Terminal) → EndsQuery left → Front (IsWhere depth alias c) ts left → where_at depth alias ts ≡ read_as (λ _. c) (end_by c left)
+where_complete depth alias None ts left ends found =
+    let same : ts ≡ left = found.split ∙ ap (λ (l : List Terminal). l ++ left) found.holds in
+    let no_where = ends.no_where in
+    rw (same, no_where) refl
+where_complete depth alias (Some c) ts left ends found =
+    let parts = parts_of (One (is_keyword word.Where)) (IsCondition depth alias c) ts left found in
     let h = first_of (is_keyword word.Where) ts parts.0 parts.1 in
-    let read = condition_complete alias parts.0 c [] (refl, refl) parts.2 in
+    let read = condition_complete alias depth parts.0 c left ends.no_more parts.2 in
     rw (h.2, h.1, read) refl
 
-source_complete : (q : Asked) (ts : List Terminal) → (IsRegion q.region then IsAlias q.alias then IsWhere q.alias q.condition) ts → source_at ts ≡ Ok (q, [])
-source_complete q ts is =
-    let parts = parts_of (IsRegion q.region) (IsAlias q.alias then IsWhere q.alias q.condition) ts [] (record { spelled = ts; split = sym (append-nil ts); holds = is }) in
-    let behind = parts_of (IsAlias q.alias) (IsWhere q.alias q.condition) parts.0 [] parts.2 in
-    let last = behind.2 in
-    let condition : IsWhere q.alias q.condition behind.0 = subst (IsWhere q.alias q.condition) (sym (last.split ∙ append-nil last.spelled)) last.holds in
-    let begun = where_begins q.alias q.condition behind.0 condition in
+-- two values made one after the other, of which the last alone counts
+made_last : {A B : Type 0} (x : A) (f : A → B) (read : Reading (Unit {0})) → read_as f (read_as (λ _. x) read) ≡ read_as (λ _. f x) read
+made_last x f (Ok u) = refl
+made_last x f (Err e) = refl
+
+source_complete : (depth : ℕ) (q : Asked) (ts left : List Terminal) → EndsQuery left → Front (IsRegion q.region then IsAlias q.alias then IsWhere depth q.alias q.condition) ts left → source_at depth ts ≡ read_as (λ _. q) (end_by q.condition left)
+source_complete depth q ts left ends found =
+    let parts = parts_of (IsRegion q.region) (IsAlias q.alias then IsWhere depth q.alias q.condition) ts left found in
+    let behind = parts_of (IsAlias q.alias) (IsWhere depth q.alias q.condition) parts.0 left parts.2 in
+    let begun = where_begins depth q.alias q.condition behind.0 left ends behind.2 in
     let region = region_complete ts q.region parts.0 tt parts.1 in
     let alias = alias_complete parts.0 q.alias behind.0 begun.0 begun.1 behind.1 in
-    let read = where_complete q.alias q.condition behind.0 condition in
-    rw (region, alias, read) refl
+    let read = where_complete depth q.alias q.condition behind.0 left ends behind.2 in
+    rw (region, alias, read) (made_last q.condition (λ c. record { region = q.region; alias = q.alias; condition = c }) (end_by q.condition left))
 
-pub query_complete : (ts : List Terminal) (q : Asked) → IsQuery q ts → query_at ts ≡ Ok (q, [])
-query_complete ts q is =
-    let Behind : List Terminal → Type 0 = IsRegion q.region then IsAlias q.alias then IsWhere q.alias q.condition in
-    let a = parts_of (One (is_keyword word.Select)) (One (is_symbol symbols.Star) then One (is_keyword word.From) then One (is_symbol symbols.Slash) then Behind) ts [] (record { spelled = ts; split = sym (append-nil ts); holds = is }) in
-    let b = parts_of (One (is_symbol symbols.Star)) (One (is_keyword word.From) then One (is_symbol symbols.Slash) then Behind) a.0 [] a.2 in
-    let c = parts_of (One (is_keyword word.From)) (One (is_symbol symbols.Slash) then Behind) b.0 [] b.2 in
-    let d = parts_of (One (is_symbol symbols.Slash)) Behind c.0 [] c.2 in
+-- what is spelled so is read up to its end
+pub query_to_end : (depth : ℕ) (ts : List Terminal) (q : Asked) (left : List Terminal) → EndsQuery left → Front (IsQueryWithin depth q) ts left → query_within depth ts ≡ read_as (λ _. q) (end_by q.condition left)
+query_to_end depth ts q left ends found =
+    let Behind : List Terminal → Type 0 = IsRegion q.region then IsAlias q.alias then IsWhere depth q.alias q.condition in
+    let a = parts_of (One (is_keyword word.Select)) (One (is_symbol symbols.Star) then One (is_keyword word.From) then One (is_symbol symbols.Slash) then Behind) ts left found in
+    let b = parts_of (One (is_symbol symbols.Star)) (One (is_keyword word.From) then One (is_symbol symbols.Slash) then Behind) a.0 left a.2 in
+    let c = parts_of (One (is_keyword word.From)) (One (is_symbol symbols.Slash) then Behind) b.0 left b.2 in
+    let d = parts_of (One (is_symbol symbols.Slash)) Behind c.0 left c.2 in
     let select = first_of (is_keyword word.Select) ts a.0 a.1 in
     let no_import : begins (is_keyword word.Import) ts ≡ false = rw select.2 (keyword_other word.Select word.Import select.0 refl select.1) in
     let selected = keyword_complete word.Select ts a.0 a.1 in
     let star = star_complete a.0 b.0 b.1 in
     let from = keyword_complete word.From b.0 c.0 c.1 in
     let slash = symbol_complete symbols.Slash c.0 d.0 d.1 in
-    let last = d.2 in
-    let source = source_complete q d.0 (subst Behind (sym (last.split ∙ append-nil last.spelled)) last.holds) in
+    let source = source_complete depth q d.0 left ends d.2 in
     rw (no_import, selected, star, from, slash) source
+
+ended : (c : Option Tree) → end_by c [] ≡ Ok (tt, [])
+ended None = refl
+ended (Some c) = refl
+
+pub query_complete : (depth : ℕ) (ts : List Terminal) (q : Asked) → IsQueryWithin depth q ts → query_within depth ts ≡ Ok (q, [])
+query_complete depth ts q is =
+    query_to_end depth ts q [] (record { no_as = refl; no_name = refl; no_where = refl; no_more = (refl, refl) }) (record { spelled = ts; split = sym (append-nil ts); holds = is })
+    ∙ ap (read_as (λ _. q)) (ended q.condition)

@@ -1,10 +1,21 @@
 mod LikeLemmas
 pub mod EventLemmas
 pub mod Quotes
+pub mod Names
 pub mod Rows
 pub mod Trees
+pub mod Readings
 pub mod Sound
 pub mod SoundQuery
 pub mod Complete
 pub mod CompleteQuery
 pub mod Exact
+pub mod Ahead
+pub mod AheadCondition
+pub mod Stays
+pub mod StaysCondition
+pub mod AheadQuery
+pub mod StaysQuery
+pub mod FirstFaults
+pub mod FaultRanks
+pub mod FaultTexts

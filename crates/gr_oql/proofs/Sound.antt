@@ -1,5 +1,5 @@
 -- What is read is spelled so.
-use Rattle.std.proofs.Common.{◌≡◌, ◌⊎◌, ℕ, zero, suc, ◌^◌, pos, neg_ℤ, List, [], ◌∷◌, ◌++◌, length, Ok, Err, Option, Some, None, Bool, cond, true, false, leb, ltb, inl, inr, ⊎_elim, refl, sym, ap, ◌∙◌, subst, append_assoc, append-nil}
+use Rattle.std.proofs.Common.{◌≡◌, ℕ, zero, suc, ◌^◌, pos, neg_ℤ, List, [], ◌∷◌, ◌++◌, length, Ok, Option, Some, None, Bool, true, false, leb, ltb, inl, inr, ⊎_elim, refl, sym, ap, ◌∙◌, subst, append_assoc, append-nil}
 use Rattle.std.proofs.lemmas.Bool.{leb-true, ltb-true}
 use Rattle.gr_value.specs.declared.scalar.Scalar.{Scalar}
 use Rattle.gr_value.specs.declared.scalar.Scalar.TheVariants as scalar
@@ -10,8 +10,9 @@ use Rattle.gr_oql.specs.declared.keyword.Keyword.TheVariants as word
 use Rattle.gr_oql.specs.declared.condition.Operand.{Operand}
 use Rattle.gr_oql.specs.declared.condition.Operand.TheVariants as operand
 use Rattle.gr_oql.specs.Terminals.{Terminal, begins, front, rest, is_symbol, is_keyword, as_name, as_word, as_number, as_quoted}
-use Rattle.gr_oql.specs.Reading.{Reading, ◌>>=◌, read_as, symbol_at, keyword_at, word_by, name_at, is_alias, field_of_name, field_by, field_at, negative_by, negative_at, plain_by, literal_at, operand_by, operand_at, more_at, separated_at}
+use Rattle.gr_oql.specs.Reading.{Reading, symbol_at, keyword_at, word_by, name_at, is_alias, field_of_name, field_by, field_at, negative_by, negative_at, plain_by, literal_at, operand_by, operand_at, more_at, separated_at}
 use Rattle.gr_oql.specs.Grammar.{One, Is, ◌then◌, Row, Field, Literal, IsOperand}
+use Rattle.gr_oql.proofs.Readings.{chosen, bound, made_of, value_is, left_is}
 
 -- The front of the terminals spells so, and these are left behind it.
 pub record Front (P : List Terminal → Type 0) (ts left : List Terminal) : Type 0 where
@@ -32,28 +33,6 @@ joined P Q ts middle left one two = record {
 
 pub weaker : (P Q : List Terminal → Type 0) (ts left : List Terminal) → ((l : List Terminal) → P l → Q l) → Front P ts left → Front Q ts left
 weaker P Q ts left turns one = record { spelled = one.spelled; split = one.split; holds = turns one.spelled one.holds }
-
--- how a reading went
-pub chosen : {X : Type 0} (b : Bool) (x y z : X) → cond b x y ≡ z → ((b ≡ true) × (x ≡ z)) ⊎ ((b ≡ false) × (y ≡ z))
-chosen true x y z is = inl (refl, is)
-chosen false x y z is = inr (refl, is)
-
-pub bound : {A B : Type 0} (read : Reading A) (f : A × List Terminal → Reading B) (y : B) (left : List Terminal) → (read >>= f) ≡ Ok (y, left) → (x : A) × (middle : List Terminal) × (read ≡ Ok (x, middle)) × (f (x, middle) ≡ Ok (y, left))
-bound (Ok x) f y left is = (x.0, x.1, refl, is)
-bound (Err e) f y left is = absurd (cc)
-
-pair_is : {A : Type 0} {p q : A × List Terminal} → ◌≡◌ {A = Reading A} (Ok p) (Ok q) → p ≡ q
-pair_is same = cc
-
-pub value_is : {A : Type 0} {a c : A} {k l : List Terminal} → ◌≡◌ {A = Reading A} (Ok (a, k)) (Ok (c, l)) → a ≡ c
-value_is {A} same = ap (λ (p : A × List Terminal). p.0) (pair_is same)
-
-pub left_is : {A : Type 0} {a c : A} {k l : List Terminal} → ◌≡◌ {A = Reading A} (Ok (a, k)) (Ok (c, l)) → k ≡ l
-left_is {A} same = ap (λ (p : A × List Terminal). p.1) (pair_is same)
-
-pub made_of : {A B : Type 0} (make : A → B) (read : Reading A) (y : B) (left : List Terminal) → read_as make read ≡ Ok (y, left) → (x : A) × (read ≡ Ok (x, left)) × (make x ≡ y)
-made_of make (Ok x) y left is = (x.0, ap (λ (l : List Terminal). Ok (x.0, l)) (left_is is), value_is is)
-made_of make (Err e) y left is = absurd (cc)
 
 -- one terminal
 pub one_begins : (passes : Terminal → Bool) (ts : List Terminal) → begins passes ts ≡ true → Front (One passes) ts (rest ts)

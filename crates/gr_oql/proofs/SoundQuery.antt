@@ -11,11 +11,12 @@ use Rattle.gr_oql.specs.declared.condition.Test.TheVariants as tests
 use Rattle.gr_oql.specs.Tree.{Tree, any, all, negation, test}
 use Rattle.gr_oql.specs.View.{in_order}
 use Rattle.gr_oql.specs.Terminals.{Terminal, begins, front, rest, is_symbol, is_keyword, as_name, as_quoted}
-use Rattle.gr_oql.specs.Reading.{Reading, read_as, symbol_at, keyword_at, name_at, field_at, literal_at, operand_at, separated_at, relation_at, has_backslash, pattern_by, among_at, compare_at, behind_operand, behind_first, bracketed_at, test_at, all_at, any_at, bracket_at, part_at, most_depth, condition_at, Asked, star_at, region_by, region_at, alias_by, alias_at, end_at, bare_end_at, where_at, source_at, query_at}
-use Rattle.gr_oql.specs.Grammar.{One, Is, ◌then◌, Row, Field, Literal, IsOperand, IsRelation, Bracketed, IsTest, IsAll, IsAny, IsPart, IsCondition, IsRegion, IsAlias, IsWhere, IsQuery}
-use Rattle.gr_oql.proofs.Sound.{Front, Sound, joined, weaker, chosen, bound, made_of, value_is, left_is, one_begins, one_has, symbol_sound, keyword_sound, name_sound, field_sound, literal_sound, operand_sound, row_sound, fixed_sound}
+use Rattle.gr_oql.specs.Reading.{Reading, read_as, symbol_at, keyword_at, name_at, field_at, literal_at, operand_at, separated_at, relation_at, has_backslash, pattern_by, among_at, compare_at, behind_operand, behind_first, bracketed_at, test_at, all_at, any_at, bracket_at, part_at, condition_at, Asked, star_at, region_by, region_at, alias_by, alias_at, end_at, bare_end_at, where_at, source_at, query_within}
+use Rattle.gr_oql.specs.Grammar.{One, Is, ◌then◌, Row, Field, Literal, IsOperand, IsRelation, Bracketed, IsTest, IsAll, IsAny, IsPart, IsCondition, IsRegion, IsAlias, IsWhere, IsQueryWithin}
+use Rattle.gr_oql.proofs.Readings.{chosen, bound, made_of, value_is, left_is}
+use Rattle.gr_oql.proofs.Sound.{Front, Sound, joined, weaker, one_begins, one_has, symbol_sound, keyword_sound, name_sound, field_sound, literal_sound, operand_sound, row_sound, fixed_sound}
 
-relation_sound : Sound IsRelation relation_at
+pub relation_sound : Sound IsRelation relation_at
 relation_sound ts x left read =
     ⊎_elim (λ h. fixed_sound IsRelation (is_symbol symbols.Equal) relation.Equal x ts left h.0 (λ l is. is) h.1) (λ r1.
     ⊎_elim (λ h. fixed_sound IsRelation (is_symbol symbols.Angles) relation.Different x ts left h.0 (λ l is. inl is) h.1) (λ r2.
@@ -113,17 +114,17 @@ module _ (alias : Option (List ℕ)) where
 
 -- conditions
 module _ (within : List Terminal → Reading Tree) (Part : Tree → List Terminal → Type 0) (sound : Sound Part within) where
-  all_sound : Sound (IsAll Part) (all_at within)
+  pub all_sound : Sound (IsAll Part) (all_at within)
   all_sound ts c left read =
       let m = made_of (λ parts. all (in_order parts)) (separated_at (is_keyword word.And) within ts) c left read in
       weaker (Row (is_keyword word.And) Part m.0) (IsAll Part c) ts left (λ l row. (m.0, sym m.2, row)) (row_sound (is_keyword word.And) within Part sound ts m.0 left m.1)
 
-  any_sound : Sound (IsAny Part) (any_at within)
+  pub any_sound : Sound (IsAny Part) (any_at within)
   any_sound ts c left read =
       let m = made_of (λ parts. any (in_order parts)) (separated_at (is_keyword word.Or) (all_at within) ts) c left read in
       weaker (Row (is_keyword word.Or) (IsAll Part) m.0) (IsAny Part c) ts left (λ l row. (m.0, sym m.2, row)) (row_sound (is_keyword word.Or) (all_at within) (IsAll Part) all_sound ts m.0 left m.1)
 
-  bracket_sound : (ts : List Terminal) (c : Tree) (left : List Terminal) → begins (is_symbol symbols.LeftBracket) ts ≡ true → bracket_at within (rest ts) ≡ Ok (c, left) → Front (Bracketed (IsAny Part c)) ts left
+  pub bracket_sound : (ts : List Terminal) (c : Tree) (left : List Terminal) → begins (is_symbol symbols.LeftBracket) ts ≡ true → bracket_at within (rest ts) ≡ Ok (c, left) → Front (Bracketed (IsAny Part c)) ts left
   bracket_sound ts c left is read =
       let inner = bound (any_at within (rest ts)) _ c left read in
       let closes = made_of (λ _. inner.0) (symbol_at symbols.RightBracket inner.1) c left inner.3 in
@@ -156,12 +157,12 @@ module _ (alias : Option (List ℕ)) where
       (chosen (begins (is_symbol symbols.LeftBracket) ts) _ _ _ r1.1))
       (chosen (begins (is_keyword word.Not) ts) _ _ _ read)
 
-  pub condition_sound : Sound (IsCondition alias) (condition_at alias)
+  pub condition_sound : (depth : ℕ) → Sound (IsCondition depth alias) (condition_at depth alias)
   unfolding condition_at
-  condition_sound = any_sound (part_at alias most_depth) (IsPart alias most_depth) (part_sound most_depth)
+  condition_sound depth = any_sound (part_at alias depth) (IsPart alias depth) (part_sound depth)
 
 -- the query
-star_sound : (ts : List Terminal) (u : Unit {0}) (left : List Terminal) → star_at ts ≡ Ok (u, left) → Front (One (is_symbol symbols.Star)) ts left
+pub star_sound : (ts : List Terminal) (u : Unit {0}) (left : List Terminal) → star_at ts ≡ Ok (u, left) → Front (One (is_symbol symbols.Star)) ts left
 star_sound [] u left read = absurd (cc)
 star_sound (t ∷ ts) u left read =
     ⊎_elim
@@ -169,7 +170,7 @@ star_sound (t ∷ ts) u left read =
     (λ r1. ⊎_elim (λ h. absurd (cc h.1)) (λ h. absurd (cc h.1)) (chosen (is_keyword word.Distinct t) _ _ _ r1.1))
     (chosen (is_symbol symbols.Star t) _ _ _ read)
 
-region_sound_by : (ts : List Terminal) (o : Option (List ℕ)) (r : List ℕ) (left : List Terminal) → o ≡ front as_name ts → region_by o ts ≡ Ok (r, left) → Front (IsRegion r) ts left
+pub region_sound_by : (ts : List Terminal) (o : Option (List ℕ)) (r : List ℕ) (left : List Terminal) → o ≡ front as_name ts → region_by o ts ≡ Ok (r, left) → Front (IsRegion r) ts left
 region_sound_by ts None r left is read = absurd (cc)
 region_sound_by ts (Some w) r left is read =
     ⊎_elim
@@ -183,7 +184,7 @@ alias_sound_by ts None a left is read =
 alias_sound_by ts (Some w) a left is read =
     subst (λ (b : Option (List ℕ)). Front (IsAlias b) ts left) (value_is read) (weaker (Is as_name w) (IsAlias (Some w)) ts left (λ l spelled. inl spelled) (subst (Front (Is as_name w) ts) (left_is read) (one_has as_name w ts (sym is))))
 
-alias_sound : Sound IsAlias alias_at
+pub alias_sound : Sound IsAlias alias_at
 alias_sound ts a left read =
     ⊎_elim
     (λ h.
@@ -202,39 +203,39 @@ bare_end_is ts u left read =
     ⊎_elim (λ h. absurd (cc h.1)) (λ h. end_is ts u left h.1) (chosen (begins (is_symbol symbols.Comma) ts) _ _ _ read)
 
 -- a condition is spelled by all that is there
-where_sound : (alias : Option (List ℕ)) (ts : List Terminal) (c : Option Tree) (left : List Terminal) → where_at alias ts ≡ Ok (c, left) → (left ≡ []) × IsWhere alias c ts
-where_sound alias ts c left read =
+where_sound : (depth : ℕ) (alias : Option (List ℕ)) (ts : List Terminal) (c : Option Tree) (left : List Terminal) → where_at depth alias ts ≡ Ok (c, left) → (left ≡ []) × IsWhere depth alias c ts
+where_sound depth alias ts c left read =
     ⊎_elim
     (λ h.
-    let condition = bound (condition_at alias (rest ts)) _ c left h.1 in
+    let condition = bound (condition_at depth alias (rest ts)) _ c left h.1 in
     let m = made_of (λ _. Some condition.0) (end_at condition.1) c left condition.3 in
     let end = end_is condition.1 m.0 left m.1 in
-    let spelled = joined (One (is_keyword word.Where)) (IsCondition alias condition.0) ts (rest ts) condition.1 (one_begins (is_keyword word.Where) ts h.0) (condition_sound alias (rest ts) condition.0 condition.1 condition.2) in
+    let spelled = joined (One (is_keyword word.Where)) (IsCondition depth alias condition.0) ts (rest ts) condition.1 (one_begins (is_keyword word.Where) ts h.0) (condition_sound alias depth (rest ts) condition.0 condition.1 condition.2) in
     let whole : ts ≡ spelled.spelled = spelled.split ∙ ap (λ (l : List Terminal). spelled.spelled ++ l) end.0 ∙ append-nil spelled.spelled in
-    (end.1, subst (λ (d : Option Tree). IsWhere alias d ts) m.2 (subst (One (is_keyword word.Where) then IsCondition alias condition.0) (sym whole) spelled.holds)))
+    (end.1, subst (λ (d : Option Tree). IsWhere depth alias d ts) m.2 (subst (One (is_keyword word.Where) then IsCondition depth alias condition.0) (sym whole) spelled.holds)))
     (λ h.
     let m = made_of (λ _. None) (bare_end_at ts) c left h.1 in
     let end = bare_end_is ts m.0 left m.1 in
-    (end.1, subst (λ (d : Option Tree). IsWhere alias d ts) m.2 end.0))
+    (end.1, subst (λ (d : Option Tree). IsWhere depth alias d ts) m.2 end.0))
     (chosen (begins (is_keyword word.Where) ts) _ _ _ read)
 
 whole_of : (P : List Terminal → Type 0) (ts left : List Terminal) → left ≡ [] → P ts → Front P ts left
 whole_of P ts left none holds = record { spelled = ts; split = sym (ap (λ (l : List Terminal). ts ++ l) none ∙ append-nil ts); holds = holds }
 
-source_sound : (ts : List Terminal) (q : Asked) (left : List Terminal) → source_at ts ≡ Ok (q, left) → (left ≡ []) × Front (IsRegion q.region then IsAlias q.alias then IsWhere q.alias q.condition) ts left
-source_sound ts q left read =
+source_sound : (depth : ℕ) (ts : List Terminal) (q : Asked) (left : List Terminal) → source_at depth ts ≡ Ok (q, left) → (left ≡ []) × Front (IsRegion q.region then IsAlias q.alias then IsWhere depth q.alias q.condition) ts left
+source_sound depth ts q left read =
     let region = bound (region_at ts) _ q left read in
     let alias = bound (alias_at region.1) _ q left region.3 in
-    let m = made_of (λ c. record { region = region.0; alias = alias.0; condition = c }) (where_at alias.0 alias.1) q left alias.3 in
-    let condition = where_sound alias.0 alias.1 m.0 left m.1 in
-    let behind = joined (IsAlias alias.0) (IsWhere alias.0 m.0) region.1 alias.1 left (alias_sound region.1 alias.0 alias.1 alias.2) (whole_of (IsWhere alias.0 m.0) alias.1 left condition.0 condition.1) in (
+    let m = made_of (λ c. record { region = region.0; alias = alias.0; condition = c }) (where_at depth alias.0 alias.1) q left alias.3 in
+    let condition = where_sound depth alias.0 alias.1 m.0 left m.1 in
+    let behind = joined (IsAlias alias.0) (IsWhere depth alias.0 m.0) region.1 alias.1 left (alias_sound region.1 alias.0 alias.1 alias.2) (whole_of (IsWhere depth alias.0 m.0) alias.1 left condition.0 condition.1) in (
       condition.0,
-      subst (λ (p : Asked). Front (IsRegion p.region then IsAlias p.alias then IsWhere p.alias p.condition) ts left) m.2
+      subst (λ (p : Asked). Front (IsRegion p.region then IsAlias p.alias then IsWhere depth p.alias p.condition) ts left) m.2
           (joined (IsRegion region.0) _ ts region.1 left (region_sound_by ts _ region.0 region.1 refl region.2) behind),
     )
 
-pub query_sound : (ts : List Terminal) (q : Asked) (left : List Terminal) → query_at ts ≡ Ok (q, left) → (left ≡ []) × IsQuery q ts
-query_sound ts q left read =
+pub query_sound : (depth : ℕ) (ts : List Terminal) (q : Asked) (left : List Terminal) → query_within depth ts ≡ Ok (q, left) → (left ≡ []) × IsQueryWithin depth q ts
+query_sound depth ts q left read =
     ⊎_elim
     (λ h. absurd (cc h.1))
     (λ h.
@@ -242,12 +243,12 @@ query_sound ts q left read =
     let star = bound (star_at select.1) _ q left select.3 in
     let from = bound (keyword_at word.From star.1) _ q left star.3 in
     let slash = bound (symbol_at symbols.Slash from.1) _ q left from.3 in
-    let source = source_sound slash.1 q left slash.3 in
+    let source = source_sound depth slash.1 q left slash.3 in
     let spelled =
     joined (One (is_keyword word.Select)) _ ts select.1 left (keyword_sound word.Select ts select.0 select.1 select.2)
     (joined (One (is_symbol symbols.Star)) _ select.1 star.1 left (star_sound select.1 star.0 star.1 star.2)
     (joined (One (is_keyword word.From)) _ star.1 from.1 left (keyword_sound word.From star.1 from.0 from.1 from.2)
     (joined (One (is_symbol symbols.Slash)) _ from.1 slash.1 left (symbol_sound symbols.Slash from.1 slash.0 slash.1 slash.2) source.1))) in
     let whole : ts ≡ spelled.spelled = spelled.split ∙ ap (λ (l : List Terminal). spelled.spelled ++ l) source.0 ∙ append-nil spelled.spelled in
-    (source.0, subst (IsQuery q) (sym whole) spelled.holds))
+    (source.0, subst (IsQueryWithin depth q) (sym whole) spelled.holds))
     (chosen (begins (is_keyword word.Import) ts) _ _ _ read)

@@ -92,8 +92,8 @@ IsPart alias (suc depth) c ts =
     ⊎ ((e : Tree) × (c ≡ negation e) × (One (is_keyword word.Not) then IsPart alias depth e) ts)
     ⊎ Bracketed (IsAny (IsPart alias depth) c) ts
 
-abbrev pub IsCondition : Option (List ℕ) → Tree → List Terminal → Type 0
-IsCondition alias c ts = IsAny (IsPart alias most_depth) c ts
+abbrev pub IsCondition : ℕ → Option (List ℕ) → Tree → List Terminal → Type 0
+IsCondition depth alias c ts = IsAny (IsPart alias depth) c ts
 
 -- the region, as a name of at most 254 bytes behind a slash
 abbrev pub IsRegion : List ℕ → List Terminal → Type 0
@@ -103,15 +103,18 @@ abbrev pub IsAlias : Option (List ℕ) → List Terminal → Type 0
 IsAlias None ts = ts ≡ []
 IsAlias (Some a) ts = Is as_name a ts ⊎ (One (is_keyword word.As) then Is as_name a) ts
 
-abbrev pub IsWhere : Option (List ℕ) → Option Tree → List Terminal → Type 0
-IsWhere alias None ts = ts ≡ []
-IsWhere alias (Some c) ts = (One (is_keyword word.Where) then IsCondition alias c) ts
+abbrev pub IsWhere : ℕ → Option (List ℕ) → Option Tree → List Terminal → Type 0
+IsWhere depth alias None ts = ts ≡ []
+IsWhere depth alias (Some c) ts = (One (is_keyword word.Where) then IsCondition depth alias c) ts
 
 -- query = SELECT "*" FROM "/" name [ [ AS ] name ] [ WHERE or ]
-abbrev pub IsQuery : Asked → List Terminal → Type 0
-IsQuery q ts =
+abbrev pub IsQueryWithin : ℕ → Asked → List Terminal → Type 0
+IsQueryWithin depth q ts =
     (One (is_keyword word.Select) then One (is_symbol symbols.Star) then One (is_keyword word.From) then One (is_symbol symbols.Slash)
-    then IsRegion q.region then IsAlias q.alias then IsWhere q.alias q.condition) ts
+    then IsRegion q.region then IsAlias q.alias then IsWhere depth q.alias q.condition) ts
+
+abbrev pub IsQuery : Asked → List Terminal → Type 0
+IsQuery q ts = IsQueryWithin most_depth q ts
 
 -- What a question asks, apart from its text.
 abbrev pub asked_by : Question → Asked

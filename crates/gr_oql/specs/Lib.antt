@@ -10,8 +10,10 @@ pub mod Walk
 pub mod Words
 pub mod Terminals
 pub mod Lexemes
+pub mod Names
 pub mod Reading
 pub mod Gives
 pub mod Sources
 pub mod Faults
 pub mod Grammar
+pub mod FirstFault

@@ -193,8 +193,8 @@ part_at alias (suc depth) ts =
 abbrev pub most_depth : ℕ
 most_depth = 64
 
-unfoldable pub condition_at : Option (List ℕ) → List Terminal → Reading Tree
-condition_at alias ts = any_at (part_at alias most_depth) ts
+unfoldable pub condition_at : ℕ → Option (List ℕ) → List Terminal → Reading Tree
+condition_at depth alias ts = any_at (part_at alias depth) ts
 
 -- The query.
 pub record Asked : Type 0 where
@@ -237,22 +237,25 @@ end_at (t ∷ ts) = stop (if is_tail t then NotACq part.Tail else Expected) (t �
 abbrev pub bare_end_at : List Terminal → Reading (Unit {0})
 bare_end_at ts = if begins (is_symbol symbols.Comma) ts then stop (NotACq part.Join) ts else end_at ts
 
-abbrev pub where_at : Option (List ℕ) → List Terminal → Reading (Option Tree)
-where_at alias ts =
-    if begins (is_keyword word.Where) ts then (condition_at alias (rest ts) >>= λ condition. read_as (λ _. Some condition.0) (end_at condition.1))
+abbrev pub where_at : ℕ → Option (List ℕ) → List Terminal → Reading (Option Tree)
+where_at depth alias ts =
+    if begins (is_keyword word.Where) ts then (condition_at depth alias (rest ts) >>= λ condition. read_as (λ _. Some condition.0) (end_at condition.1))
     else read_as (λ _. None) (bare_end_at ts)
 
-abbrev pub source_at : List Terminal → Reading Asked
-source_at ts =
+abbrev pub source_at : ℕ → List Terminal → Reading Asked
+source_at depth ts =
     region_at ts >>= λ region.
     alias_at region.1 >>= λ alias.
-    read_as (λ condition. record { region = region.0; alias = alias.0; condition = condition }) (where_at alias.0 alias.1)
+    read_as (λ condition. record { region = region.0; alias = alias.0; condition = condition }) (where_at depth alias.0 alias.1)
 
-abbrev pub query_at : List Terminal → Reading Asked
-query_at ts =
+abbrev pub query_within : ℕ → List Terminal → Reading Asked
+query_within depth ts =
     if begins (is_keyword word.Import) ts then stop (NotACq part.Import) ts
     else (keyword_at word.Select ts >>= λ select.
     star_at select.1 >>= λ star.
     keyword_at word.From star.1 >>= λ from.
     symbol_at symbols.Slash from.1 >>= λ slash.
-    source_at slash.1)
+    source_at depth slash.1)
+
+abbrev pub query_at : List Terminal → Reading Asked
+query_at ts = query_within most_depth ts

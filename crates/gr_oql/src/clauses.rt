@@ -1,8 +1,9 @@
 //! The clauses of a query, from SELECT to its end.
 
 ghost use Rattle.std.specs.Prelude.{◌≡◌, ◌≤◌, length, option_map, Option, List, ℕ, IfOk, IfErr, ◌∷◌};
+ghost use Rattle.gr_value.specs.KeyBytes.{IsKey};
 ghost use Rattle.gr_oql.specs.Gives.{Gives};
-ghost use Rattle.gr_oql.specs.Reading.{Asked, star_at, region_at, alias_at, is_tail, end_at, bare_end_at, where_at, source_at, query_at};
+ghost use Rattle.gr_oql.specs.Reading.{Asked, star_at, region_at, alias_at, is_tail, end_at, bare_end_at, where_at, source_at, query_at, most_depth};
 ghost use Rattle.gr_oql.specs.View.{tree_of};
 ghost use Rattle.gr_oql.specs.Sources.{asked};
 ghost use Rattle.gr_oql.specs.Terminals.{begins};
@@ -15,7 +16,7 @@ use crate::stop::{Stop, Wrong};
 use crate::terms::{keyword_due, name_due, symbol_due};
 use crate::{Condition, Part};
 use gr_lex::Symbol;
-use gr_value::{Key, Text};
+use gr_value::{Key, KeyFault, Text};
 use std::alloc::Global;
 
 /// The most bytes of a region's name, which is a key behind a slash.
@@ -46,6 +47,7 @@ fn star(cursor: &mut Cursor) -> Result<(), Stop>
 
 /// A region's name, with a slash before it.
 fn region_key(alloc: Global, name: &str) -> Result<Key, Stop>
+    requires { IsKey (0x2F ∷ name.now) }
     ensures ok { IfOk result (λ key. key ≡ 0x2F ∷ name.now) }
     ensures err { IfErr result (λ stop. stop ≡ stops.Memory) }
 {
@@ -54,7 +56,8 @@ fn region_key(alloc: Global, name: &str) -> Result<Key, Stop>
     bytes.extend_from_slice(name.as_bytes())?;
     match Key::read(alloc, &bytes) {
         Ok(key) => Ok(key),
-        Err(_) => Err(Stop::Memory),
+        Err(KeyFault::Memory) => Err(Stop::Memory),
+        Err(_) => unreachable!(),
     }
 }
 
@@ -128,7 +131,7 @@ fn condition_to_end(
     alloc: Global,
     alias: Option<&str>,
 ) -> Result<Option<Condition>, Stop>
-    ensures exact { Gives (option_map tree_of) result cursor.new (where_at (option_map (λ a. a.now) alias.entry) cursor.old) }
+    ensures exact { Gives (option_map tree_of) result cursor.new (where_at most_depth (option_map (λ a. a.now) alias.entry) cursor.old) }
     ensures within { length cursor.new ≤ length cursor.old }
 {
     if cursor.takes_keyword(Keyword::Where) {
@@ -153,7 +156,7 @@ fn owned(alloc: Global, alias: Option<&str>) -> Result<Option<Text>, Stop>
 
 /// What stands behind the slash.
 fn behind_slash(cursor: &mut Cursor, alloc: Global) -> Result<Source, Stop>
-    ensures exact { Gives asked result cursor.new (source_at cursor.old) }
+    ensures exact { Gives asked result cursor.new (source_at most_depth cursor.old) }
     ensures within { length cursor.new ≤ length cursor.old }
 {
     let region = region(cursor, alloc)?;

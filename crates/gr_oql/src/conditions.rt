@@ -3,7 +3,7 @@
 ghost use Rattle.std.specs.Prelude.{◌≡◌, ◌≤◌, length, option_map};
 ghost use Rattle.gr_oql.specs.View.{tree_of};
 ghost use Rattle.gr_oql.specs.Gives.{Gives};
-ghost use Rattle.gr_oql.specs.Reading.{all_at, any_at, bracket_at, part_at, condition_at, read_as, test_at};
+ghost use Rattle.gr_oql.specs.Reading.{all_at, any_at, bracket_at, part_at, condition_at, most_depth, read_as, test_at};
 ghost use Rattle.gr_oql.specs.Tree.{test};
 
 use crate::Condition;
@@ -119,7 +119,7 @@ pub(crate) fn condition(
     alloc: Global,
     alias: Option<&str>,
 ) -> Result<Condition, Stop>
-    ensures exact { Gives tree_of result cursor.new (condition_at (option_map (λ a. a.now) alias.entry) cursor.old) }
+    ensures exact { Gives tree_of result cursor.new (condition_at most_depth (option_map (λ a. a.now) alias.entry) cursor.old) }
     ensures within { length cursor.new ≤ length cursor.old }
 {
     any(cursor, alloc, alias, MOST_DEPTH)

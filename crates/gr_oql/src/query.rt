@@ -1,10 +1,11 @@
-ghost use Rattle.std.specs.Prelude.{◌≡◌, ◌≤◌, length, drop, IfOk, IfErr, All, List, ℕ, option_map, Ok};
+ghost use Rattle.std.specs.Prelude.{◌≡◌, ◌⊎◌, ◌≤◌, length, drop, IfOk, IfErr, All, List, ℕ, option_map, Ok, Err};
 ghost use Rattle.gr_oql.specs.Faults.{place_of, named, fault_of, question_of, answer, is_greatest, Answers};
 ghost use Rattle.gr_oql.specs.Reading.{query_at};
 ghost use Rattle.gr_oql.specs.Terminals.{terminals_of};
 ghost use Rattle.gr_oql.specs.View.{tree_of};
 ghost use Rattle.gr_lex.specs.Layout.{IsToken};
 ghost use Rattle.gr_oql.specs.Grammar.{Spells};
+ghost use Rattle.gr_oql.specs.FirstFault.{IsFault};
 ghost use Rattle.gr_oql.specs.Question.{Question};
 ghost use Rattle.gr_oql.specs.Sources.{asked};
 ghost use Rattle.gr_oql.specs.declared.fault.OqlFault.TheVariants as oql_fault;
@@ -137,7 +138,7 @@ fn parsed(alloc: Global, text: &str) -> Result<Query, OqlFault>
 
 impl Query {
     /// Reads a query. A fault of its tokens comes before any other.
-    #[tactic(auto, using(crate::proofs::Exact::spelled, crate::proofs::Exact::only))]
+    #[tactic(auto, using(crate::proofs::Exact::spelled, crate::proofs::Exact::only, crate::proofs::Exact::stops, crate::proofs::Exact::only_fault))]
     pub fn parse(alloc: Global, text: &str) -> Result<Query, OqlFault>
         // What the text asks, or which fault it has and where.
         ensures exact { Answers result (question_of text.now) }
@@ -145,6 +146,10 @@ impl Query {
         ensures spelled { IfOk result (Spells text.now) }
         // What is spelled so is read.
         ensures only { (q : Question) → Spells text.now q → Answers result (Ok q) }
+        // A fault is the first that the grammar has, at the first token with which no query goes on.
+        ensures stops { IfErr result (λ fault. (fault ≡ oql_fault.Memory) ⊎ IsFault text.now fault) }
+        // A text with such a fault has that answer.
+        ensures only_fault { (fault : OqlFault) → IsFault text.now fault → Answers result (Err fault) }
     {
         parsed(alloc, text)
     }
