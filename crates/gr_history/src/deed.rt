@@ -52,15 +52,6 @@ impl Deed {
     }
 }
 
-fn copy_of(alloc: Global, change: &Option<Change>) -> Result<Option<Change>, Memory>
-    ensures { IfOk result (λ copy. copy ≡ change.now) }
-{
-    match change {
-        None => Ok(None),
-        Some(change) => Ok(Some(change.copy(alloc)?)),
-    }
-}
-
 impl Copied for Deed {
     fn copy(&self, alloc: Global) -> Result<Deed, Memory> {
         match self {
@@ -76,7 +67,7 @@ impl Copied for Deed {
                 seq: *seq,
                 ask: ask.copy(alloc)?,
                 reply: reply.copy(alloc)?,
-                made: copy_of(alloc, made)?,
+                made: made.copy(alloc)?,
                 to: *to,
             }),
         }

@@ -18,6 +18,7 @@ use Rattle.gr_oql.specs.Words.{keyword_of}
 use Rattle.gr_oql.specs.Lexemes.{terminals}
 use Rattle.gr_oql.specs.Terminals.{Terminal, word_terminal, terminal_by, terminal_of, terminals_of, as_name}
 use Rattle.gr_oql.specs.Names.{HasWordBytes, AreNamed}
+use Rattle.gr_value.proofs.Keys.{few_key_bytes}
 
 -- the names of a text's tokens
 
@@ -58,26 +59,6 @@ word_bytes_are_key_bytes [] all = refl
 word_bytes_are_key_bytes (byte ∷ bytes) all =
     let parts = and_parts (is_word_byte byte) (list_all is_word_byte bytes) all in
     and_from _ _ (word_byte_is_key_byte byte parts.0) (word_bytes_are_key_bytes bytes parts.1)
-
--- where all bytes are a key's, none is out of place
-all_key_bytes : (bytes : List ℕ) → list_all is_key_byte bytes ≡ true → prefix_len (λ byte. not (not (is_key_byte byte))) bytes ≡ length bytes
-all_key_bytes [] all = refl
-all_key_bytes (byte ∷ bytes) all =
-    let parts = and_parts (is_key_byte byte) (list_all is_key_byte bytes) all in
-    ap (λ (b : Bool). cond (not (not b)) (1 + prefix_len (λ byte. not (not (is_key_byte byte))) bytes) 0) parts.0
-    ∙ ap (λ (n : ℕ). 1 + n) (all_key_bytes bytes parts.1) ∙ omega arith
-
-no_bad_place : (bytes : List ℕ) → list_all is_key_byte bytes ≡ true → bad_place bytes ≡ None
-no_bad_place bytes all =
-    let place = prefix_len (λ byte. not (not (is_key_byte byte))) bytes in
-    let at_end : length bytes ≤ place = omega (arith, all_key_bytes bytes all) in
-    cond-false (ltb place (length bytes)) (Some place) None (le-ltb place (length bytes) at_end)
-
--- a key's bytes, few enough, are a key
-few_key_bytes : (bytes : List ℕ) → (length bytes ≡ 0 → ⊥) → length bytes ≤ 255 → list_all is_key_byte bytes ≡ true → key_fault bytes ≡ None
-few_key_bytes bytes some few all =
-    cond-false (eqb (length bytes) 0) _ _ (ne_eqb (length bytes) 0 some) ∙ cond-false (ltb 255 (length bytes)) _ _ (le-ltb 255 (length bytes) few)
-    ∙ ap (option_map BadByte) (no_bad_place bytes all)
 
 pub region_is_key : (name : List ℕ) → length name ≤ 254 → HasWordBytes name → IsKey (0x2F ∷ name)
 region_is_key name few has =

@@ -20,7 +20,8 @@ use Rattle.gr_script.specs.Spelling.{heading_lines, SpellsAsk, SpellsLine, AreSp
 use Rattle.gr_script.specs.Texts.{lines_of, is_ended, IsLine, text_of}
 use Rattle.gr_script.proofs.Asks.{decimal_one}
 use Rattle.gr_script.proofs.Fields.{cut_again}
-use Rattle.gr_script.proofs.Keys.{region_key_bytes, key_bytes, no_mark}
+use Rattle.gr_value.proofs.Keys.{key_bytes}
+use Rattle.gr_script.proofs.Keys.{region_key_bytes, no_mark}
 use Rattle.gr_script.proofs.Lines.{lines_more}
 use Rattle.gr_script.proofs.Sound.{heading_text}
 use Rattle.gr_script.proofs.Texts.{lines_here, lines_there}

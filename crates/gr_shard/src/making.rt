@@ -40,15 +40,6 @@ pub fn count_with(count: u64, made: &Option<Change>) -> u64
     }
 }
 
-fn copy_of(alloc: Global, change: &Option<Change>) -> Result<Option<Change>, Memory>
-    ensures { IfOk result (λ copy. copy ≡ change.now) }
-{
-    match change {
-        None => Ok(None),
-        Some(change) => Ok(Some(change.copy(alloc)?)),
-    }
-}
-
 /// The deed that says what a call gave.
 pub fn deed_of(alloc: Global, client: u8, seq: u32, ask: &Ask, done: &Done) -> Result<Deed, Memory>
     ensures { IfOk result (λ said. said ≡ deed.Call client seq ask.now done.now.reply done.now.made done.now.to) }
@@ -58,7 +49,7 @@ pub fn deed_of(alloc: Global, client: u8, seq: u32, ask: &Ask, done: &Done) -> R
         seq,
         ask: ask.copy(alloc)?,
         reply: done.reply.copy(alloc)?,
-        made: copy_of(alloc, &done.made)?,
+        made: done.made.copy(alloc)?,
         to: done.to,
     })
 }

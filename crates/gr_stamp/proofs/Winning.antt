@@ -3,9 +3,9 @@ use Rattle.std.proofs.Common.{◌≡◌, ◌&&◌, ℕ, Bool, true, false, List,
 use Rattle.std.specs.Prelude.{MatchOption, Contains}
 use Rattle.std.specs.List.{AllByRecursion}
 use Rattle.gr_stamp.specs.declared.change.Change.{Change}
-use Rattle.gr_stamp.specs.Version.{Version, beats}
+use Rattle.gr_stamp.specs.Version.{beats}
 use Rattle.gr_stamp.specs.Winner.{winner, wins, IsUnbeaten, HasNoChange}
-use Rattle.gr_stamp.proofs.Order.{beats_itself, beats-transitive, beats-greater}
+use Rattle.gr_stamp.proofs.Order.{beats_itself, beats-greater}
 
 here : (change : Change) (past : List Change) → Contains (change ∷ past) change
 here change past = (0, omega arith, refl)

@@ -11,3 +11,4 @@ mod Shorter
 mod Texts
 mod Utf8
 mod ValueRead
+pub mod Keys

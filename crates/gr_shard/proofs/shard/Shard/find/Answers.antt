@@ -1,4 +1,4 @@
-use Rattle.std.proofs.Common.{◌≡◌, ◌∙◌, ap, reverse, option_and_then}
+use Rattle.std.proofs.Common.{◌∙◌, ap, reverse, option_and_then}
 use Rattle.gr_stamp.specs.Winner.{put_value}
 use Rattle.gr_history.specs.Standing.{standing}
 use Rattle.gr_shard.specs.Entries.{held_ver}
