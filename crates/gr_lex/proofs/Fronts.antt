@@ -18,16 +18,23 @@ pub chosen : {X : Type 0} (b : Bool) (x y z : X) → cond b x y ≡ z → ((b �
 chosen true x y z is = inl (refl, is)
 chosen false x y z is = inr (refl, is)
 
+-- what a test chooses
+pub chosen_yes : {X : Type 0} (b : Bool) (x y : X) → b ≡ true → cond b x y ≡ x
+chosen_yes b x y is = rw is refl
+
+pub chosen_no : {X : Type 0} (b : Bool) (x y : X) → b ≡ false → cond b x y ≡ y
+chosen_no b x y is = rw is refl
+
 pub and_true : {a b : Bool} → a ≡ true → b ≡ true → (a && b) ≡ true
 and_true {a} {b} p q = rw (p, q) refl
 
-same_some : {X : Type 0} {x y : X} → Some x ≡ Some y → x ≡ y
+pub same_some : {X : Type 0} {x y : X} → Some x ≡ Some y → x ≡ y
 same_some is = cc
 
-same_ok : {X E : Type 0} {x y : X} → ◌≡◌ {A = Result X E} (Ok x) (Ok y) → x ≡ y
+pub same_ok : {X E : Type 0} {x y : X} → ◌≡◌ {A = Result X E} (Ok x) (Ok y) → x ≡ y
 same_ok is = cc
 
-one_more : (n : ℕ) → 1 + n ≡ suc n
+pub one_more : (n : ℕ) → 1 + n ≡ suc n
 one_more n = omega arith
 
 -- The front of the bytes is a token that starts at `place` and has one byte more than `len`.
@@ -43,10 +50,10 @@ module _ (p : ℕ → Bool) where
   pub prefix_len_yes : (b : ℕ) (bs : List ℕ) → p b ≡ true → prefix_len p (b ∷ bs) ≡ suc (prefix_len p bs)
   prefix_len_yes b bs is = rw is (one_more (prefix_len p bs))
 
-  prefix_len_no : (b : ℕ) (bs : List ℕ) → p b ≡ false → prefix_len p (b ∷ bs) ≡ 0
+  pub prefix_len_no : (b : ℕ) (bs : List ℕ) → p b ≡ false → prefix_len p (b ∷ bs) ≡ 0
   prefix_len_no b bs is = rw is refl
 
-  prefix_passes : (bytes : List ℕ) → list_all p (take (prefix_len p bytes) bytes) ≡ true
+  pub prefix_passes : (bytes : List ℕ) → list_all p (take (prefix_len p bytes) bytes) ≡ true
   prefix_passes [] = refl
   prefix_passes (b ∷ bs) =
       ⊎_elim
@@ -54,7 +61,7 @@ module _ (p : ℕ → Bool) where
       (λ no. rw (prefix_len_no b bs no) refl)
       (cases_Bool (p b))
 
-  prefix_stops : (bytes : List ℕ) → first_fails p (drop (prefix_len p bytes) bytes) ≡ true
+  pub prefix_stops : (bytes : List ℕ) → first_fails p (drop (prefix_len p bytes) bytes) ≡ true
   prefix_stops [] = refl
   prefix_stops (b ∷ bs) =
       ⊎_elim
@@ -78,7 +85,7 @@ counted_two None len is = absurd (cc)
 counted_two (Some m) len is = (m, refl, same_some is)
 
 mutual
-  closes : (bytes : List ℕ) (len : ℕ) → quoted_len bytes ≡ Some len → Closes bytes len
+  pub closes : (bytes : List ℕ) (len : ℕ) → quoted_len bytes ≡ Some len → Closes bytes len
   closes [] len is = absurd (cc)
   closes (b ∷ bs) len is =
       ⊎_elim

@@ -1,18 +1,19 @@
--- The tokens that are read lie in the text as they must.
-use Rattle.std.proofs.Common.{◌≡◌, ℕ, zero, suc, ◌+◌, ◌-◌, ◌≤◌, List, [], ◌∷◌, length, take, drop, Result, Ok, Err, true, ⊎_elim, sym, refl, ap, ◌∙◌, subst, arith}
-use Rattle.std.specs.Prelude.{IfOk, All}
+-- The tokens that are read lie in the text as they must, up to its end or its first fault.
+use Rattle.std.proofs.Common.{◌≡◌, ℕ, zero, suc, ◌+◌, ◌-◌, ◌≤◌, List, [], ◌∷◌, length, take, drop, Result, Ok, Err, Bool, true, false, inl, inr, ⊎_elim, sym, refl, ap, ◌∙◌, subst, arith}
+use Rattle.std.specs.Prelude.{◌⊎◌, IfOk, IfErr, All, if◌then◌else◌}
 use Rattle.std.specs.List.{list_all, AllByRecursion}
+use Rattle.std.proofs.lemmas.Bool.{cases_Bool}
 use Rattle.std.proofs.lemmas.List.Elements.{All-from_recursion}
-use Rattle.std.proofs.lemmas.List.{drop-drop, length-drop, drop_all}
+use Rattle.std.proofs.lemmas.List.{drop-drop, length-drop}
 use Rattle.gr_lex.specs.declared.token.Token.{Token}
 use Rattle.gr_lex.specs.declared.fault.LexFault.{LexFault}
+use Rattle.gr_lex.specs.declared.fault.LexFault.TheVariants.{BadCharacter, OpenText, NumberTooLarge, Memory}
 use Rattle.gr_lex.specs.Bytes.{is_blank}
 use Rattle.gr_lex.specs.Reading.{token_at, with_first, followed, tokens_from, tokens_of, Gives}
-use Rattle.gr_lex.specs.Layout.{IsOfKind, first_fails, could_take, IsToken, IsLaidOut}
-use Rattle.gr_lex.proofs.Fronts.{chosen, and_true, Begins, begins}
-
-same_ok : {X E : Type 0} {x y : X} → ◌≡◌ {A = Result X E} (Ok x) (Ok y) → x ≡ y
-same_ok is = cc
+use Rattle.gr_lex.specs.Layout.{IsOfKind, first_fails, could_take, IsToken, AreBlanks, IsLaidOutTo, IsLaidOut}
+use Rattle.gr_lex.specs.Faults.{IsFault}
+use Rattle.gr_lex.proofs.Fronts.{chosen_yes, chosen_no, and_true, Begins, begins}
+use Rattle.gr_lex.proofs.Misses.{IsFaultAt, fault_at}
 
 -- what one byte more leaves
 past : (text : List ℕ) (place b : ℕ) (bs : List ℕ) → b ∷ bs ≡ drop place text → bs ≡ drop (suc place) text
@@ -21,18 +22,20 @@ past text place b bs rest =
     ap (drop 1) rest ∙ drop-drop 1 place text ∙ ap (λ (n : ℕ). drop n text) next
 
 -- a blank before a place
-blank_before : (text : List ℕ) (place b : ℕ) (bs : List ℕ) (ts : List Token) → b ∷ bs ≡ drop place text → is_blank b ≡ true → IsLaidOut text (suc place) ts → IsLaidOut text place ts
-blank_before text place b bs [] rest blank laid =
-    subst (λ (l : List ℕ). list_all is_blank l ≡ true) rest (and_true blank (subst (λ (l : List ℕ). list_all is_blank l ≡ true) (sym (past text place b bs rest)) laid))
-blank_before text place b bs (t ∷ ts) rest blank laid =
-    let after : suc place ≤ t.start = laid.0 in
-    let longer : t.start - place ≡ suc (t.start - suc place) = omega arith in
-    let blanks : list_all is_blank (take (t.start - suc place) bs) ≡ true = subst (λ (l : List ℕ). list_all is_blank (take (t.start - suc place) l) ≡ true) (sym (past text place b bs rest)) laid.1 in (
-      omega arith,
-      subst (λ (l : List ℕ). list_all is_blank (take (t.start - place) l) ≡ true) rest (rw longer (and_true blank blanks)),
-      laid.2,
-      laid.3,
-    )
+blank_before : (text : List ℕ) (place stop b : ℕ) (bs : List ℕ) → b ∷ bs ≡ drop place text → is_blank b ≡ true → AreBlanks text (suc place) stop → AreBlanks text place stop
+blank_before text place stop b bs rest blank are =
+    let longer : stop - place ≡ suc (stop - suc place) = omega (arith, are.0) in
+    let blanks : list_all is_blank (take (stop - suc place) bs) ≡ true = subst (λ (l : List ℕ). list_all is_blank (take (stop - suc place) l) ≡ true) (sym (past text place b bs rest)) are.1 in
+    (omega (arith, are.0), subst (λ (l : List ℕ). list_all is_blank (take (stop - place) l) ≡ true) rest (rw longer (and_true blank blanks)))
+
+laid_before : (text : List ℕ) (place stop b : ℕ) (bs : List ℕ) (ts : List Token) → b ∷ bs ≡ drop place text → is_blank b ≡ true → IsLaidOutTo text (suc place) stop ts → IsLaidOutTo text place stop ts
+laid_before text place stop b bs [] rest blank laid = blank_before text place stop b bs rest blank laid
+laid_before text place stop b bs (t ∷ ts) rest blank laid = (blank_before text place t.start b bs rest blank laid.0, laid.1, laid.2)
+
+none_between : (text : List ℕ) (place stop : ℕ) → place ≡ stop → AreBlanks text place stop
+none_between text place stop same =
+    let none : 0 ≡ stop - place = omega (arith, same) in
+    (omega (arith, same), subst (λ (n : ℕ). list_all is_blank (take n (drop place text)) ≡ true) none refl)
 
 -- a token that begins at a place, within the text
 token_is : (text : List ℕ) (place b : ℕ) (bs : List ℕ) (t : Token) (len : ℕ) → b ∷ bs ≡ drop place text → Begins place (b ∷ bs) t len → IsToken text t
@@ -47,49 +50,89 @@ token_is text place b bs t len rest front =
       longest = subst (λ (l : List ℕ). first_fails (could_take t.kind) l ≡ true) from_end front.stops;
     }
 
--- a token, and the tokens behind it
-first_of : (t : Token) (read : Result (List Token) LexFault) (ts : List Token) → with_first t read ≡ Ok ts → (more : List Token) × (read ≡ Ok more) × (t ∷ more ≡ ts)
-first_of t (Ok more) ts is = (more, refl, same_ok is)
-first_of t (Err fault) ts is = absurd (cc)
+-- where reading from a place ends
+abbrev Ends : List ℕ → ℕ → Result (List Token) LexFault → Type 0
+Ends text place (Ok ts) = IsLaidOut text place ts
+Ends text place (Err fault) = (ts : List Token) × (stop : ℕ) × IsLaidOutTo text place stop ts × IsFaultAt stop (drop stop text) fault
 
--- what follows a token at the front
-laid_behind : (text : List ℕ) (place b : ℕ) (bs : List ℕ) (ts : List Token) (front : Result Token LexFault) → b ∷ bs ≡ drop place text → front ≡ token_at place (b ∷ bs) → followed front (λ taken. tokens_from (suc place) taken bs) ≡ Ok ts
-    → ((taken : ℕ) (more : List Token) → tokens_from (suc place) taken bs ≡ Ok more → IsLaidOut text (suc place + taken) more) → IsLaidOut text place ts
-laid_behind text place b bs ts (Err fault) rest is read later = absurd (cc)
-laid_behind text place b bs ts (Ok t) rest is read later =
-    let begun = begins place b bs t (sym is) in
+ends_before : (text : List ℕ) (place b : ℕ) (bs : List ℕ) (read : Result (List Token) LexFault) → b ∷ bs ≡ drop place text → is_blank b ≡ true → Ends text (suc place) read → Ends text place read
+ends_before text place b bs (Ok ts) rest blank ends = laid_before text place (length text) b bs ts rest blank ends
+ends_before text place b bs (Err fault) rest blank ends = (ends.0, ends.1, laid_before text place ends.1 b bs ends.0 rest blank ends.2, ends.3)
+
+-- a token, and what follows it
+ends_with_first : (text : List ℕ) (place : ℕ) (t : Token) (read : Result (List Token) LexFault) → AreBlanks text place t.start → IsToken text t → Ends text t.end read → Ends text place (with_first t read)
+ends_with_first text place t (Ok ts) blanks is ends = (blanks, is, ends)
+ends_with_first text place t (Err fault) blanks is ends = (t ∷ ends.0, ends.1, (blanks, is, ends.2), ends.3)
+
+ends_followed : (text : List ℕ) (place b : ℕ) (bs : List ℕ) (front : Result Token LexFault) → b ∷ bs ≡ drop place text → is_blank b ≡ false → front ≡ token_at place (b ∷ bs)
+    → ((taken : ℕ) → suc place + taken ≤ length text → Ends text (suc place + taken) (tokens_from (suc place) taken bs)) → Ends text place (followed front (λ taken. tokens_from (suc place) taken bs))
+ends_followed text place b bs (Err fault) rest other read later =
+    ([], place, none_between text place place refl, subst (λ (l : List ℕ). IsFaultAt place l fault) rest (fault_at place b bs fault other (sym read)))
+ends_followed text place b bs (Ok t) rest other read later =
+    let begun = begins place b bs t (sym read) in
     let front = begun.1 in
-    let found = first_of t (tokens_from (suc place) (t.end - t.start - 1) bs) ts read in
+    let is : IsToken text t = token_is text place b bs t begun.0 rest front in
     let next : suc place + (t.end - t.start - 1) ≡ t.end = omega (arith, front.at_start, front.at_end) in
-    let no_blanks : 0 ≡ t.start - place = omega (arith, front.at_start) in
-    subst (IsLaidOut text place) found.2 (
-      omega (arith, front.at_start),
-      subst (λ (n : ℕ). list_all is_blank (take n (drop place text)) ≡ true) no_blanks refl,
-      token_is text place b bs t begun.0 rest front,
-      subst (λ (n : ℕ). IsLaidOut text n found.0) next (later _ found.0 found.1),
-    )
+    let rest_ends : Ends text (suc place + (t.end - t.start - 1)) (tokens_from (suc place) (t.end - t.start - 1) bs) = later (t.end - t.start - 1) (omega (arith, next, is.within)) in
+    ends_with_first text place t (tokens_from (suc place) (t.end - t.start - 1) bs) (none_between text place t.start (sym front.at_start)) is
+    (subst (λ (n : ℕ). Ends text n (tokens_from (suc place) (t.end - t.start - 1) bs)) next rest_ends)
 
-pub laid_out : (text : List ℕ) (place taken : ℕ) (bytes : List ℕ) (ts : List Token) → bytes ≡ drop place text → tokens_from place taken bytes ≡ Ok ts → IsLaidOut text (place + taken) ts
-laid_out text place taken [] ts rest read =
-    subst (IsLaidOut text (place + taken)) (same_ok read)
-    (subst (λ (l : List ℕ). list_all is_blank l ≡ true) (sym (sym (drop-drop taken place text) ∙ ap (drop taken) (sym rest) ∙ drop_all taken [] (omega arith))) refl)
-laid_out text place (suc taken) (b ∷ bs) ts rest read =
-    subst (λ (n : ℕ). IsLaidOut text n ts) (omega arith) (laid_out text (suc place) taken bs ts (past text place b bs rest) read)
-laid_out text place zero (b ∷ bs) ts rest read =
-    subst (λ (n : ℕ). IsLaidOut text n ts) (omega arith)
-    (⊎_elim
-    (λ h. blank_before text place b bs ts rest h.0 (subst (λ (n : ℕ). IsLaidOut text n ts) (omega arith) (laid_out text (suc place) 0 bs ts (past text place b bs rest) h.1)))
-    (λ h. laid_behind text place b bs ts _ rest refl h.1 (λ taken more behind. laid_out text (suc place) taken bs more (past text place b bs rest) behind))
-    (chosen (is_blank b) _ _ _ read))
+ends_chosen : (text : List ℕ) (place : ℕ) (blank : Bool) (one other : Result (List Token) LexFault) → (blank ≡ true → Ends text place one) → (blank ≡ false → Ends text place other) → Ends text place (if blank then one else other)
+ends_chosen text place blank one other blanks others =
+    ⊎_elim
+    (λ is. subst (Ends text place) (sym (chosen_yes blank one other is)) (blanks is))
+    (λ is. subst (Ends text place) (sym (chosen_no blank one other is)) (others is))
+    (cases_Bool blank)
+
+ends : (text : List ℕ) (place taken : ℕ) (bytes : List ℕ) → bytes ≡ drop place text → place + taken ≤ length text → Ends text (place + taken) (tokens_from place taken bytes)
+ends text place taken [] rest within =
+    let last : place + taken ≡ length text = omega (arith, within, ap length rest, length-drop place text) in
+    none_between text (place + taken) (length text) last
+ends text place (suc taken) (b ∷ bs) rest within =
+    let next : suc place + taken ≡ place + suc taken = omega arith in
+    subst (λ (n : ℕ). Ends text n (tokens_from (suc place) taken bs)) next (ends text (suc place) taken bs (past text place b bs rest) (omega (arith, within)))
+ends text place zero (b ∷ bs) rest within =
+    let here : place ≡ place + 0 = omega arith in
+    let none : suc place + 0 ≡ suc place = omega arith in
+    let more : suc place ≤ length text = omega (arith, ap length rest, length-drop place text) in
+    let next = past text place b bs rest in
+    subst (λ (n : ℕ). Ends text n (tokens_from place 0 (b ∷ bs))) here
+    (ends_chosen text place (is_blank b) _ _
+    (λ blank. ends_before text place b bs (tokens_from (suc place) 0 bs) rest blank (subst (λ (n : ℕ). Ends text n (tokens_from (suc place) 0 bs)) none (ends text (suc place) 0 bs next (omega (arith, more)))))
+    (λ other. ends_followed text place b bs (token_at place (b ∷ bs)) rest other refl (λ taken. ends text (suc place) taken bs next)))
+
+whole : (text : List ℕ) (answer : Result (List Token) LexFault) → tokens_of text ≡ answer → Ends text 0 answer
+whole text answer read = subst (Ends text 0) read (ends text 0 0 text refl (omega arith))
+
+-- what is read is laid out so
+pub tokens_laid : (text : List ℕ) (ts : List Token) → tokens_of text ≡ Ok ts → IsLaidOut text 0 ts
+tokens_laid text ts read = whole text (Ok ts) read
 
 pub laid_from_gives : (text : List ℕ) (answer : Result (List Token) LexFault) → Gives answer (tokens_of text) → IfOk answer (λ ts. IsLaidOut text 0 ts)
-laid_from_gives text (Ok ts) read = laid_out text 0 0 text ts refl read
+laid_from_gives text (Ok ts) read = tokens_laid text ts read
 laid_from_gives text (Err fault) read = tt
 
-each_of_laid : (text : List ℕ) (place : ℕ) (ts : List Token) → IsLaidOut text place ts → AllByRecursion (IsToken text) ts
-each_of_laid text place [] laid = tt
-each_of_laid text place (t ∷ ts) laid = (laid.2, each_of_laid text t.end ts laid.3)
+each_of_laid : (text : List ℕ) (place stop : ℕ) (ts : List Token) → IsLaidOutTo text place stop ts → AllByRecursion (IsToken text) ts
+each_of_laid text place stop [] laid = tt
+each_of_laid text place stop (t ∷ ts) laid = (laid.1, each_of_laid text t.end stop ts laid.2)
 
 pub each_from_gives : (text : List ℕ) (answer : Result (List Token) LexFault) → Gives answer (tokens_of text) → IfOk answer (λ ts. All (IsToken text) ts)
-each_from_gives text (Ok ts) read = All-from_recursion (IsToken text) ts (each_of_laid text 0 ts (laid_out text 0 0 text ts refl read))
+each_from_gives text (Ok ts) read = All-from_recursion (IsToken text) ts (each_of_laid text 0 (length text) ts (whole text (Ok ts) read))
 each_from_gives text (Err fault) read = tt
+
+-- a fault that ended reading is one by the grammar
+ended : (text : List ℕ) (fault : LexFault) → Ends text 0 (Err fault) → IsFault text fault
+ended text (BadCharacter place) ends = subst (λ (n : ℕ). IsFault text (BadCharacter n)) (sym ends.3.0) ((ends.0, ends.2), ends.3.1)
+ended text (OpenText place) ends = subst (λ (n : ℕ). IsFault text (OpenText n)) (sym ends.3.0) ((ends.0, ends.2), ends.3.1)
+ended text (NumberTooLarge place) ends = subst (λ (n : ℕ). IsFault text (NumberTooLarge n)) (sym ends.3.0) ((ends.0, ends.2), ends.3.1)
+ended text Memory ends = ends.3
+
+pub fault_found : (text : List ℕ) (fault : LexFault) → tokens_of text ≡ Err fault → IsFault text fault
+fault_found text fault read = ended text fault (whole text (Err fault) read)
+
+pub stops_from_gives : (text : List ℕ) (answer : Result (List Token) LexFault) → Gives answer (tokens_of text) → IfErr answer (λ fault. (fault ≡ Memory) ⊎ IsFault text fault)
+stops_from_gives text (Ok ts) read = tt
+stops_from_gives text (Err Memory) read = inl refl
+stops_from_gives text (Err (BadCharacter place)) read = inr (fault_found text (BadCharacter place) read)
+stops_from_gives text (Err (OpenText place)) read = inr (fault_found text (OpenText place) read)
+stops_from_gives text (Err (NumberTooLarge place)) read = inr (fault_found text (NumberTooLarge place) read)

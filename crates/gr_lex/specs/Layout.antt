@@ -58,7 +58,15 @@ pub record IsToken (text : List ℕ) (t : Token) : Type 0 where
   pub of_kind : IsOfKind t.kind (bytes_of text t)
   pub longest : IsTrue (first_fails (could_take t.kind) (drop t.end text))
 
--- From a place on the text has these tokens in this order, and blanks between them and around them, and nothing else.
+-- From a place up to another the text has blanks alone.
+abbrev pub AreBlanks : List ℕ → ℕ → ℕ → Type 0
+AreBlanks text place stop = (place ≤ stop) × IsTrue (list_all is_blank (take (stop - place) (drop place text)))
+
+-- From a place up to another the text has these tokens in this order, and blanks between them and around them, and nothing else.
+abbrev pub IsLaidOutTo : List ℕ → ℕ → ℕ → List Token → Type 0
+IsLaidOutTo text place stop [] = AreBlanks text place stop
+IsLaidOutTo text place stop (t ∷ ts) = AreBlanks text place t.start × IsToken text t × IsLaidOutTo text t.end stop ts
+
+-- The text has them from a place up to its end.
 abbrev pub IsLaidOut : List ℕ → ℕ → List Token → Type 0
-IsLaidOut text place [] = IsTrue (list_all is_blank (drop place text))
-IsLaidOut text place (t ∷ ts) = (place ≤ t.start) × IsTrue (list_all is_blank (take (t.start - place) (drop place text))) × IsToken text t × IsLaidOut text t.end ts
+IsLaidOut text place ts = IsLaidOutTo text place (length text) ts

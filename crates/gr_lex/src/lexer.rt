@@ -1,8 +1,10 @@
-ghost use Rattle.std.specs.Prelude.{◌≡◌, ◌+◌, ◌<◌, ◌^◌, length, slice_index, IfOk, All};
+ghost use Rattle.std.specs.Prelude.{◌≡◌, ◌⊎◌, ◌+◌, ◌<◌, ◌^◌, length, slice_index, List, Ok, Err, IfOk, IfErr, All};
 ghost use Rattle.gr_lex.specs.Bytes.{symbol_of};
 ghost use Rattle.std.specs.List.{AllPass};
 ghost use Rattle.std.specs.Char.{is_ascii_digit};
 ghost use Rattle.gr_lex.specs.Layout.{IsToken, IsLaidOut};
+ghost use Rattle.gr_lex.specs.Faults.{IsFault};
+ghost use Rattle.gr_lex.specs.declared.fault.LexFault.TheVariants as lex_fault;
 ghost use Rattle.gr_lex.specs.Reading.{spanning, number_at, quoted_at, symbol_at, quoted_len, token_at, tokens_of, Gives, Spans};
 
 use crate::bytes::{QUOTE, is_blank, is_letter, symbol_len, symbol_of};
@@ -11,11 +13,18 @@ use crate::{LexFault, Token, TokenKind, TokenList};
 use std::alloc::Global;
 
 /// The tokens of a text. The time that it takes grows as the text does.
-#[tactic(auto, using(crate::proofs::Laid::laid_from_gives, crate::proofs::Laid::each_from_gives))]
+#[tactic(auto, using(crate::proofs::Laid::laid_from_gives, crate::proofs::Laid::each_from_gives, crate::proofs::Laid::stops_from_gives, crate::proofs::Only::only, crate::proofs::Only::only_fault))]
 pub fn tokens(alloc: Global, text: &str) -> Result<TokenList, LexFault>
+    // What reading gives, unless memory ran out.
     ensures exact { Gives result (tokens_of text.now) }
     ensures laid_out { IfOk result (λ ts. IsLaidOut text.now 0 ts) }
     ensures each { IfOk result (λ ts. All (IsToken text.now) ts) }
+    // What is laid out so are the tokens.
+    ensures only { (ts : List Token) → IsLaidOut text.now 0 ts → Gives result (Ok ts) }
+    // A fault stands at the first place where neither a blank nor a token does.
+    ensures stops { IfErr result (λ fault. (fault ≡ lex_fault.Memory) ⊎ IsFault text.now fault) }
+    // A text with such a fault has that answer.
+    ensures only_fault { (fault : LexFault) → IsFault text.now fault → Gives result (Err fault) }
 {
     tokens_in_turn(alloc, text)
 }
