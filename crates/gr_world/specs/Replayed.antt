@@ -46,3 +46,17 @@ AreClientsLeft script members number (left ∷ rest) = IsClientLeft script membe
 pub record IsReplayed (script : Script) (left : Record) : Type 0 where
   pub members : AreMembersLeft script 1 left.members
   pub clients : AreClientsLeft script left.members 1 left.clients
+
+-- A record whose histories have no room to spare. No script says how much they have.
+abbrev pub trimmed_shard : ShardRecord → ShardRecord
+trimmed_shard left = record left { history = record left.history { spare = 0 } }
+
+abbrev pub trimmed_member : MemberRecord → MemberRecord
+trimmed_member left = record left { shards = map trimmed_shard left.shards }
+
+abbrev pub trimmed : Record → Record
+trimmed left = record left { members = map trimmed_member left.members }
+
+-- No other record is the script's, but for the room that its histories have to spare.
+abbrev pub IsOnlyReplayed : Script → Record → Type 0
+IsOnlyReplayed script left = (other : Record) → IsReplayed script other → trimmed other ≡ trimmed left

@@ -1,6 +1,6 @@
 ghost use Rattle.std.specs.Prelude.{IfOk};
 ghost use Rattle.gr_world.specs.Plays.{IsSingle};
-ghost use Rattle.gr_world.specs.Replayed.{IsReplayed};
+ghost use Rattle.gr_world.specs.Replayed.{IsOnlyReplayed, IsReplayed};
 
 use crate::play::play;
 use gr_history::{
@@ -14,7 +14,8 @@ use std::alloc::Global;
 
 /// Plays a script line by line, in its one schedule.
 pub fn replay(alloc: Global, script: &Script) -> Result<Record, Memory>
-    ensures { IfOk result (IsReplayed script.now) }
+    ensures replayed { IfOk result (IsReplayed script.now) }
+    ensures one { IfOk result (IsOnlyReplayed script.now) }
 {
     let id = Identity {
         member: 1,
