@@ -13,8 +13,8 @@ use Rattle.gr_oql.specs.declared.stop.Wrong.{Wrong}
 use Rattle.gr_oql.specs.declared.stop.Wrong.TheVariants.{Expected, NotACq, TooDeep}
 use Rattle.gr_oql.specs.Words.{letters}
 use Rattle.gr_oql.specs.Terminals.{Terminal, keyword, name, number, quoted, symbol, begins, front, rest, is_symbol, is_keyword, as_name, as_word, as_number, as_quoted}
-use Rattle.gr_oql.specs.Reading.{Reading, ◌>>=◌, symbol_at, keyword_at, word_by, is_alias, member_at, field_of_name, field_by, field_at, negative_by, negative_at, plain_by, missing, literal_at, operand_by, operand_at, more_at, separated_at, has_backslash}
-use Rattle.gr_oql.specs.Grammar.{One, Is, ◌then◌, Row, Field, Literal, IsOperand}
+use Rattle.gr_oql.specs.Reading.{Reading, ◌>>=◌, symbol_at, keyword_at, word_by, member_at, field_of_name, field_by, field_at, negative_by, negative_at, plain_by, missing, literal_at, operand_by, operand_at, more_at, separated_at}
+use Rattle.gr_oql.specs.Grammar.{One, Is, ◌then◌, Row, Field, Literal, IsOperand, is_alias, has_backslash}
 use Rattle.gr_oql.proofs.Readings.{chosen, wrong_is, place_is, stopped, not_made}
 use Rattle.gr_oql.proofs.Sound.{Front, Sound, one_begins, symbol_sound}
 

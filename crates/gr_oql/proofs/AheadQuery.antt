@@ -16,9 +16,9 @@ use Rattle.gr_oql.specs.declared.stop.Wrong.TheVariants.{Expected, NotACq, TooDe
 use Rattle.gr_oql.specs.Words.{letters}
 use Rattle.gr_oql.specs.Tree.{Tree, any, all, negation, test}
 use Rattle.gr_oql.specs.View.{in_order}
-use Rattle.gr_oql.specs.Terminals.{Terminal, keyword, name, symbol, quoted, begins, front, rest, is_symbol, is_keyword, as_name}
-use Rattle.gr_oql.specs.Reading.{Reading, ◌>>=◌, read_as, symbol_at, keyword_at, word_by, name_at, has_backslash, is_tail, most_depth, condition_at, Asked, star_at, region_by, region_at, alias_by, alias_at, end_at, bare_end_at, where_at, source_at, query_at}
-use Rattle.gr_oql.specs.Grammar.{One, ◌then◌, IsTest, IsPart, IsCondition, IsRegion, IsAlias, IsWhere, IsQueryWithin}
+use Rattle.gr_oql.specs.Terminals.{Terminal, keyword, name, symbol, quoted, begins, front, rest, is_symbol, is_keyword, as_name, is_tail}
+use Rattle.gr_oql.specs.Reading.{Reading, ◌>>=◌, read_as, symbol_at, keyword_at, word_by, name_at, condition_at, star_at, region_by, region_at, alias_by, alias_at, end_at, bare_end_at, where_at, source_at, query_at}
+use Rattle.gr_oql.specs.Grammar.{One, ◌then◌, IsTest, IsPart, IsCondition, IsRegion, IsAlias, IsWhere, IsQueryWithin, has_backslash, most_depth, Asked}
 use Rattle.gr_oql.specs.FirstFault.{IsStart, Fits}
 use Rattle.gr_oql.proofs.Readings.{chosen, left_is, wrong_is, place_is, stopped, not_made}
 use Rattle.gr_oql.proofs.Sound.{Front, joined, one_begins, symbol_sound, keyword_sound}

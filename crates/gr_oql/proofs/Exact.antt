@@ -9,10 +9,12 @@ use Rattle.gr_oql.specs.declared.fault.OqlFault.{OqlFault}
 use Rattle.gr_oql.specs.declared.fault.OqlFault.TheVariants as fault
 use Rattle.gr_oql.specs.Question.{Question}
 use Rattle.gr_oql.specs.Terminals.{terminals_of}
-use Rattle.gr_oql.specs.Reading.{Reading, Asked, most_depth, query_at}
+use Rattle.gr_oql.specs.Reading.{Reading, query_at}
 use Rattle.gr_oql.specs.Faults.{answer, answer_of_tokens, question_of, Answers}
-use Rattle.gr_oql.specs.Grammar.{asked_by, Spells}
+use Rattle.gr_oql.specs.Grammar.{asked_by, Spells, Asked, most_depth}
 use Rattle.gr_oql.specs.FirstFault.{IsFault}
+use Rattle.gr_lex.proofs.Laid.{tokens_laid}
+use Rattle.gr_lex.proofs.Only.{tokens_only}
 use Rattle.gr_oql.proofs.SoundQuery.{query_sound}
 use Rattle.gr_oql.proofs.CompleteQuery.{query_complete}
 use Rattle.gr_oql.proofs.FaultTexts.{fault_is, fault_only}
@@ -23,7 +25,7 @@ same_question is = cc
 answer_spelled : (text : List ℕ) (tokens : List Token) (read : Reading Asked) (q : Question) → tokens_of text ≡ Ok tokens → read ≡ query_at (terminals_of text tokens) → answer text tokens read ≡ Ok q → Spells text q
 answer_spelled text tokens (Ok x) q lexed is read =
     let sound = query_sound most_depth (terminals_of text tokens) x.0 x.1 (sym is) in
-    subst (Spells text) (same_question read) (tokens, lexed, refl, sound.1)
+    subst (Spells text) (same_question read) (tokens, tokens_laid text tokens lexed, refl, sound.1)
 answer_spelled text tokens (Err e) q lexed is read = absurd (cc)
 
 question_spelled : (text : List ℕ) (lexed : Result (List Token) LexFault) (q : Question) → tokens_of text ≡ lexed → answer_of_tokens text lexed ≡ Ok q → Spells text q
@@ -37,7 +39,7 @@ spelled text (Err fault) read = tt
 
 question_only : (text : List ℕ) (q : Question) → Spells text q → question_of text ≡ Ok q
 question_only text q is =
-    let lexed = is.1 in
+    let lexed = tokens_only text is.0 is.1 in
     let read = query_complete most_depth (terminals_of text is.0) (asked_by q) is.3 in
     rw (lexed, read) (ap (λ (l : List ℕ). Ok (record { text = l; region = q.region; alias = q.alias; condition = q.condition })) (sym is.2))
 

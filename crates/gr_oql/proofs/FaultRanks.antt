@@ -9,9 +9,9 @@ use Rattle.gr_oql.specs.declared.stop.Wrong.{Wrong}
 use Rattle.gr_oql.specs.declared.stop.Wrong.TheVariants.{Expected, NotACq, TooDeep}
 use Rattle.gr_oql.specs.Words.{keyword_eq}
 use Rattle.gr_oql.specs.Tree.{Tree}
-use Rattle.gr_oql.specs.Terminals.{Terminal, keyword, name, number, quoted, symbol, begins, is_symbol, is_keyword}
-use Rattle.gr_oql.specs.Reading.{read_as, has_backslash, most_depth, Asked, is_tail, query_at}
-use Rattle.gr_oql.specs.Grammar.{IsQuery}
+use Rattle.gr_oql.specs.Terminals.{Terminal, keyword, name, number, quoted, symbol, begins, is_symbol, is_keyword, is_tail}
+use Rattle.gr_oql.specs.Reading.{read_as, query_at}
+use Rattle.gr_oql.specs.Grammar.{IsQuery, has_backslash, most_depth, Asked}
 use Rattle.gr_oql.specs.FirstFault.{IsStart, IsOver, Fits, rank, Ceases}
 use Rattle.gr_oql.proofs.Readings.{wrong_is}
 use Rattle.gr_oql.proofs.Complete.{symbol_no_keyword, symbol_no_name, keyword_no_name, keyword_no_symbol, keyword_other}

@@ -12,10 +12,12 @@ use Rattle.gr_oql.specs.declared.fault.OqlFault.TheVariants as fault
 use Rattle.gr_oql.specs.declared.stop.Wrong.{Wrong}
 use Rattle.gr_oql.specs.declared.stop.Wrong.TheVariants.{Expected, NotACq, TooDeep}
 use Rattle.gr_oql.specs.Terminals.{Terminal, front, rest, as_number, terminal_of, terminals_of}
-use Rattle.gr_oql.specs.Reading.{Reading, Asked, most_depth, query_at}
-use Rattle.gr_oql.specs.Faults.{place_of, is_greatest, named, fault_of, answer, answer_of_tokens, question_of}
-use Rattle.gr_oql.specs.Grammar.{IsQuery}
-use Rattle.gr_oql.specs.FirstFault.{IsStart, IsOver, rank, Ceases, fault_at, IsFault}
+use Rattle.gr_oql.specs.Reading.{Reading, query_at}
+use Rattle.gr_oql.specs.Faults.{fault_of, answer, answer_of_tokens, question_of}
+use Rattle.gr_oql.specs.Grammar.{IsQuery, Asked, most_depth}
+use Rattle.gr_oql.specs.FirstFault.{IsStart, IsOver, rank, Ceases, fault_at, IsFault, place_of, is_greatest, named}
+use Rattle.gr_lex.proofs.Laid.{tokens_laid, fault_found}
+use Rattle.gr_lex.proofs.Only.{tokens_only, tokens_fault}
 use Rattle.gr_oql.proofs.SoundQuery.{query_sound}
 use Rattle.gr_oql.proofs.FaultRanks.{query_ceases}
 
@@ -50,11 +52,11 @@ answered text tokens (Err e) f lexed is read =
     let ceases : Ceases (terminals_of text parts.0) (terminals_of text parts.1) e.0 = rw (front_is, behind_is) stops.2 in
     let found : fault_of text tokens e.0 e.1 ≡ fault_at text parts.1 e.0 = ap (λ (l : List Token). fault_of text l e.0 e.1) parts.2 ∙ ap (fault_of text (parts.0 ++ parts.1) e.0) (sym behind_is) ∙ fault_there text parts.0 parts.1 e.0 in
     let given : fault_of text tokens e.0 e.1 ≡ f = cc in
-    inr (parts.0, parts.1, e.0, lexed ∙ ap (λ (l : List Token). Ok l) parts.2, ceases, sym given ∙ found)
+    inr (parts.0, parts.1, e.0, tokens_laid text (parts.0 ++ parts.1) (lexed ∙ ap (λ (l : List Token). Ok l) parts.2), ceases, sym given ∙ found)
 
 lexed_fault : (text : List ℕ) (lexed : Result (List Token) LexFault) (f : OqlFault) → tokens_of text ≡ lexed → answer_of_tokens text lexed ≡ Err f → IsFault text f
 lexed_fault text (Ok tokens) f is read = answered text tokens _ f is refl read
-lexed_fault text (Err lexical) f is read = let given : fault.Lex lexical ≡ f = cc in inl (lexical, is, sym given)
+lexed_fault text (Err lexical) f is read = let given : fault.Lex lexical ≡ f = cc in inl (lexical, fault_found text lexical is, sym given)
 
 -- a text's fault is one by the grammar
 pub fault_is : (text : List ℕ) (f : OqlFault) → question_of text ≡ Err f → IsFault text f
@@ -136,6 +138,6 @@ module _ (text : List ℕ) (before left : List Token) (w : Wrong) (ceases : Ceas
 
 -- a text whose fault it is by the grammar is answered so
 pub fault_only : (text : List ℕ) (f : OqlFault) → IsFault text f → question_of text ≡ Err f
-fault_only text f (inl h) = ap (answer_of_tokens text) h.1 ∙ ap (λ (g : OqlFault). Err g) (sym h.2)
+fault_only text f (inl h) = ap (answer_of_tokens text) (tokens_fault text h.0 h.1) ∙ ap (λ (g : OqlFault). Err g) (sym h.2)
 fault_only text f (inr h) =
-    ap (answer_of_tokens text) h.3 ∙ stops_there text h.0 h.1 h.2 h.4 (query_at (terminals_of text (h.0 ++ h.1))) refl ∙ ap (λ (g : OqlFault). Err g) (sym h.5)
+    ap (answer_of_tokens text) (tokens_only text (h.0 ++ h.1) h.3) ∙ stops_there text h.0 h.1 h.2 h.4 (query_at (terminals_of text (h.0 ++ h.1))) refl ∙ ap (λ (g : OqlFault). Err g) (sym h.5)

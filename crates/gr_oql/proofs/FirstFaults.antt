@@ -1,12 +1,13 @@
 -- A fault is the first that the grammar has, at the first terminal with which no query goes on.
 use Rattle.std.proofs.Common.{◌≡◌, ℕ, List, [], ◌∷◌, ◌++◌, length, Ok, Err, Option, Some, None, true, ◌||◌, inl, inr, ⊎_elim, refl, sym, ap, ◌∙◌, append_assoc, append-nil, leb, ltb, ◌^◌, arith}
 use Rattle.gr_lex.specs.declared.token.Symbol.TheVariants as symbols
+use Rattle.gr_oql.specs.Grammar.{has_backslash, most_depth}
 use Rattle.gr_oql.specs.declared.keyword.Keyword.TheVariants as word
 use Rattle.gr_oql.specs.declared.fault.Part.TheVariants as part
 use Rattle.gr_oql.specs.declared.stop.Wrong.{Wrong}
 use Rattle.gr_oql.specs.declared.stop.Wrong.TheVariants.{Expected, NotACq, TooDeep}
 use Rattle.gr_oql.specs.Terminals.{Terminal, keyword, name, number, quoted, symbol, front, is_symbol, is_keyword, as_number, as_quoted}
-use Rattle.gr_oql.specs.Reading.{Reading, negative_by, plain_by, literal_at, has_backslash, pattern_by, part_at, most_depth, query_within, query_at}
+use Rattle.gr_oql.specs.Reading.{Reading, negative_by, plain_by, literal_at, pattern_by, part_at, query_within, query_at}
 use Rattle.gr_oql.specs.FirstFault.{IsStart, IsOver}
 use Rattle.gr_oql.proofs.Readings.{chosen, wrong_is, place_is}
 use Rattle.gr_oql.proofs.Complete.{symbol_other}

@@ -1,8 +1,8 @@
 -- Names are words, and a word behind a slash is a key.
-use Rattle.std.proofs.Common.{◌≡◌, ℕ, ◌+◌, ◌-◌, ◌≤◌, List, [], ◌∷◌, length, Bool, true, not, cond, eqb, ltb, Option, Some, None, option_map, take, drop, refl, sym, ap, subst, ◌∙◌, arith}
+use Rattle.std.proofs.Common.{◌≡◌, ℕ, ◌-◌, ◌≤◌, List, [], ◌∷◌, length, true, Option, Some, None, take, drop, refl, sym, subst, arith}
 use Rattle.std.specs.Prelude.{IfSome, All}
-use Rattle.std.specs.List.{prefix_len, list_all}
-use Rattle.std.proofs.lemmas.Bool.{and_parts, and_from, or_left, ne_eqb, le-ltb, cond-false}
+use Rattle.std.specs.List.{list_all}
+use Rattle.std.proofs.lemmas.Bool.{and_parts, and_from, or_left}
 use Rattle.std.proofs.lemmas.List.{take_rest}
 use Rattle.std.proofs.lemmas.List.Elements.{All-map, All-drop}
 use Rattle.gr_lex.specs.declared.token.Token.{Token}
@@ -10,8 +10,7 @@ use Rattle.gr_lex.specs.declared.token.TokenKind.{TokenKind}
 use Rattle.gr_lex.specs.declared.token.TokenKind.TheVariants as kind
 use Rattle.gr_lex.specs.Bytes.{is_letter, is_word_byte}
 use Rattle.gr_lex.specs.Layout.{is_word, IsOfKind, IsToken}
-use Rattle.gr_value.specs.declared.fault.KeyFault.TheVariants.{BadByte}
-use Rattle.gr_value.specs.KeyBytes.{is_key_byte, bad_place, key_fault, IsKey}
+use Rattle.gr_value.specs.KeyBytes.{is_key_byte, IsKey}
 use Rattle.gr_oql.specs.declared.keyword.Keyword.{Keyword}
 use Rattle.gr_oql.specs.declared.lexeme.Lexeme.{Lexeme}
 use Rattle.gr_oql.specs.Words.{keyword_of}

@@ -10,8 +10,8 @@ use Rattle.gr_oql.specs.declared.keyword.Keyword.TheVariants as word
 use Rattle.gr_oql.specs.declared.condition.Operand.{Operand}
 use Rattle.gr_oql.specs.declared.condition.Operand.TheVariants as operand
 use Rattle.gr_oql.specs.Terminals.{Terminal, begins, front, rest, is_symbol, is_keyword, as_name, as_word, as_number, as_quoted}
-use Rattle.gr_oql.specs.Reading.{Reading, symbol_at, keyword_at, word_by, name_at, is_alias, field_of_name, field_by, field_at, negative_by, negative_at, plain_by, literal_at, operand_by, operand_at, more_at, separated_at}
-use Rattle.gr_oql.specs.Grammar.{One, Is, ◌then◌, Row, Field, Literal, IsOperand}
+use Rattle.gr_oql.specs.Reading.{Reading, symbol_at, keyword_at, word_by, name_at, field_of_name, field_by, field_at, negative_by, negative_at, plain_by, literal_at, operand_by, operand_at, more_at, separated_at}
+use Rattle.gr_oql.specs.Grammar.{One, Is, ◌then◌, Row, Field, Literal, IsOperand, is_alias}
 use Rattle.gr_oql.proofs.Readings.{chosen, bound, made_of, value_is, left_is}
 
 -- The front of the terminals spells so, and these are left behind it.

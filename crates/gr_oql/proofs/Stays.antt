@@ -4,6 +4,7 @@ use Rattle.std.proofs.lemmas.List.{append_cancel_right}
 use Rattle.gr_value.specs.declared.scalar.Scalar.TheVariants as scalar
 use Rattle.gr_lex.specs.declared.token.Symbol.{Symbol}
 use Rattle.gr_lex.specs.declared.token.Symbol.TheVariants as symbols
+use Rattle.gr_oql.specs.Grammar.{is_alias, has_backslash}
 use Rattle.gr_oql.specs.declared.keyword.Keyword.{Keyword}
 use Rattle.gr_oql.specs.declared.keyword.Keyword.TheVariants as word
 use Rattle.gr_oql.specs.declared.condition.Operand.TheVariants as operand
@@ -11,7 +12,7 @@ use Rattle.gr_oql.specs.declared.fault.Part.TheVariants as part
 use Rattle.gr_oql.specs.declared.stop.Wrong.{Wrong}
 use Rattle.gr_oql.specs.declared.stop.Wrong.TheVariants.{Expected, NotACq, TooDeep}
 use Rattle.gr_oql.specs.Terminals.{Terminal, symbol_eq, is_symbol, is_keyword, begins, front, rest, as_name, as_word, as_number, as_quoted}
-use Rattle.gr_oql.specs.Reading.{Reading, ◌>>=◌, read_as, stop, symbol_at, keyword_at, word_by, name_at, is_alias, member_at, field_of_name, field_by, field_at, negative_by, negative_at, missing, plain_by, literal_at, operand_by, operand_at, has_backslash, pattern_by, part_at}
+use Rattle.gr_oql.specs.Reading.{Reading, ◌>>=◌, read_as, stop, symbol_at, keyword_at, word_by, name_at, member_at, field_of_name, field_by, field_at, negative_by, negative_at, missing, plain_by, literal_at, operand_by, operand_at, pattern_by, part_at}
 use Rattle.gr_oql.proofs.Readings.{bound, value_is, left_is, place_is, stopped}
 
 -- two lists, of which the second has others from the terminal `t` on

@@ -1,5 +1,5 @@
 -- What a text asks, or its fault and where it is.
-use Rattle.std.specs.Prelude.{◌≡◌, ℕ, ◌-◌, ◌^◌, List, [], ◌∷◌, length, drop, Bool, false, ◌==◌, if◌then◌else◌, Option, Some, None, Result, Ok, Err}
+use Rattle.std.specs.Prelude.{◌≡◌, ℕ, ◌-◌, List, length, drop, if◌then◌else◌, Result, Ok, Err}
 use Rattle.gr_lex.specs.declared.token.Token.{Token}
 use Rattle.gr_lex.specs.declared.fault.LexFault.{LexFault}
 use Rattle.gr_lex.specs.declared.fault.LexFault.TheVariants as lex
@@ -7,25 +7,11 @@ use Rattle.gr_lex.specs.Reading.{tokens_of}
 use Rattle.gr_oql.specs.declared.fault.OqlFault.{OqlFault}
 use Rattle.gr_oql.specs.declared.fault.OqlFault.TheVariants as fault
 use Rattle.gr_oql.specs.declared.stop.Wrong.{Wrong}
-use Rattle.gr_oql.specs.declared.stop.Wrong.TheVariants as wrong
 use Rattle.gr_oql.specs.Question.{Question}
 use Rattle.gr_oql.specs.Terminals.{Terminal, terminals_of, front, as_number}
-use Rattle.gr_oql.specs.Reading.{Reading, Asked, query_at}
-
--- the first byte of the first token, or the end of the text
-abbrev pub place_of : List ℕ → List Token → ℕ
-place_of text [] = length text
-place_of text (t ∷ ts) = t.start
-
--- 2 ^ 63, which is a whole number behind a sign alone
-abbrev pub is_greatest : Option ℕ → Bool
-is_greatest None = false
-is_greatest (Some n) = n == 2 ^ 63
-
-abbrev pub named : Wrong → ℕ → OqlFault
-named wrong.Expected place = fault.Expected place
-named (wrong.NotACq part) place = fault.NotACq place part
-named wrong.TooDeep place = fault.TooDeep place
+use Rattle.gr_oql.specs.Grammar.{Asked}
+use Rattle.gr_oql.specs.FirstFault.{place_of, is_greatest, named}
+use Rattle.gr_oql.specs.Reading.{Reading, query_at}
 
 -- A number that would be right behind a sign is too large wherever the tokens cease to begin a query with it.
 abbrev pub fault_of : List ℕ → List Token → Wrong → List Terminal → OqlFault

@@ -1,20 +1,19 @@
 -- Where the tokens of a text cease to begin a query, and which fault that is. It goes by the grammar alone.
-use Rattle.std.specs.Prelude.{◌≡◌, ◌⊎◌, ◌≤◌, ℕ, suc, List, [], ◌∷◌, ◌++◌, if◌then◌else◌, IsTrue, None, Ok, Err}
+use Rattle.std.specs.Prelude.{◌≡◌, ◌⊎◌, ◌≤◌, ℕ, suc, List, [], ◌∷◌, ◌++◌, length, ◌^◌, Bool, false, ◌==◌, if◌then◌else◌, IsTrue, Option, None, Some}
 use Rattle.gr_lex.specs.declared.token.Symbol.TheVariants as symbols
 use Rattle.gr_lex.specs.declared.token.Token.{Token}
 use Rattle.gr_lex.specs.declared.fault.LexFault.{LexFault}
 use Rattle.gr_lex.specs.declared.fault.LexFault.TheVariants as lex
-use Rattle.gr_lex.specs.Reading.{tokens_of}
+use Rattle.gr_lex.specs.Layout.{IsLaidOut}
+use Rattle.gr_lex.specs.Faults as lexical
 use Rattle.gr_oql.specs.declared.keyword.Keyword.TheVariants as word
 use Rattle.gr_oql.specs.declared.fault.Part.TheVariants as part
 use Rattle.gr_oql.specs.declared.fault.OqlFault.{OqlFault}
 use Rattle.gr_oql.specs.declared.fault.OqlFault.TheVariants as fault
 use Rattle.gr_oql.specs.declared.stop.Wrong.{Wrong}
 use Rattle.gr_oql.specs.declared.stop.Wrong.TheVariants.{Expected, NotACq, TooDeep}
-use Rattle.gr_oql.specs.Terminals.{Terminal, symbol, quoted, is_symbol, is_keyword, begins, front, as_number, terminals_of}
-use Rattle.gr_oql.specs.Reading.{Asked, has_backslash, is_tail, most_depth}
-use Rattle.gr_oql.specs.Faults.{place_of, is_greatest, named}
-use Rattle.gr_oql.specs.Grammar.{One, IsQueryWithin, IsQuery}
+use Rattle.gr_oql.specs.Terminals.{Terminal, symbol, quoted, is_symbol, is_keyword, begins, front, as_number, is_tail, terminals_of}
+use Rattle.gr_oql.specs.Grammar.{most_depth, has_backslash, Asked, One, IsQueryWithin, IsQuery}
 
 -- A query goes on from these terminals, with so many NOTs and brackets at most around a condition.
 abbrev pub IsStart : ℕ → List Terminal → Type 0
@@ -59,15 +58,29 @@ pub record Ceases (before left : List Terminal) (w : Wrong) : Type 0 where
   pub fits : Fits before left w
   pub first : (other : Wrong) → Fits before left other → rank w ≤ rank other
 
+-- the first byte of the first token, or the end of the text
+abbrev pub place_of : List ℕ → List Token → ℕ
+place_of text [] = length text
+place_of text (t ∷ ts) = t.start
+
+-- 2 ^ 63, which is a whole number behind a sign alone
+abbrev pub is_greatest : Option ℕ → Bool
+is_greatest None = false
+is_greatest (Some n) = n == 2 ^ 63
+
+abbrev pub named : Wrong → ℕ → OqlFault
+named Expected place = fault.Expected place
+named (NotACq which) place = fault.NotACq place which
+named TooDeep place = fault.TooDeep place
+
 -- A number that would be right behind a sign is too large wherever the tokens cease to begin a query with it.
 abbrev pub fault_at : List ℕ → List Token → Wrong → OqlFault
 fault_at text left w =
     if is_greatest (front as_number (terminals_of text left)) then fault.Lex (lex.NumberTooLarge (place_of text left))
     else named w (place_of text left)
 
--- A fault of the tokens comes before any other.
+-- A text has a fault of its tokens; or it is laid out of tokens that cease to begin a query.
 abbrev pub IsFault : List ℕ → OqlFault → Type 0
 IsFault text f =
-    ((lexical : LexFault) × (tokens_of text ≡ Err lexical) × (f ≡ fault.Lex lexical))
-    ⊎ ((before : List Token) × (left : List Token) × (w : Wrong) × (tokens_of text ≡ Ok (before ++ left))
-    × Ceases (terminals_of text before) (terminals_of text left) w × (f ≡ fault_at text left w))
+    ((fault_of_tokens : LexFault) × lexical.IsFault text fault_of_tokens × (f ≡ fault.Lex fault_of_tokens))
+    ⊎ ((before : List Token) × (left : List Token) × (w : Wrong) × IsLaidOut text 0 (before ++ left) × Ceases (terminals_of text before) (terminals_of text left) w × (f ≡ fault_at text left w))

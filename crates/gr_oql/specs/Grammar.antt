@@ -1,5 +1,6 @@
 -- The grammar of queries: which terminals spell what. Nothing here says how they are read.
-use Rattle.std.specs.Prelude.{◌≡◌, ◌⊎◌, ℕ, zero, suc, ◌<◌, ◌≤◌, ◌^◌, pos, neg_ℤ, List, [], ◌∷◌, ◌++◌, length, Bool, true, false, IsTrue, IsFalse, Option, Some, None, Ok}
+use Rattle.std.specs.Prelude.{◌≡◌, ◌⊎◌, ℕ, zero, suc, ◌<◌, ◌≤◌, ◌^◌, pos, neg_ℤ, List, [], ◌∷◌, ◌++◌, length, Bool, true, false, IsTrue, IsFalse, Option, Some, None, ◌==◌, bytes_eq}
+use Rattle.std.specs.List.{list_any}
 use Rattle.gr_value.specs.declared.scalar.Scalar.{Scalar}
 use Rattle.gr_value.specs.declared.scalar.Scalar.TheVariants as scalar
 use Rattle.gr_lex.specs.declared.token.Symbol.TheVariants as symbols
@@ -11,12 +12,11 @@ use Rattle.gr_oql.specs.declared.condition.Operand.TheVariants as operand
 use Rattle.gr_oql.specs.declared.condition.Test.{Test}
 use Rattle.gr_oql.specs.declared.condition.Test.TheVariants as tests
 use Rattle.gr_lex.specs.declared.token.Token.{Token}
-use Rattle.gr_lex.specs.Reading.{tokens_of}
+use Rattle.gr_lex.specs.Layout.{IsLaidOut}
 use Rattle.gr_oql.specs.Question.{Question}
 use Rattle.gr_oql.specs.Tree.{Tree, any, all, negation, test}
 use Rattle.gr_oql.specs.View.{in_order}
 use Rattle.gr_oql.specs.Terminals.{Terminal, is_symbol, is_keyword, as_name, as_word, as_number, as_quoted, terminals_of}
-use Rattle.gr_oql.specs.Reading.{is_alias, has_backslash, most_depth, Asked}
 
 -- one terminal that passes a test, as `(`
 abbrev pub One : (Terminal → Bool) → List Terminal → Type 0
@@ -36,6 +36,11 @@ abbrev pub Row : {A : Type 0} → (Terminal → Bool) → (A → List Terminal �
 Row separator Item [] ts = ⊥
 Row separator Item (x ∷ []) ts = Item x ts
 Row separator Item (x ∷ y ∷ ys) ts = (Item x then One separator then Row separator Item (y ∷ ys)) ts
+
+-- whether a name is the query's alias
+abbrev pub is_alias : Option (List ℕ) → List ℕ → Bool
+is_alias None w = false
+is_alias (Some alias) w = bytes_eq alias w
 
 -- attr = name | alias "." word
 abbrev pub Field : Option (List ℕ) → List ℕ → List Terminal → Type 0
@@ -68,6 +73,9 @@ IsRelation relation.GreaterOrEqual ts = One (is_symbol symbols.GreaterEqual) ts
 abbrev pub Bracketed : (List Terminal → Type 0) → List Terminal → Type 0
 Bracketed P = One (is_symbol symbols.LeftBracket) then P then One (is_symbol symbols.RightBracket)
 
+abbrev pub has_backslash : List ℕ → Bool
+has_backslash text = list_any (λ byte. byte == 0x5C) text
+
 -- A test. A pattern of a continuous query has no backslash.
 abbrev pub IsTest : Option (List ℕ) → Test → List Terminal → Type 0
 IsTest alias (tests.Defined f) ts = (One (is_keyword word.IsDefined) then Bracketed (Field alias f)) ts
@@ -92,6 +100,10 @@ IsPart alias (suc depth) c ts =
     ⊎ ((e : Tree) × (c ≡ negation e) × (One (is_keyword word.Not) then IsPart alias depth e) ts)
     ⊎ Bracketed (IsAny (IsPart alias depth) c) ts
 
+-- how many NOTs and brackets at most are around a condition
+abbrev pub most_depth : ℕ
+most_depth = 64
+
 abbrev pub IsCondition : ℕ → Option (List ℕ) → Tree → List Terminal → Type 0
 IsCondition depth alias c ts = IsAny (IsPart alias depth) c ts
 
@@ -107,6 +119,12 @@ abbrev pub IsWhere : ℕ → Option (List ℕ) → Option Tree → List Terminal
 IsWhere depth alias None ts = ts ≡ []
 IsWhere depth alias (Some c) ts = (One (is_keyword word.Where) then IsCondition depth alias c) ts
 
+-- what a query asks, apart from its text
+pub record Asked : Type 0 where
+  pub region : List ℕ
+  pub alias : Option (List ℕ)
+  pub condition : Option Tree
+
 -- query = SELECT "*" FROM "/" name [ [ AS ] name ] [ WHERE or ]
 abbrev pub IsQueryWithin : ℕ → Asked → List Terminal → Type 0
 IsQueryWithin depth q ts =
@@ -116,10 +134,10 @@ IsQueryWithin depth q ts =
 abbrev pub IsQuery : Asked → List Terminal → Type 0
 IsQuery q ts = IsQueryWithin most_depth q ts
 
--- What a question asks, apart from its text.
+-- what a question asks
 abbrev pub asked_by : Question → Asked
 asked_by q = record { region = q.region; alias = q.alias; condition = q.condition }
 
--- The text's tokens spell the question.
+-- The tokens of which the text is laid out spell the question.
 abbrev pub Spells : List ℕ → Question → Type 0
-Spells text q = (tokens : List Token) × (tokens_of text ≡ Ok tokens) × (q.text ≡ text) × IsQuery (asked_by q) (terminals_of text tokens)
+Spells text q = (tokens : List Token) × IsLaidOut text 0 tokens × (q.text ≡ text) × IsQuery (asked_by q) (terminals_of text tokens)

@@ -11,9 +11,9 @@ pub mod Words
 pub mod Terminals
 pub mod Lexemes
 pub mod Names
+pub mod Grammar
+pub mod FirstFault
 pub mod Reading
 pub mod Gives
 pub mod Sources
 pub mod Faults
-pub mod Grammar
-pub mod FirstFault

@@ -1,8 +1,7 @@
 -- What a query's tokens say, or where they cease to begin a query: a definition for each rule of the grammar.
 -- Each reads at the front, and gives what stands there and the tokens behind it; or what is wrong, and the
 -- tokens from the first wrong one on.
-use Rattle.std.specs.Prelude.{ℕ, zero, suc, ◌^◌, pos, neg_ℤ, List, [], ◌∷◌, length, Bool, true, false, ◌||◌, ◌==◌, if◌then◌else◌, nat_lt, nat_le, bytes_eq, Option, Some, None, Result, Ok, Err}
-use Rattle.std.specs.List.{list_any}
+use Rattle.std.specs.Prelude.{ℕ, zero, suc, ◌^◌, pos, neg_ℤ, List, [], ◌∷◌, length, Bool, true, false, ◌||◌, if◌then◌else◌, nat_lt, nat_le, Option, Some, None, Result, Ok, Err}
 use Rattle.gr_value.specs.declared.scalar.Scalar.{Scalar}
 use Rattle.gr_value.specs.declared.scalar.Scalar.TheVariants as scalar
 use Rattle.gr_lex.specs.declared.token.Symbol.TheVariants as symbols
@@ -18,9 +17,10 @@ use Rattle.gr_oql.specs.declared.fault.Part.TheVariants as part
 use Rattle.gr_oql.specs.declared.stop.Wrong.{Wrong}
 use Rattle.gr_oql.specs.declared.stop.Wrong.TheVariants.{Expected, NotACq, TooDeep}
 use Rattle.gr_lex.specs.declared.token.Symbol.{Symbol}
+use Rattle.gr_oql.specs.Grammar.{is_alias, has_backslash, most_depth, Asked}
 use Rattle.gr_oql.specs.Tree.{Tree, any, all, negation, test}
 use Rattle.gr_oql.specs.View.{in_order}
-use Rattle.gr_oql.specs.Terminals.{Terminal, is_symbol, is_keyword, begins, front, rest, as_name, as_word, as_number, as_quoted}
+use Rattle.gr_oql.specs.Terminals.{Terminal, is_symbol, is_keyword, begins, front, rest, as_name, as_word, as_number, as_quoted, is_tail}
 
 abbrev pub Reading : Type 0 → Type 0
 Reading A = Result (A × List Terminal) (Wrong × List Terminal)
@@ -53,10 +53,6 @@ abbrev pub name_at : List Terminal → Reading (List ℕ)
 name_at ts = word_by (front as_name ts) ts
 
 -- Fields, literals and operands.
-abbrev pub is_alias : Option (List ℕ) → List ℕ → Bool
-is_alias None w = false
-is_alias (Some alias) w = bytes_eq alias w
-
 abbrev pub member_at : List Terminal → Reading (List ℕ)
 member_at ts = symbol_at symbols.Dot ts >>= λ dot. word_by (front as_word dot.1) dot.1
 
@@ -123,9 +119,6 @@ relation_at ts =
     else (if begins (is_symbol symbols.GreaterEqual) ts then Ok (relation.GreaterOrEqual, rest ts)
     else stop Expected ts))))))
 
-abbrev pub has_backslash : List ℕ → Bool
-has_backslash text = list_any (λ byte. byte == 0x5C) text
-
 abbrev pub pattern_by : Option (List ℕ) → List Terminal → Reading (List ℕ)
 pattern_by (Some text) ts = if has_backslash text then stop (NotACq part.Escape) ts else Ok (text, rest ts)
 pattern_by None ts = stop Expected ts
@@ -190,18 +183,10 @@ part_at alias (suc depth) ts =
     else (if begins (is_symbol symbols.LeftBracket) ts then bracket_at (part_at alias depth) (rest ts)
     else read_as test (test_at alias ts))
 
-abbrev pub most_depth : ℕ
-most_depth = 64
-
 unfoldable pub condition_at : ℕ → Option (List ℕ) → List Terminal → Reading Tree
 condition_at depth alias ts = any_at (part_at alias depth) ts
 
 -- The query.
-pub record Asked : Type 0 where
-  pub region : List ℕ
-  pub alias : Option (List ℕ)
-  pub condition : Option Tree
-
 abbrev pub star_at : List Terminal → Reading (Unit {0})
 star_at [] = stop Expected []
 star_at (t ∷ ts) =
@@ -224,9 +209,6 @@ abbrev pub alias_at : List Terminal → Reading (Option (List ℕ))
 alias_at ts =
     if begins (is_keyword word.As) ts then read_as (λ w. Some w) (name_at (rest ts))
     else alias_by (front as_name ts) ts
-
-abbrev pub is_tail : Terminal → Bool
-is_tail t = is_keyword word.Order t || is_keyword word.Group t || is_keyword word.Having t || is_keyword word.Limit t
 
 -- the end of the query
 abbrev pub end_at : List Terminal → Reading (Unit {0})

@@ -1,5 +1,5 @@
 -- A query's tokens as its grammar sees them.
-use Rattle.std.specs.Prelude.{◌≡◌, ℕ, ◌-◌, ◌<◌, List, [], ◌∷◌, ◌++◌, take, drop, length, map, Bool, false, ◌==◌, if◌then◌else◌, bytes_eq, Option, Some, None}
+use Rattle.std.specs.Prelude.{◌≡◌, ℕ, ◌-◌, ◌<◌, List, [], ◌∷◌, ◌++◌, take, drop, length, map, Bool, false, ◌==◌, ◌||◌, if◌then◌else◌, bytes_eq, Option, Some, None}
 use Rattle.gr_lex.specs.declared.token.Symbol.{Symbol}
 use Rattle.gr_lex.specs.declared.token.TokenKind.{TokenKind}
 use Rattle.gr_lex.specs.declared.token.TokenKind.TheVariants as kind
@@ -7,6 +7,7 @@ use Rattle.gr_lex.specs.declared.token.Token.{Token}
 use Rattle.gr_lex.specs.Bytes.{quote, spelling}
 use Rattle.gr_lex.specs.Layout.{bytes_of}
 use Rattle.gr_oql.specs.declared.keyword.Keyword.{Keyword}
+use Rattle.gr_oql.specs.declared.keyword.Keyword.TheVariants as word
 use Rattle.gr_oql.specs.Words.{keyword_of, keyword_eq}
 
 pub data Terminal : Type 0 where
@@ -70,6 +71,10 @@ is_keyword k (symbol s) = false
 is_keyword k (name w) = false
 is_keyword k (number n) = false
 is_keyword k (quoted text) = false
+
+-- a word with which queries of a wider language go on
+abbrev pub is_tail : Terminal → Bool
+is_tail t = is_keyword word.Order t || is_keyword word.Group t || is_keyword word.Having t || is_keyword word.Limit t
 
 -- what stands at the front
 abbrev pub begins : (Terminal → Bool) → List Terminal → Bool

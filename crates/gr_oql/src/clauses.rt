@@ -2,11 +2,12 @@
 
 ghost use Rattle.std.specs.Prelude.{◌≡◌, ◌≤◌, length, option_map, Option, List, ℕ, IfOk, IfErr, ◌∷◌};
 ghost use Rattle.gr_value.specs.KeyBytes.{IsKey};
+ghost use Rattle.gr_oql.specs.Grammar.{Asked, most_depth};
 ghost use Rattle.gr_oql.specs.Gives.{Gives};
-ghost use Rattle.gr_oql.specs.Reading.{Asked, star_at, region_at, alias_at, is_tail, end_at, bare_end_at, where_at, source_at, query_at, most_depth};
+ghost use Rattle.gr_oql.specs.Reading.{star_at, region_at, alias_at, end_at, bare_end_at, where_at, source_at, query_at};
 ghost use Rattle.gr_oql.specs.View.{tree_of};
 ghost use Rattle.gr_oql.specs.Sources.{asked};
-ghost use Rattle.gr_oql.specs.Terminals.{begins};
+ghost use Rattle.gr_oql.specs.Terminals.{begins, is_tail};
 ghost use Rattle.gr_oql.specs.declared.stop.Stop.TheVariants as stops;
 
 use crate::conditions::condition;

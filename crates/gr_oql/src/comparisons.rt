@@ -2,8 +2,9 @@
 
 ghost use Rattle.std.specs.Prelude.{◌≡◌, ◌≤◌, length, option_map, List, ℕ, IfOk};
 ghost use Rattle.gr_value.specs.declared.scalar.Scalar.{Scalar};
+ghost use Rattle.gr_oql.specs.Grammar.{has_backslash};
 ghost use Rattle.gr_oql.specs.Gives.{Gives};
-ghost use Rattle.gr_oql.specs.Reading.{relation_at, has_backslash, pattern_by, like_at, separated_at, literal_at, among_at, compare_at, behind_operand, behind_first, bracketed_at, test_at};
+ghost use Rattle.gr_oql.specs.Reading.{relation_at, pattern_by, like_at, separated_at, literal_at, among_at, compare_at, behind_operand, behind_first, bracketed_at, test_at};
 ghost use Rattle.gr_oql.specs.Terminals.{is_symbol, front, as_quoted};
 ghost use Rattle.gr_lex.specs.declared.token.Symbol.TheVariants as symbols;
 

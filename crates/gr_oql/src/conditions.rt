@@ -1,9 +1,10 @@
 //! Conditions: tests under AND, OR, NOT and brackets.
 
 ghost use Rattle.std.specs.Prelude.{◌≡◌, ◌≤◌, length, option_map};
+ghost use Rattle.gr_oql.specs.Grammar.{most_depth};
 ghost use Rattle.gr_oql.specs.View.{tree_of};
 ghost use Rattle.gr_oql.specs.Gives.{Gives};
-ghost use Rattle.gr_oql.specs.Reading.{all_at, any_at, bracket_at, part_at, condition_at, most_depth, read_as, test_at};
+ghost use Rattle.gr_oql.specs.Reading.{all_at, any_at, bracket_at, part_at, condition_at, read_as, test_at};
 ghost use Rattle.gr_oql.specs.Tree.{test};
 
 use crate::Condition;

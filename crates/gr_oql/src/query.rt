@@ -1,11 +1,11 @@
 ghost use Rattle.std.specs.Prelude.{◌≡◌, ◌⊎◌, ◌≤◌, length, drop, IfOk, IfErr, All, List, ℕ, option_map, Ok, Err};
-ghost use Rattle.gr_oql.specs.Faults.{place_of, named, fault_of, question_of, answer, is_greatest, Answers};
+ghost use Rattle.gr_oql.specs.Faults.{fault_of, question_of, answer, Answers};
 ghost use Rattle.gr_oql.specs.Reading.{query_at};
 ghost use Rattle.gr_oql.specs.Terminals.{terminals_of};
 ghost use Rattle.gr_oql.specs.View.{tree_of};
 ghost use Rattle.gr_lex.specs.Layout.{IsToken};
 ghost use Rattle.gr_oql.specs.Grammar.{Spells};
-ghost use Rattle.gr_oql.specs.FirstFault.{IsFault};
+ghost use Rattle.gr_oql.specs.FirstFault.{IsFault, place_of, named, is_greatest};
 ghost use Rattle.gr_oql.specs.Question.{Question};
 ghost use Rattle.gr_oql.specs.Sources.{asked};
 ghost use Rattle.gr_oql.specs.declared.fault.OqlFault.TheVariants as oql_fault;

@@ -1,8 +1,9 @@
 //! Fields, literals and operands.
 
 ghost use Rattle.std.specs.Prelude.{◌≡◌, ◌≤◌, length, ℤ, pos, neg_ℤ, ◌^◌, nat_le, nat_lt, if◌then◌else◌, Some, None, Option, IfOk, List, ℕ, option_map, MatchOption};
+ghost use Rattle.gr_oql.specs.Grammar.{is_alias};
 ghost use Rattle.gr_oql.specs.Gives.{Gives};
-ghost use Rattle.gr_oql.specs.Reading.{symbol_at, keyword_at, name_at, is_alias, member_at, field_of_name, field_at, negative_at, literal_at, operand_at, missing, plain_by};
+ghost use Rattle.gr_oql.specs.Reading.{symbol_at, keyword_at, name_at, member_at, field_of_name, field_at, negative_at, literal_at, operand_at, missing, plain_by};
 ghost use Rattle.gr_oql.specs.Terminals.{undoubled, front, as_number, as_quoted, SplitsAtQuotes};
 
 use crate::cursor::Cursor;
