@@ -18,8 +18,6 @@ mod terms;
 #[cfg(test)]
 mod tests;
 mod truth;
-#[cfg(test)]
-mod truth_tests;
 
 pub use condition::{Condition, Operand, Relation, Test};
 pub use event::{BaseOp, Event, EventList, QueryOp, classify};

@@ -1,11 +1,13 @@
 //! Runs whole scripts through the top call, over sources and sinks in memory, and says of each whether
-//! what comes out is what its files say.
+//! what comes out is what its files say. Then compares the answers to queries with two tables.
 #![tactic(auto)]
 
 mod files;
+mod queries;
 mod row;
 
 use files::lines_of;
+use queries::{Table, compare};
 use row::{is_same, is_too_large};
 use std::io;
 
@@ -23,5 +25,7 @@ fn main(rt: HostRuntime) -> io::Result<()> {
     } else {
         "differs"
     };
-    println!(rt; "too-large: {answer}")
+    println!(rt; "too-large: {answer}")?;
+    compare(&rt, Table::Queries)?;
+    compare(&rt, Table::Matches)
 }

@@ -8,7 +8,7 @@ use std::rt::Files;
 /// The most bytes that a sink here has room for.
 const ROOM: usize = 0x10_0000;
 
-fn no_memory() -> io::Error {
+pub fn no_memory() -> io::Error {
     io::Error::from(io::ErrorKind::OutOfMemory)
 }
 
