@@ -16,7 +16,8 @@ use Rattle.gr_oql.specs.FirstFault.{IsStart, IsOver, Fits, rank, Ceases}
 use Rattle.gr_oql.proofs.Readings.{wrong_is}
 use Rattle.gr_oql.proofs.Complete.{symbol_no_keyword, symbol_no_name, keyword_no_name, keyword_no_symbol, keyword_other}
 use Rattle.gr_oql.proofs.CompleteQuery.{EndsQuery, end_by, query_to_end}
-use Rattle.gr_oql.proofs.AheadQuery.{least, least_from, from_spelled, query_stopped}
+use Rattle.gr_oql.proofs.AheadClauses.{least}
+use Rattle.gr_oql.proofs.AheadQuery.{least_from, from_spelled, query_stopped}
 use Rattle.gr_oql.proofs.FirstFaults.{no_start, itself_alike, no_dollar, no_escape, over}
 
 at_most_last : (w : Wrong) → rank w ≤ 8

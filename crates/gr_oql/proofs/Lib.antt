@@ -14,6 +14,7 @@ pub mod Ahead
 pub mod AheadCondition
 pub mod Stays
 pub mod StaysCondition
+pub mod AheadClauses
 pub mod AheadQuery
 pub mod StaysQuery
 pub mod FirstFaults
