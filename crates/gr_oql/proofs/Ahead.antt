@@ -17,6 +17,7 @@ use Rattle.gr_oql.specs.Reading.{Reading, ◌>>=◌, symbol_at, keyword_at, word
 use Rattle.gr_oql.specs.Grammar.{One, Is, ◌then◌, Row, Field, Literal, IsOperand, is_alias, has_backslash}
 use Rattle.gr_oql.proofs.Readings.{chosen, wrong_is, place_is, stopped, not_made}
 use Rattle.gr_oql.proofs.Sound.{Front, Sound, one_begins, symbol_sound}
+use Rattle.gr_oql.proofs.Spelled.{AreSpelled, both_spelled, IsSpelledAlias, symbol_spelled, keyword_spelled, name_spelled, number_spelled}
 
 -- a depth above another bottom than 0
 abbrev pub raised : ℕ → ℕ → ℕ
@@ -47,13 +48,14 @@ due opening (NotACq part.Projection) left = []
 due opening (NotACq part.Join) left = []
 due opening (NotACq part.Tail) left = []
 
--- What was read before the stop goes on so that it spells something.
+-- What was read before the stop goes on, with terminals of tokens, so that it spells something.
 pub record Ahead {A : Type 0} (opening : List Terminal → List Terminal) (Spells : A → List Terminal → Type 0) (ts : List Terminal) (w : Wrong) (left : List Terminal) : Type 0 where
   pub start : List Terminal
   pub value : A
   pub more : List Terminal
   pub split : ts ≡ start ++ left
   pub shown : Shown w left
+  pub known : AreSpelled more
   pub holds : Spells value (start ++ (due opening w left ++ more))
 
 -- The same for what is seen as one sentence, whichever value it spells.
@@ -62,15 +64,16 @@ pub record AheadOf (opening : List Terminal → List Terminal) (P : List Termina
   pub more : List Terminal
   pub split : ts ≡ start ++ left
   pub shown : Shown w left
+  pub known : AreSpelled more
   pub holds : P (start ++ (due opening w left ++ more))
 
 -- some value is spelled so
 abbrev pub Something : {A : Type 0} → (A → List Terminal → Type 0) → List Terminal → Type 0
 Something {A} Spells l = (x : A) × Spells x l
 
--- a sentence that can stand where one is due
+-- a sentence of tokens that can stand where one is due
 abbrev pub Due : (List Terminal → Type 0) → Type 0
-Due P = (l : List Terminal) × P l
+Due P = (l : List Terminal) × P l × AreSpelled l
 
 module _ (opening : List Terminal → List Terminal) where
   -- a reader that stops only where what it has read goes on so
@@ -78,10 +81,10 @@ module _ (opening : List Terminal → List Terminal) where
   Goes {A} {B} Spells item = (ts : List Terminal) (w : Wrong) (left : List Terminal) → item ts ≡ Err (w, left) → AheadOf opening (Something Spells) ts w left
 
   pub ahead_of : {A : Type 0} (Spells : A → List Terminal → Type 0) (ts : List Terminal) (w : Wrong) (left : List Terminal) → AheadOf opening (Something Spells) ts w left → Ahead opening Spells ts w left
-  ahead_of Spells ts w left one = record { start = one.start; value = one.holds.0; more = one.more; split = one.split; shown = one.shown; holds = one.holds.1 }
+  ahead_of Spells ts w left one = record { start = one.start; value = one.holds.0; more = one.more; split = one.split; shown = one.shown; known = one.known; holds = one.holds.1 }
 
   pub goes_on : (P Q : List Terminal → Type 0) (ts : List Terminal) (w : Wrong) (left : List Terminal) → ((l : List Terminal) → P l → Q l) → AheadOf opening P ts w left → AheadOf opening Q ts w left
-  goes_on P Q ts w left turns one = record { start = one.start; more = one.more; split = one.split; shown = one.shown; holds = turns (one.start ++ (due opening w left ++ one.more)) one.holds }
+  goes_on P Q ts w left turns one = record { start = one.start; more = one.more; split = one.split; shown = one.shown; known = one.known; holds = turns (one.start ++ (due opening w left ++ one.more)) one.holds }
 
   -- what is due behind what goes on
   pub before : {A B : Type 0} (Spells : A → List Terminal → Type 0) (Later : A → B → List Terminal → Type 0) (ts : List Terminal) (w : Wrong) (left : List Terminal) → ((x : A) → Due (Something (Later x)))
@@ -95,6 +98,7 @@ module _ (opening : List Terminal → List Terminal) where
         more = one.more ++ end.0;
         split = one.split;
         shown = one.shown;
+        known = both_spelled one.more end.0 one.known end.2;
         holds = (
           x,
           end.1.0,
@@ -115,6 +119,7 @@ module _ (opening : List Terminal → List Terminal) where
     more = two.more;
     split = one.split ∙ ap (λ (l : List Terminal). one.spelled ++ l) two.split ∙ sym (append_assoc one.spelled two.start left);
     shown = two.shown;
+    known = two.known;
     holds = (one.spelled, two.start ++ (due opening w left ++ two.more), append_assoc one.spelled two.start (due opening w left ++ two.more), one.holds, two.holds);
   }
 
@@ -134,7 +139,7 @@ module _ (opening : List Terminal → List Terminal) where
 
   -- a stop that says only that something was due
   pub here : {A : Type 0} (P : List Terminal → Type 0) (ts : List Terminal) (w : Wrong) (left : List Terminal) → Due P → ◌≡◌ {A = Reading A} (Err (Expected, ts)) (Err (w, left)) → AheadOf opening P ts w left
-  here P ts w left d is = at_front P ts Expected w left (record { start = []; more = d.0; split = refl; shown = tt; holds = d.1 }) is
+  here P ts w left d is = at_front P ts Expected w left (record { start = []; more = d.0; split = refl; shown = tt; known = d.2; holds = d.1 }) is
 
 -- one terminal
 pub symbol_itself : (s : Symbol) → One (is_symbol s) (symbol s ∷ [])
@@ -148,14 +153,14 @@ module _ (opening : List Terminal → List Terminal) where
   symbol_ahead s ts w left read =
       ⊎_elim
       (λ h. absurd (cc h.1))
-      (λ h. here opening _ ts w left (symbol s ∷ [], (tt, symbol_itself s)) h.1)
+      (λ h. here opening _ ts w left (symbol s ∷ [], (tt, symbol_itself s), (symbol_spelled s, tt)) h.1)
       (chosen (begins (is_symbol s) ts) _ _ _ read)
 
   pub keyword_ahead : (k : Keyword) → Goes opening (λ (u : Unit {0}). One (is_keyword k)) (keyword_at k)
   keyword_ahead k ts w left read =
       ⊎_elim
       (λ h. absurd (cc h.1))
-      (λ h. here opening _ ts w left (keyword k (letters k) ∷ [], (tt, keyword_itself k)) h.1)
+      (λ h. here opening _ ts w left (keyword k (letters k) ∷ [], (tt, keyword_itself k), (keyword_spelled k, tt)) h.1)
       (chosen (begins (is_keyword k) ts) _ _ _ read)
 
   pub word_ahead : (P : List Terminal → Type 0) (o : Option (List ℕ)) (ts : List Terminal) (w : Wrong) (left : List Terminal) → Due P → word_by o ts ≡ Err (w, left) → AheadOf opening P ts w left
@@ -164,21 +169,21 @@ module _ (opening : List Terminal → List Terminal) where
 
 -- fields, literals and operands
 some_word : Due (Something (Is as_word))
-some_word = (name (0x78 ∷ []) ∷ [], (0x78 ∷ [], (name (0x78 ∷ []), refl, refl)))
+some_word = (name (0x78 ∷ []) ∷ [], (0x78 ∷ [], (name (0x78 ∷ []), refl, refl)), (name_spelled, tt))
 
 -- behind an alias a dot is due, so what stands for a field has one there
-pub some_field : (alias : Option (List ℕ)) → Due (Something (Field alias))
-some_field None = (name (0x78 ∷ []) ∷ [], (0x78 ∷ [], inl (refl, (name (0x78 ∷ []), refl, refl))))
-some_field (Some a) =
+pub some_field : (alias : Option (List ℕ)) → IsSpelledAlias alias → Due (Something (Field alias))
+some_field None known = (name (0x78 ∷ []) ∷ [], (0x78 ∷ [], inl (refl, (name (0x78 ∷ []), refl, refl))), (name_spelled, tt))
+some_field (Some a) known =
     let dotted : (Is as_name a then One (is_symbol symbols.Dot) then Is as_word (0x78 ∷ [])) (name a ∷ symbol symbols.Dot ∷ name (0x78 ∷ []) ∷ []) =
     (name a ∷ [], symbol symbols.Dot ∷ name (0x78 ∷ []) ∷ [], refl, (name a, refl, refl), (symbol symbols.Dot ∷ [], name (0x78 ∷ []) ∷ [], refl, symbol_itself symbols.Dot, (name (0x78 ∷ []), refl, refl))) in
-    (name a ∷ symbol symbols.Dot ∷ name (0x78 ∷ []) ∷ [], (0x78 ∷ [], inr (a, (bytes_eq-Decides a a).1 refl, dotted)))
+    (name a ∷ symbol symbols.Dot ∷ name (0x78 ∷ []) ∷ [], (0x78 ∷ [], inr (a, (bytes_eq-Decides a a).1 refl, dotted)), (known, (symbol_spelled symbols.Dot, (name_spelled, tt))))
 
 pub some_literal : Due (Something Literal)
-some_literal = (keyword word.Null (letters word.Null) ∷ [], (scalar.Null, keyword_itself word.Null))
+some_literal = (keyword word.Null (letters word.Null) ∷ [], (scalar.Null, keyword_itself word.Null), (keyword_spelled word.Null, tt))
 
 pub some_operand : (alias : Option (List ℕ)) → Due (Something (IsOperand alias))
-some_operand alias = (some_literal.0, (operand.Literal some_literal.1.0, some_literal.1.1))
+some_operand alias = (some_literal.0, (operand.Literal some_literal.1.0, some_literal.1.1), some_literal.2)
 
 module _ (opening : List Terminal → List Terminal) where
   member_ahead : Goes opening (λ (f : List ℕ). One (is_symbol symbols.Dot) then Is as_word f) member_at
@@ -197,20 +202,20 @@ module _ (opening : List Terminal → List Terminal) where
       (λ h. absurd (cc h.1))
       (chosen (is_alias alias v) _ _ _ read)
 
-  field_ahead_by : (alias : Option (List ℕ)) (o : Option (List ℕ)) (ts : List Terminal) (w : Wrong) (left : List Terminal) → o ≡ front as_name ts → field_by alias o ts ≡ Err (w, left) → AheadOf opening (Something (Field alias)) ts w left
-  field_ahead_by alias None ts w left is read = here opening _ ts w left (some_field alias) read
-  field_ahead_by alias (Some v) [] w left is read = absurd (cc)
-  field_ahead_by alias (Some v) (t ∷ ts) w left is read = named_ahead alias t v ts w left (sym is) read
+  field_ahead_by : (alias : Option (List ℕ)) → IsSpelledAlias alias → (o : Option (List ℕ)) (ts : List Terminal) (w : Wrong) (left : List Terminal) → o ≡ front as_name ts → field_by alias o ts ≡ Err (w, left) → AheadOf opening (Something (Field alias)) ts w left
+  field_ahead_by alias known None ts w left is read = here opening _ ts w left (some_field alias known) read
+  field_ahead_by alias known (Some v) [] w left is read = absurd (cc)
+  field_ahead_by alias known (Some v) (t ∷ ts) w left is read = named_ahead alias t v ts w left (sym is) read
 
-  pub field_ahead : (alias : Option (List ℕ)) → Goes opening (Field alias) (field_at alias)
-  field_ahead alias ts w left read = field_ahead_by alias _ ts w left refl read
+  pub field_ahead : (alias : Option (List ℕ)) → IsSpelledAlias alias → Goes opening (Field alias) (field_at alias)
+  field_ahead alias known ts w left read = field_ahead_by alias known _ ts w left refl read
 
   negative_ahead : (o : Option ℕ) (ts : List Terminal) (w : Wrong) (left : List Terminal) → negative_by o ts ≡ Err (w, left) → AheadOf opening (Is as_number 0) ts w left
-  negative_ahead None ts w left read = here opening _ ts w left (number 0 ∷ [], (number 0, refl, refl)) read
+  negative_ahead None ts w left read = here opening _ ts w left (number 0 ∷ [], (number 0, refl, refl), (number_spelled, tt)) read
   negative_ahead (Some n) ts w left read =
       ⊎_elim
       (λ h. absurd (cc h.1))
-      (λ h. here opening _ ts w left (number 0 ∷ [], (number 0, refl, refl)) h.1)
+      (λ h. here opening _ ts w left (number 0 ∷ [], (number 0, refl, refl), (number_spelled, tt)) h.1)
       (chosen (leb n (2 ^ 63)) _ _ _ read)
 
   signed : (l : List Terminal) → (One (is_symbol symbols.Minus) then Is as_number 0) l → Something Literal l
@@ -228,9 +233,10 @@ module _ (opening : List Terminal → List Terminal) where
     more = number 0 ∷ [];
     split = refl;
     shown = is;
+    known = (number_spelled, tt);
     holds = signed (symbol symbols.Minus ∷ number 0 ∷ []) (symbol symbols.Minus ∷ [], number 0 ∷ [], refl, symbol_itself symbols.Minus, (number 0, refl, refl));
   }
-  missing_ahead false ts is = record { start = []; more = some_literal.0; split = refl; shown = tt; holds = some_literal.1 }
+  missing_ahead false ts is = record { start = []; more = some_literal.0; split = refl; shown = tt; known = some_literal.2; holds = some_literal.1 }
 
   plain_ahead : (o : Option ℕ) (p : Option (List ℕ)) (ts : List Terminal) (w : Wrong) (left : List Terminal) → plain_by o p ts ≡ Err (w, left) → AheadOf opening (Something Literal) ts w left
   plain_ahead (Some n) p ts w left read =

@@ -20,8 +20,9 @@ use Rattle.gr_oql.specs.Grammar.{One, ◌then◌, IsTest, IsPart, IsCondition, I
 use Rattle.gr_oql.proofs.Readings.{chosen, wrong_is, place_is, stopped, not_made}
 use Rattle.gr_oql.proofs.Sound.{Front, joined, one_begins}
 use Rattle.gr_oql.proofs.SoundQuery.{condition_sound, region_sound_by, alias_sound}
-use Rattle.gr_oql.proofs.Ahead.{Ahead}
-use Rattle.gr_oql.proofs.AheadCondition.{condition_ahead}
+use Rattle.gr_oql.proofs.Spelled.{AreSpelled, both_spelled, left_spelled, IsSpelledAlias, alias_spelled, symbol_spelled, keyword_spelled, name_spelled, quoted_spelled}
+use Rattle.gr_oql.proofs.Ahead.{Ahead, due}
+use Rattle.gr_oql.proofs.AheadCondition.{closed_spelled, condition_ahead}
 
 -- A value is spelled by the start, what is next, and perhaps more.
 pub record GoesOn {A : Type 0} (Allows : A → List Terminal → Type 0) (Spells : A → List Terminal → Type 0) (start next : List Terminal) : Type 0 where
@@ -30,8 +31,8 @@ pub record GoesOn {A : Type 0} (Allows : A → List Terminal → Type 0) (Spells
   pub allowed : Allows value more
   pub spelled : Spells value (start ++ (next ++ more))
 
-abbrev pub Anything : {A : Type 0} → A → List Terminal → Type 0
-Anything a more = Unit {0}
+abbrev pub OfTokens : {A : Type 0} → A → List Terminal → Type 0
+OfTokens a more = AreSpelled more
 
 abbrev pub Nothing : {A : Type 0} → A → List Terminal → Type 0
 Nothing a more = more ≡ []
@@ -42,12 +43,12 @@ NothingBare bare a more = (more ≡ []) × bare a
 -- what fits where a reader behind the `*` stopped; a value may be bare of a condition
 abbrev pub FitsIn : {A : Type 0} → (A → Type 0) → (ℕ → A → List Terminal → Type 0) → List Terminal → List Terminal → Wrong → Type 0
 FitsIn bare Spells start left Expected = Unit {0}
-FitsIn bare Spells start left TooDeep = (t : Terminal) × (behind : List Terminal) × (left ≡ t ∷ behind) × GoesOn Anything (Spells (suc most_depth)) start (t ∷ [])
+FitsIn bare Spells start left TooDeep = (t : Terminal) × (behind : List Terminal) × (left ≡ t ∷ behind) × GoesOn OfTokens (Spells (suc most_depth)) start (t ∷ [])
 FitsIn bare Spells start left (NotACq part.Join) = GoesOn (NothingBare bare) (Spells most_depth) start [] × (begins (is_symbol symbols.Comma) left ≡ true)
 FitsIn bare Spells start left (NotACq part.Tail) = GoesOn Nothing (Spells most_depth) start [] × (begins is_tail left ≡ true)
-FitsIn bare Spells start left (NotACq part.Bind) = GoesOn Anything (Spells most_depth) start (symbol symbols.Minus ∷ []) × (begins (is_symbol symbols.Dollar) left ≡ true)
+FitsIn bare Spells start left (NotACq part.Bind) = GoesOn OfTokens (Spells most_depth) start (symbol symbols.Minus ∷ []) × (begins (is_symbol symbols.Dollar) left ≡ true)
 FitsIn bare Spells start left (NotACq part.Escape) =
-    GoesOn Anything (Spells most_depth) start (quoted [] ∷ []) × ((pattern : List ℕ) × (behind : List Terminal) × (left ≡ quoted pattern ∷ behind) × (has_backslash pattern ≡ true))
+    GoesOn OfTokens (Spells most_depth) start (quoted [] ∷ []) × ((pattern : List ℕ) × (behind : List Terminal) × (left ≡ quoted pattern ∷ behind) × (has_backslash pattern ≡ true))
 FitsIn bare Spells start left (NotACq part.Import) = ⊥
 FitsIn bare Spells start left (NotACq part.Distinct) = ⊥
 FitsIn bare Spells start left (NotACq part.Projection) = ⊥
@@ -56,7 +57,7 @@ FitsIn bare Spells start left (NotACq part.Projection) = ⊥
 pub record Halts {A : Type 0} (bare : A → Type 0) (Spells : ℕ → A → List Terminal → Type 0) (ts : List Terminal) (w : Wrong) (left : List Terminal) : Type 0 where
   pub start : List Terminal
   pub split : ts ≡ start ++ left
-  pub begun : GoesOn Anything (Spells most_depth) start []
+  pub begun : GoesOn OfTokens (Spells most_depth) start []
   pub fits : FitsIn bare Spells start left w
 
 -- a stop behind something that was read
@@ -73,11 +74,11 @@ module _ {A B : Type 0} (bare : A → Type 0) (bare' : B → Type 0) (P : List T
 
   fits_behind : (before start left : List Terminal) (w : Wrong) → P before → FitsIn bare Inner start left w → FitsIn bare' Outer (before ++ start) left w
   fits_behind before start left Expected holds fits = tt
-  fits_behind before start left TooDeep holds fits = (fits.0, fits.1, fits.2, goes_behind Anything Anything (λ a more is. tt) (suc most_depth) before start (fits.0 ∷ []) holds fits.3)
+  fits_behind before start left TooDeep holds fits = (fits.0, fits.1, fits.2, goes_behind OfTokens OfTokens (λ a more is. is) (suc most_depth) before start (fits.0 ∷ []) holds fits.3)
   fits_behind before start left (NotACq part.Join) holds fits = (goes_behind (NothingBare bare) (NothingBare bare') (λ a more is. (is.0, bares a is.1)) most_depth before start [] holds fits.0, fits.1)
   fits_behind before start left (NotACq part.Tail) holds fits = (goes_behind Nothing Nothing (λ a more is. is) most_depth before start [] holds fits.0, fits.1)
-  fits_behind before start left (NotACq part.Bind) holds fits = (goes_behind Anything Anything (λ a more is. tt) most_depth before start (symbol symbols.Minus ∷ []) holds fits.0, fits.1)
-  fits_behind before start left (NotACq part.Escape) holds fits = (goes_behind Anything Anything (λ a more is. tt) most_depth before start (quoted [] ∷ []) holds fits.0, fits.1)
+  fits_behind before start left (NotACq part.Bind) holds fits = (goes_behind OfTokens OfTokens (λ a more is. is) most_depth before start (symbol symbols.Minus ∷ []) holds fits.0, fits.1)
+  fits_behind before start left (NotACq part.Escape) holds fits = (goes_behind OfTokens OfTokens (λ a more is. is) most_depth before start (quoted [] ∷ []) holds fits.0, fits.1)
   fits_behind before start left (NotACq part.Import) holds fits = absurd fits
   fits_behind before start left (NotACq part.Distinct) holds fits = absurd fits
   fits_behind before start left (NotACq part.Projection) holds fits = absurd fits
@@ -86,13 +87,13 @@ module _ {A B : Type 0} (bare : A → Type 0) (bare' : B → Type 0) (P : List T
   halts_behind ts middle w left f h = record {
     start = f.spelled ++ h.start;
     split = f.split ∙ ap (λ (l : List Terminal). f.spelled ++ l) h.split ∙ sym (append_assoc f.spelled h.start left);
-    begun = goes_behind Anything Anything (λ a more is. tt) most_depth f.spelled h.start [] f.holds h.begun;
+    begun = goes_behind OfTokens OfTokens (λ a more is. is) most_depth f.spelled h.start [] f.holds h.begun;
     fits = fits_behind f.spelled h.start left w f.holds h.fits;
   }
 
 -- a stop at the first terminal, where something else is due
-halts_here : {A : Type 0} (bare : A → Type 0) (Spells : ℕ → A → List Terminal → Type 0) (a : A) (sentence ts : List Terminal) → Spells most_depth a sentence → Halts bare Spells ts Expected ts
-halts_here bare Spells a sentence ts spelled = record { start = []; split = refl; begun = record { value = a; more = sentence; allowed = tt; spelled = spelled }; fits = tt }
+halts_here : {A : Type 0} (bare : A → Type 0) (Spells : ℕ → A → List Terminal → Type 0) (a : A) (sentence ts : List Terminal) → AreSpelled sentence → Spells most_depth a sentence → Halts bare Spells ts Expected ts
+halts_here bare Spells a sentence ts known spelled = record { start = []; split = refl; begun = record { value = a; more = sentence; allowed = known; spelled = spelled }; fits = tt }
 
 -- how a reading stopped
 pub stop_is : {A : Type 0} {w v : Wrong} {k l : List Terminal} → ◌≡◌ {A = Reading A} (Err (w, k)) (Err (v, l)) → (w ≡ v) × (k ≡ l)
@@ -117,6 +118,9 @@ nulls = null_terminal ∷ symbol symbols.Equal ∷ null_terminal ∷ []
 abbrev nulls_test : Test
 nulls_test = tests.Compare (operand.Literal scalar.Null) relation.Equal (operand.Literal scalar.Null)
 
+nulls_spelled : AreSpelled nulls
+nulls_spelled = (keyword_spelled word.Null, (symbol_spelled symbols.Equal, (keyword_spelled word.Null, tt)))
+
 nulls_are : (alias : Option (List ℕ)) → IsTest alias nulls_test nulls
 nulls_are alias = (
   null_terminal ∷ [],
@@ -127,15 +131,16 @@ nulls_are alias = (
 )
 
 -- a NOT or a bracket goes on where one level is left
-one_level : (alias : Option (List ℕ)) (ts : List Terminal) → (begins (is_keyword word.Not) ts || begins (is_symbol symbols.LeftBracket) ts) ≡ true → (c : Tree) × (more : List Terminal) × IsPart alias 1 c (first_alone ts ++ more)
+one_level : (alias : Option (List ℕ)) (ts : List Terminal) → (begins (is_keyword word.Not) ts || begins (is_symbol symbols.LeftBracket) ts) ≡ true → (c : Tree) × (more : List Terminal) × AreSpelled more × IsPart alias 1 c (first_alone ts ++ more)
 one_level alias [] opens = absurd (cc)
 one_level alias (t ∷ ts) opens = by_sort (is_keyword word.Not t) refl
   where
-    in_brackets : (b : Bool) → is_symbol symbols.LeftBracket t ≡ b → b ≡ true → (c : Tree) × (more : List Terminal) × IsPart alias 1 c (t ∷ more)
+    in_brackets : (b : Bool) → is_symbol symbols.LeftBracket t ≡ b → b ≡ true → (c : Tree) × (more : List Terminal) × AreSpelled more × IsPart alias 1 c (t ∷ more)
     in_brackets b is opened =
         let all_of = all (in_order (test nulls_test ∷ [])) in (
           any (in_order (all_of ∷ [])),
           nulls ++ symbol symbols.RightBracket ∷ [],
+          closed_spelled nulls nulls_spelled,
           inr (inr (
             t ∷ [],
             nulls ++ symbol symbols.RightBracket ∷ [],
@@ -145,12 +150,12 @@ one_level alias (t ∷ ts) opens = by_sort (is_keyword word.Not t) refl
           )),
         )
 
-    by_sort : (b : Bool) → is_keyword word.Not t ≡ b → (c : Tree) × (more : List Terminal) × IsPart alias 1 c (t ∷ more)
-    by_sort true is = (negation (test nulls_test), nulls, inr (inl (test nulls_test, refl, (t ∷ [], nulls, refl, (t, is, refl), (nulls_test, refl, nulls_are alias)))))
+    by_sort : (b : Bool) → is_keyword word.Not t ≡ b → (c : Tree) × (more : List Terminal) × AreSpelled more × IsPart alias 1 c (t ∷ more)
+    by_sort true is = (negation (test nulls_test), nulls, nulls_spelled, inr (inl (test nulls_test, refl, (t ∷ [], nulls, refl, (t, is, refl), (nulls_test, refl, nulls_are alias)))))
     by_sort false is = in_brackets (is_symbol symbols.LeftBracket t) refl (subst (λ (b : Bool). (b || is_symbol symbols.LeftBracket t) ≡ true) is opens)
 
-no_level : (alias : Option (List ℕ)) (ts : List Terminal) → (begins (is_keyword word.Not) ts || begins (is_symbol symbols.LeftBracket) ts) ≡ true → (c : Tree) × (more : List Terminal) × IsPart alias 0 c more
-no_level alias ts opens = (test nulls_test, nulls, (nulls_test, refl, nulls_are alias))
+no_level : (alias : Option (List ℕ)) (ts : List Terminal) → (begins (is_keyword word.Not) ts || begins (is_symbol symbols.LeftBracket) ts) ≡ true → (c : Tree) × (more : List Terminal) × AreSpelled more × IsPart alias 0 c more
+no_level alias ts opens = (test nulls_test, nulls, nulls_spelled, (nulls_test, refl, nulls_are alias))
 
 module _ (alias : Option (List ℕ)) where
   abbrev Conditions : ℕ → Tree → List Terminal → Type 0
@@ -167,26 +172,39 @@ module _ (alias : Option (List ℕ)) where
         record {
           value = a.value;
           more = a.more;
-          allowed = tt;
+          allowed = a.known;
           spelled = subst (λ (l : List Terminal). IsCondition (suc most_depth) alias a.value (start ++ (l ++ a.more))) next (subst (λ (l : List Terminal). IsCondition (suc most_depth) alias a.value (l ++ (first_alone left ++ a.more))) same a.holds);
         },
       )
 
-  condition_fits : (ts : List Terminal) (w : Wrong) (left : List Terminal) → condition_at most_depth alias ts ≡ Err (w, left) → (a : Ahead (λ _. []) (IsCondition most_depth alias) ts w left) → FitsIn none_bare Conditions a.start left w
+-- what is due where a level too much isn't needed
+due_spelled : (w : Wrong) (left : List Terminal) → AreSpelled (due (λ _. []) w left)
+due_spelled Expected left = tt
+due_spelled TooDeep left = tt
+due_spelled (NotACq part.Bind) left = (symbol_spelled symbols.Minus, tt)
+due_spelled (NotACq part.Escape) left = (quoted_spelled, tt)
+due_spelled (NotACq part.Import) left = tt
+due_spelled (NotACq part.Distinct) left = tt
+due_spelled (NotACq part.Projection) left = tt
+due_spelled (NotACq part.Join) left = tt
+due_spelled (NotACq part.Tail) left = tt
+
+module _ (alias : Option (List ℕ)) (known : IsSpelledAlias alias) where
+  condition_fits : (ts : List Terminal) (w : Wrong) (left : List Terminal) → condition_at most_depth alias ts ≡ Err (w, left) → (a : Ahead (λ _. []) (IsCondition most_depth alias) ts w left) → FitsIn none_bare (Conditions alias) a.start left w
   condition_fits ts Expected left read a = tt
-  condition_fits ts TooDeep left read a = level_more ts left (condition_ahead 1 first_alone one_level alias most_depth ts TooDeep left read) a.start a.split
-  condition_fits ts (NotACq part.Bind) left read a = (record { value = a.value; more = a.more; allowed = tt; spelled = a.holds }, a.shown)
-  condition_fits ts (NotACq part.Escape) left read a = (record { value = a.value; more = a.more; allowed = tt; spelled = a.holds }, a.shown)
+  condition_fits ts TooDeep left read a = level_more alias ts left (condition_ahead 1 first_alone one_level alias known most_depth ts TooDeep left read) a.start a.split
+  condition_fits ts (NotACq part.Bind) left read a = (record { value = a.value; more = a.more; allowed = a.known; spelled = a.holds }, a.shown)
+  condition_fits ts (NotACq part.Escape) left read a = (record { value = a.value; more = a.more; allowed = a.known; spelled = a.holds }, a.shown)
   condition_fits ts (NotACq part.Import) left read a = absurd a.shown
   condition_fits ts (NotACq part.Distinct) left read a = absurd a.shown
   condition_fits ts (NotACq part.Projection) left read a = absurd a.shown
   condition_fits ts (NotACq part.Join) left read a = absurd a.shown
   condition_fits ts (NotACq part.Tail) left read a = absurd a.shown
 
-  condition_halts : (ts : List Terminal) (w : Wrong) (left : List Terminal) → condition_at most_depth alias ts ≡ Err (w, left) → Halts none_bare Conditions ts w left
+  condition_halts : (ts : List Terminal) (w : Wrong) (left : List Terminal) → condition_at most_depth alias ts ≡ Err (w, left) → Halts none_bare (Conditions alias) ts w left
   condition_halts ts w left read =
-      let a = condition_ahead 0 (λ _. []) no_level alias most_depth ts w left read in
-      record { start = a.start; split = a.split; begun = record { value = a.value; more = _; allowed = tt; spelled = a.holds }; fits = condition_fits ts w left read a }
+      let a = condition_ahead 0 (λ _. []) no_level alias known most_depth ts w left read in
+      record { start = a.start; split = a.split; begun = record { value = a.value; more = _; allowed = both_spelled (due (λ _. []) w left) a.more (due_spelled w left) a.known; spelled = a.holds }; fits = condition_fits ts w left read a }
 
 -- the end of a query
 module _ {A : Type 0} (bare : A → Type 0) (Spells : ℕ → A → List Terminal → Type 0) (a : A) where
@@ -201,7 +219,7 @@ module _ {A : Type 0} (bare : A → Type 0) (Spells : ℕ → A → List Termina
       is = stop_is read
 
       halted : (v : Wrong) → v ≡ w → FitsIn bare Spells f.spelled (t ∷ middle) v → Halts bare Spells ts w left
-      halted v same fits = subst (λ (l : List Terminal). Halts bare Spells ts w l) is.1 (subst (λ (u : Wrong). Halts bare Spells ts u (t ∷ middle)) same (record { start = f.spelled; split = f.split; begun = read_whole Anything tt f.spelled f.holds; fits = fits }))
+      halted v same fits = subst (λ (l : List Terminal). Halts bare Spells ts w l) is.1 (subst (λ (u : Wrong). Halts bare Spells ts u (t ∷ middle)) same (record { start = f.spelled; split = f.split; begun = read_whole OfTokens tt f.spelled f.holds; fits = fits }))
 
       by_tail : (b : Bool) → is_tail t ≡ b → Halts bare Spells ts w left
       by_tail true tail = halted (NotACq part.Tail) (sym (ap (λ (c : Bool). if c then NotACq part.Tail else Expected) tail) ∙ is.0) (read_whole Nothing refl f.spelled f.holds, tail)
@@ -211,20 +229,20 @@ module _ {A : Type 0} (bare : A → Type 0) (Spells : ℕ → A → List Termina
   join_halts ts middle w left f is_bare comma read =
       let is = stop_is read in
       subst (λ (l : List Terminal). Halts bare Spells ts w l) is.1 (subst (λ (u : Wrong). Halts bare Spells ts u middle) is.0
-      (record { start = f.spelled; split = f.split; begun = read_whole Anything tt f.spelled f.holds; fits = (read_whole (NothingBare bare) (refl, is_bare) f.spelled f.holds, comma) }))
+      (record { start = f.spelled; split = f.split; begun = read_whole OfTokens tt f.spelled f.holds; fits = (read_whole (NothingBare bare) (refl, is_bare) f.spelled f.holds, comma) }))
 
 -- what stands behind the alias
 abbrev no_condition : Option Tree → Type 0
 no_condition c = c ≡ None
 
-where_halts : (alias : Option (List ℕ)) (ts : List Terminal) (w : Wrong) (left : List Terminal) → where_at most_depth alias ts ≡ Err (w, left) → Halts no_condition (λ depth. IsWhere depth alias) ts w left
-where_halts alias ts w left read =
+where_halts : (alias : Option (List ℕ)) → IsSpelledAlias alias → (ts : List Terminal) (w : Wrong) (left : List Terminal) → where_at most_depth alias ts ≡ Err (w, left) → Halts no_condition (λ depth. IsWhere depth alias) ts w left
+where_halts alias known ts w left read =
     ⊎_elim
     (λ h.
     let opens = one_begins (is_keyword word.Where) ts h.0 in
     ⊎_elim
     (λ first. halts_behind none_bare no_condition (One (is_keyword word.Where)) (Conditions alias) (λ depth. IsWhere depth alias) (λ c. Some c) (λ c none. absurd none) (λ depth c before l p s. (before, l, refl, p, s)) ts (rest ts) w left opens
-    (condition_halts alias (rest ts) w left first))
+    (condition_halts alias known (rest ts) w left first))
     (λ found.
     let spelled = joined (One (is_keyword word.Where)) (IsCondition most_depth alias found.0) ts (rest ts) found.1 opens (condition_sound alias most_depth (rest ts) found.0 found.1 found.2) in
     end_halts no_condition (λ depth. IsWhere depth alias) (Some found.0) ts found.1 w left spelled (not_made (λ _. Some found.0) (end_at found.1) (w, left) found.3))
@@ -273,7 +291,7 @@ alias_halts ts w left read =
       begun = record {
         value = (Some (0x78 ∷ []), None);
         more = some_name ∷ [];
-        allowed = tt;
+        allowed = (name_spelled, tt);
         spelled = (as_word.spelled ++ some_name ∷ [], [], sym (append-nil (as_word.spelled ++ some_name ∷ [])), inr (as_word.spelled, some_name ∷ [], refl, as_word.holds, (some_name, refl, refl)), refl);
       };
       fits = tt;
@@ -281,13 +299,14 @@ alias_halts ts w left read =
     (λ h. absurd (no_alias_stop _ ts (w, left) h.1))
     (chosen (begins (is_keyword word.As) ts) _ _ _ read)
 
-behind_halts : (ts : List Terminal) (w : Wrong) (left : List Terminal) → behind_at ts ≡ Err (w, left) → Halts bare_behind IsBehind ts w left
-behind_halts ts w left read =
+behind_halts : (ts : List Terminal) (w : Wrong) (left : List Terminal) → AreSpelled ts → behind_at ts ≡ Err (w, left) → Halts bare_behind IsBehind ts w left
+behind_halts ts w left known read =
     ⊎_elim
     (λ first. alias_halts ts w left first)
     (λ found.
+    let spelled = alias_sound ts found.0 found.1 found.2 in
     halts_behind no_condition bare_behind (IsAlias found.0) (λ depth. IsWhere depth found.0) IsBehind (λ c. (found.0, c)) (λ c none. none) (λ depth c before l p s. (before, l, refl, p, s)) ts found.1 w left
-    (alias_sound ts found.0 found.1 found.2) (where_halts found.0 found.1 w left (not_made (λ c. (found.0, c)) (where_at most_depth found.0 found.1) (w, left) found.3)))
+    spelled (where_halts found.0 (alias_spelled found.0 ts found.1 spelled known) found.1 w left (not_made (λ c. (found.0, c)) (where_at most_depth found.0 found.1) (w, left) found.3)))
     (stopped (alias_at ts) _ (w, left) read)
 
 -- the region and all behind it
@@ -319,15 +338,16 @@ behind_of region ts e read =
     (λ found. rw (found.2, not_made (λ c. of_region region (found.0, c)) (where_at most_depth found.0 found.1) e found.3) refl)
     (stopped (alias_at ts) (λ alias. read_as (λ c. of_region region (alias.0, c)) (where_at most_depth alias.0 alias.1)) e read)
 
-pub source_halts : (ts : List Terminal) (w : Wrong) (left : List Terminal) → source_at most_depth ts ≡ Err (w, left) → Halts bare_query IsSource ts w left
-source_halts ts w left read =
+pub source_halts : (ts : List Terminal) (w : Wrong) (left : List Terminal) → AreSpelled ts → source_at most_depth ts ≡ Err (w, left) → Halts bare_query IsSource ts w left
+source_halts ts w left known read =
     ⊎_elim
     (λ first.
     let due = region_due (front as_name ts) ts w left first in
-    subst (λ (u : Wrong). Halts bare_query IsSource ts u left) due.0 (subst (Halts bare_query IsSource ts Expected) due.1 (halts_here bare_query IsSource least (some_name ∷ []) ts least_source)))
+    subst (λ (u : Wrong). Halts bare_query IsSource ts u left) due.0 (subst (Halts bare_query IsSource ts Expected) due.1 (halts_here bare_query IsSource least (some_name ∷ []) ts (name_spelled, tt) least_source)))
     (λ found.
+    let region = region_sound_by ts _ found.0 found.1 refl found.2 in
     halts_behind bare_behind bare_query (IsRegion found.0) IsBehind IsSource (of_region found.0) (λ b none. none) (λ depth b before l p s. (before, l, refl, p, s)) ts found.1 w left
-    (region_sound_by ts _ found.0 found.1 refl found.2) (behind_halts found.1 w left (behind_of found.0 found.1 (w, left) found.3)))
+    region (behind_halts found.1 w left (left_spelled (IsRegion found.0) ts found.1 region known) (behind_of found.0 found.1 (w, left) found.3)))
     (stopped (region_at ts) _ (w, left) read)
 
 -- a terminal that is due, with all behind it
@@ -338,8 +358,8 @@ module _ (passes : Terminal → Bool) (itself : Terminal) (is_itself : passes it
   pub least_outer : Outer most_depth least (itself ∷ sentence)
   least_outer = (itself ∷ [], sentence, refl, (itself, is_itself, refl), least_inner)
 
-  pub one_halts : (ts : List Terminal) (w : Wrong) (left : List Terminal) → (Expected ≡ w) × (ts ≡ left) → Halts bare_query Outer ts w left
-  one_halts ts w left due = subst (λ (u : Wrong). Halts bare_query Outer ts u left) due.0 (subst (Halts bare_query Outer ts Expected) due.1 (halts_here bare_query Outer least (itself ∷ sentence) ts least_outer))
+  pub one_halts : AreSpelled (itself ∷ sentence) → (ts : List Terminal) (w : Wrong) (left : List Terminal) → (Expected ≡ w) × (ts ≡ left) → Halts bare_query Outer ts w left
+  one_halts known ts w left due = subst (λ (u : Wrong). Halts bare_query Outer ts u left) due.0 (subst (Halts bare_query Outer ts Expected) due.1 (halts_here bare_query Outer least (itself ∷ sentence) ts known least_outer))
 
   pub inner_halts : (ts middle : List Terminal) (w : Wrong) (left : List Terminal) → Front (One passes) ts middle → Halts bare_query Inner middle w left → Halts bare_query Outer ts w left
   inner_halts ts middle w left f h = halts_behind bare_query bare_query (One passes) Inner Outer (λ q. q) (λ q none. none) (λ depth q before l p s. (before, l, refl, p, s)) ts middle w left f h

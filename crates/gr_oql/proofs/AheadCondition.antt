@@ -21,6 +21,7 @@ use Rattle.gr_oql.proofs.Readings.{chosen, made_of, stopped, not_made}
 use Rattle.gr_oql.proofs.Sound.{Front, Sound, weaker, joined, one_begins, symbol_sound, keyword_sound, field_sound, literal_sound, operand_sound, row_sound}
 use Rattle.gr_oql.proofs.SoundQuery.{relation_sound, test_sound, all_sound, any_sound, bracket_sound}
 use Rattle.gr_oql.proofs.Complete.{quoted_is}
+use Rattle.gr_oql.proofs.Spelled.{AreSpelled, both_spelled, IsSpelledAlias, symbol_spelled, quoted_spelled}
 use Rattle.gr_oql.proofs.Ahead.{raised, Ahead, AheadOf, Something, Due, Goes, ahead_of, goes_on, before, behind, then_ahead, at_front, here, symbol_itself, symbol_ahead, keyword_ahead, some_field, some_literal, some_operand, field_ahead, literal_ahead, operand_ahead, row_ahead}
 
 -- a pattern that a continuous query may have
@@ -36,12 +37,12 @@ abbrev Behind : Option (List ℕ) → Operand → List Terminal → Type 0
 Behind alias o l = (first : List Terminal) → IsOperand alias o first → Something (IsTest alias) (first ++ l)
 
 some_relation : Due (Something IsRelation)
-some_relation = (symbol symbols.Equal ∷ [], (relation.Equal, symbol_itself symbols.Equal))
+some_relation = (symbol symbols.Equal ∷ [], (relation.Equal, symbol_itself symbols.Equal), (symbol_spelled symbols.Equal, tt))
 
 some_compared : (alias : Option (List ℕ)) → Due (Something (Compared alias))
 some_compared alias =
     let right = some_operand alias in
-    (some_relation.0 ++ right.0, ((some_relation.1.0, right.1.0), (some_relation.0, right.0, refl, some_relation.1.1, right.1.1)))
+    (some_relation.0 ++ right.0, ((some_relation.1.0, right.1.0), (some_relation.0, right.0, refl, some_relation.1.1, right.1.1)), both_spelled some_relation.0 right.0 some_relation.2 right.2)
 
 -- literals in brackets, and what is read there
 abbrev Literals : List Scalar → List Terminal → Type 0
@@ -57,16 +58,22 @@ literals_at o ts =
     read_as (λ _. tests.Among o literals.0) (symbol_at symbols.RightBracket literals.1)
 
 some_row : Due (Something (Row (is_symbol symbols.Comma) Literal))
-some_row = (some_literal.0, (some_literal.1.0 ∷ [], some_literal.1.1))
+some_row = (some_literal.0, (some_literal.1.0 ∷ [], some_literal.1.1), some_literal.2)
 
 -- a sentence with the bracket that closes it
 closed : (P : List Terminal → Type 0) (l : List Terminal) → P l → (P then One (is_symbol symbols.RightBracket)) (l ++ symbol symbols.RightBracket ∷ [])
 closed P l holds = (l, symbol symbols.RightBracket ∷ [], refl, holds, symbol_itself symbols.RightBracket)
 
+pub closed_spelled : (l : List Terminal) → AreSpelled l → AreSpelled (l ++ symbol symbols.RightBracket ∷ [])
+closed_spelled l known = both_spelled l (symbol symbols.RightBracket ∷ []) known (symbol_spelled symbols.RightBracket, tt)
+
 some_literals : Due (Something Literals)
 some_literals =
-    let row = some_row.0 ++ symbol symbols.RightBracket ∷ [] in
-    (symbol symbols.LeftBracket ∷ row, (some_row.1.0, (symbol symbols.LeftBracket ∷ [], row, refl, symbol_itself symbols.LeftBracket, closed (Row (is_symbol symbols.Comma) Literal some_row.1.0) some_row.0 some_row.1.1)))
+    let row = some_row.0 ++ symbol symbols.RightBracket ∷ [] in (
+      symbol symbols.LeftBracket ∷ row,
+      (some_row.1.0, (symbol symbols.LeftBracket ∷ [], row, refl, symbol_itself symbols.LeftBracket, closed (Row (is_symbol symbols.Comma) Literal some_row.1.0) some_row.0 some_row.1.1)),
+      (symbol_spelled symbols.LeftBracket, closed_spelled some_row.0 some_row.2),
+    )
 
 module _ (opening : List Terminal → List Terminal) where
   relation_ahead : Goes opening IsRelation relation_at
@@ -83,13 +90,13 @@ module _ (opening : List Terminal → List Terminal) where
 
   -- an empty pattern is one without a backslash
   pattern_ahead : (o : Option (List ℕ)) (ts : List Terminal) (w : Wrong) (left : List Terminal) → o ≡ front as_quoted ts → pattern_by o ts ≡ Err (w, left) → AheadOf opening (Something Pattern) ts w left
-  pattern_ahead None ts w left is read = here opening _ ts w left (quoted [] ∷ [], ([], (refl, (quoted [], refl, refl)))) read
+  pattern_ahead None ts w left is read = here opening _ ts w left (quoted [] ∷ [], ([], (refl, (quoted [], refl, refl))), (quoted_spelled, tt)) read
   pattern_ahead (Some text) [] w left is read = absurd (cc)
   pattern_ahead (Some text) (t ∷ ts) w left is read =
       ⊎_elim
       (λ h.
       let one : AheadOf opening (Something Pattern) (t ∷ ts) (NotACq part.Escape) (t ∷ ts) =
-      record { start = []; more = []; split = refl; shown = (text, ts, ap (λ (u : Terminal). u ∷ ts) (quoted_is t text (sym is)), h.0); holds = ([], (refl, (quoted [], refl, refl))) } in
+      record { start = []; more = []; split = refl; shown = (text, ts, ap (λ (u : Terminal). u ∷ ts) (quoted_is t text (sym is)), h.0); known = tt; holds = ([], (refl, (quoted [], refl, refl))) } in
       at_front opening _ (t ∷ ts) (NotACq part.Escape) w left one h.1)
       (λ h. absurd (cc h.1))
       (chosen (has_backslash text) _ _ _ read)
@@ -99,7 +106,7 @@ module _ (opening : List Terminal → List Terminal) where
     closed_ahead : Goes opening (λ x. Spells x then One (is_symbol symbols.RightBracket)) (λ ts. item ts >>= λ x. read_as (λ _. make x.0) (symbol_at symbols.RightBracket x.1))
     closed_ahead =
         then_ahead opening Spells (λ x (u : Unit {0}). One (is_symbol symbols.RightBracket)) (λ x. Spells x then One (is_symbol symbols.RightBracket)) item (λ x ts. read_as (λ _. make x) (symbol_at symbols.RightBracket ts))
-        goes sound (λ x. (symbol symbols.RightBracket ∷ [], (tt, symbol_itself symbols.RightBracket)))
+        goes sound (λ x. (symbol symbols.RightBracket ∷ [], (tt, symbol_itself symbols.RightBracket), (symbol_spelled symbols.RightBracket, tt)))
         (λ x ts w left read. symbol_ahead opening symbols.RightBracket ts w left (not_made (λ _. make x) (symbol_at symbols.RightBracket ts) (w, left) read)) (λ x u l spelled. (x, spelled))
 
     brackets_ahead : Due (Something Spells) → Goes opening (λ x. Bracketed (Spells x)) (λ ts. symbol_at symbols.LeftBracket ts >>= λ opens. (item opens.1 >>= λ x. read_as (λ _. make x.0) (symbol_at symbols.RightBracket x.1)))
@@ -107,13 +114,13 @@ module _ (opening : List Terminal → List Terminal) where
         then_ahead opening (λ (u : Unit {0}). One (is_symbol symbols.LeftBracket)) (λ u x. Spells x then One (is_symbol symbols.RightBracket)) (λ x. Bracketed (Spells x))
         (symbol_at symbols.LeftBracket) (λ u ts. item ts >>= λ x. read_as (λ _. make x.0) (symbol_at symbols.RightBracket x.1))
         (symbol_ahead opening symbols.LeftBracket) (symbol_sound symbols.LeftBracket)
-        (λ u. (some.0 ++ symbol symbols.RightBracket ∷ [], (some.1.0, closed (Spells some.1.0) some.0 some.1.1)))
+        (λ u. (some.0 ++ symbol symbols.RightBracket ∷ [], (some.1.0, closed (Spells some.1.0) some.0 some.1.1), closed_spelled some.0 some.2))
         (λ u. closed_ahead) (λ u x l spelled. (x, spelled))
 
   -- tests
-  module _ (alias : Option (List ℕ)) where
+  module _ (alias : Option (List ℕ)) (known : IsSpelledAlias alias) where
     bracketed_ahead : Goes opening (λ f. Bracketed (Field alias f)) (bracketed_at alias)
-    bracketed_ahead = brackets_ahead (Field alias) (field_at alias) (λ f. f) (field_ahead opening alias) (field_sound alias) (some_field alias)
+    bracketed_ahead = brackets_ahead (Field alias) (field_at alias) (λ f. f) (field_ahead opening alias known) (field_sound alias) (some_field alias known)
 
     literals_ahead : (o : Operand) → Goes opening Literals (literals_at o)
     literals_ahead o =
@@ -194,8 +201,8 @@ part_of_test alias zero t l spelled = (t, refl, spelled)
 part_of_test alias (suc depth) t l spelled = inl (t, refl, spelled)
 
 module _ (bottom : ℕ) (opening : List Terminal → List Terminal)
-    (opened : (alias : Option (List ℕ)) (ts : List Terminal) → (begins (is_keyword word.Not) ts || begins (is_symbol symbols.LeftBracket) ts) ≡ true → (c : Tree) × (more : List Terminal) × IsPart alias bottom c (opening ts ++ more)) where
-  module _ (alias : Option (List ℕ)) where
+    (opened : (alias : Option (List ℕ)) (ts : List Terminal) → (begins (is_keyword word.Not) ts || begins (is_symbol symbols.LeftBracket) ts) ≡ true → (c : Tree) × (more : List Terminal) × AreSpelled more × IsPart alias bottom c (opening ts ++ more)) where
+  module _ (alias : Option (List ℕ)) (known : IsSpelledAlias alias) where
     test_part_sound : (depth : ℕ) (ts : List Terminal) (c : Tree) (left : List Terminal) → read_as test (test_at alias ts) ≡ Ok (c, left) → Front (IsPart alias depth c) ts left
     test_part_sound depth ts c left read =
         let m = made_of test (test_at alias ts) c left read in
@@ -203,7 +210,7 @@ module _ (bottom : ℕ) (opening : List Terminal → List Terminal)
 
     test_part_ahead : (depth : ℕ) (ts : List Terminal) (w : Wrong) (left : List Terminal) → read_as test (test_at alias ts) ≡ Err (w, left) → AheadOf opening (Something (IsPart alias depth)) ts w left
     test_part_ahead depth ts w left read =
-        goes_on opening (Something (IsTest alias)) (Something (IsPart alias depth)) ts w left (λ l s. (test s.0, part_of_test alias depth s.0 l s.1)) (test_ahead opening alias ts w left (not_made test (test_at alias ts) (w, left) read))
+        goes_on opening (Something (IsTest alias)) (Something (IsPart alias depth)) ts w left (λ l s. (test s.0, part_of_test alias depth s.0 l s.1)) (test_ahead opening alias known ts w left (not_made test (test_at alias ts) (w, left) read))
 
     -- what is read at a depth is spelled so above whatever bottom
     raised_sound : (depth : ℕ) → Sound (IsPart alias (raised bottom depth)) (part_at alias depth)
@@ -235,7 +242,7 @@ module _ (bottom : ℕ) (opening : List Terminal → List Terminal)
         ⊎_elim
         (λ h.
         let level = opened alias ts h.0 in
-        let one : AheadOf opening (Something (IsPart alias bottom)) ts TooDeep ts = record { start = []; more = level.1; split = refl; shown = first_there ts h.0; holds = (level.0, level.2) } in
+        let one : AheadOf opening (Something (IsPart alias bottom)) ts TooDeep ts = record { start = []; more = level.1; split = refl; shown = first_there ts h.0; known = level.2; holds = (level.0, level.3) } in
         at_front opening _ ts TooDeep w left one h.1)
         (λ h. test_part_ahead bottom ts w left h.1)
         (chosen (begins (is_keyword word.Not) ts || begins (is_symbol symbols.LeftBracket) ts) _ _ _ read)
@@ -253,8 +260,8 @@ module _ (bottom : ℕ) (opening : List Terminal → List Terminal)
         (chosen (begins (is_symbol symbols.LeftBracket) ts) _ _ _ r1.1))
         (chosen (begins (is_keyword word.Not) ts) _ _ _ read)
 
-  pub condition_ahead : (alias : Option (List ℕ)) (depth : ℕ) (ts : List Terminal) (w : Wrong) (left : List Terminal) → condition_at depth alias ts ≡ Err (w, left) → Ahead opening (IsCondition (raised bottom depth) alias) ts w left
+  pub condition_ahead : (alias : Option (List ℕ)) → IsSpelledAlias alias → (depth : ℕ) (ts : List Terminal) (w : Wrong) (left : List Terminal) → condition_at depth alias ts ≡ Err (w, left) → Ahead opening (IsCondition (raised bottom depth) alias) ts w left
   unfolding condition_at
-  condition_ahead alias depth ts w left read =
+  condition_ahead alias known depth ts w left read =
       ahead_of opening (IsCondition (raised bottom depth) alias) ts w left
-      (any_ahead opening (part_at alias depth) (IsPart alias (raised bottom depth)) (raised_sound alias depth) (part_ahead alias depth) ts w left read)
+      (any_ahead opening (part_at alias depth) (IsPart alias (raised bottom depth)) (raised_sound alias known depth) (part_ahead alias known depth) ts w left read)

@@ -15,7 +15,8 @@ use Rattle.gr_oql.specs.FirstFault.{IsStart, Fits}
 use Rattle.gr_oql.proofs.Readings.{chosen, left_is, stopped}
 use Rattle.gr_oql.proofs.Sound.{Front, symbol_sound, keyword_sound}
 use Rattle.gr_oql.proofs.SoundQuery.{star_sound}
-use Rattle.gr_oql.proofs.AheadClauses.{GoesOn, Anything, FitsIn, Halts, bare_query, IsSource, some_name, least_source, source_halts, stop_is, least, one_halts, inner_halts, least_outer}
+use Rattle.gr_oql.proofs.Spelled.{AreSpelled, left_spelled, symbol_spelled, keyword_spelled, name_spelled}
+use Rattle.gr_oql.proofs.AheadClauses.{GoesOn, OfTokens, FitsIn, Halts, bare_query, IsSource, some_name, least_source, source_halts, stop_is, least, one_halts, inner_halts, least_outer}
 
 -- the whole query
 abbrev OnSlash : ℕ → Asked → List Terminal → Type 0
@@ -36,6 +37,15 @@ least_from = keyword word.From (letters word.From) ∷ least_slash
 abbrev least_star : List Terminal
 least_star = symbol symbols.Star ∷ least_from
 
+slash_known : AreSpelled least_slash
+slash_known = (symbol_spelled symbols.Slash, (name_spelled, tt))
+
+pub from_known : AreSpelled least_from
+from_known = (keyword_spelled word.From, slash_known)
+
+star_known : AreSpelled least_star
+star_known = (symbol_spelled symbols.Star, from_known)
+
 slash_spelled : OnSlash most_depth least least_slash
 slash_spelled = least_outer (is_symbol symbols.Slash) (symbol symbols.Slash) refl IsSource (some_name ∷ []) least_source
 
@@ -51,18 +61,22 @@ symbol_due s ts w left read = ⊎_elim (λ h. absurd (cc h.1)) (λ h. stop_is h.
 keyword_due : (k : Keyword) (ts : List Terminal) (w : Wrong) (left : List Terminal) → keyword_at k ts ≡ Err (w, left) → (Expected ≡ w) × (ts ≡ left)
 keyword_due k ts w left read = ⊎_elim (λ h. absurd (cc h.1)) (λ h. stop_is h.1) (chosen (begins (is_keyword k) ts) _ _ _ read)
 
-slash_halts : (ts : List Terminal) (w : Wrong) (left : List Terminal) → (symbol_at symbols.Slash ts >>= λ slash. source_at most_depth slash.1) ≡ Err (w, left) → Halts bare_query OnSlash ts w left
-slash_halts ts w left read =
+slash_halts : (ts : List Terminal) (w : Wrong) (left : List Terminal) → AreSpelled ts → (symbol_at symbols.Slash ts >>= λ slash. source_at most_depth slash.1) ≡ Err (w, left) → Halts bare_query OnSlash ts w left
+slash_halts ts w left known read =
     ⊎_elim
-    (λ first. one_halts (is_symbol symbols.Slash) (symbol symbols.Slash) refl IsSource (some_name ∷ []) least_source ts w left (symbol_due symbols.Slash ts w left first))
-    (λ found. inner_halts (is_symbol symbols.Slash) (symbol symbols.Slash) refl IsSource (some_name ∷ []) least_source ts found.1 w left (symbol_sound symbols.Slash ts found.0 found.1 found.2) (source_halts found.1 w left found.3))
+    (λ first. one_halts (is_symbol symbols.Slash) (symbol symbols.Slash) refl IsSource (some_name ∷ []) least_source slash_known ts w left (symbol_due symbols.Slash ts w left first))
+    (λ found.
+    let slash = symbol_sound symbols.Slash ts found.0 found.1 found.2 in
+    inner_halts (is_symbol symbols.Slash) (symbol symbols.Slash) refl IsSource (some_name ∷ []) least_source ts found.1 w left slash (source_halts found.1 w left (left_spelled _ ts found.1 slash known) found.3))
     (stopped (symbol_at symbols.Slash ts) _ (w, left) read)
 
-from_halts : (ts : List Terminal) (w : Wrong) (left : List Terminal) → (keyword_at word.From ts >>= λ from. symbol_at symbols.Slash from.1 >>= λ slash. source_at most_depth slash.1) ≡ Err (w, left) → Halts bare_query OnFrom ts w left
-from_halts ts w left read =
+from_halts : (ts : List Terminal) (w : Wrong) (left : List Terminal) → AreSpelled ts → (keyword_at word.From ts >>= λ from. symbol_at symbols.Slash from.1 >>= λ slash. source_at most_depth slash.1) ≡ Err (w, left) → Halts bare_query OnFrom ts w left
+from_halts ts w left known read =
     ⊎_elim
-    (λ first. one_halts (is_keyword word.From) (keyword word.From (letters word.From)) refl OnSlash least_slash slash_spelled ts w left (keyword_due word.From ts w left first))
-    (λ found. inner_halts (is_keyword word.From) (keyword word.From (letters word.From)) refl OnSlash least_slash slash_spelled ts found.1 w left (keyword_sound word.From ts found.0 found.1 found.2) (slash_halts found.1 w left found.3))
+    (λ first. one_halts (is_keyword word.From) (keyword word.From (letters word.From)) refl OnSlash least_slash slash_spelled from_known ts w left (keyword_due word.From ts w left first))
+    (λ found.
+    let from = keyword_sound word.From ts found.0 found.1 found.2 in
+    inner_halts (is_keyword word.From) (keyword word.From (letters word.From)) refl OnSlash least_slash slash_spelled ts found.1 w left from (slash_halts found.1 w left (left_spelled _ ts found.1 from known) found.3))
     (stopped (keyword_at word.From ts) _ (w, left) read)
 
 -- Where the reader of a query stopped, what stands before begins a query, and the fault fits.
@@ -72,8 +86,8 @@ pub record Stopped (ts : List Terminal) (w : Wrong) (left : List Terminal) : Typ
   pub begun : IsStart most_depth before
   pub fits : Fits before left w
 
-start_of : (depth : ℕ) (start next : List Terminal) → GoesOn Anything (IsQueryWithin depth) start next → IsStart depth (start ++ next)
-start_of depth start next g = (g.value, g.more, subst (IsQueryWithin depth g.value) (sym (append_assoc start next g.more)) g.spelled)
+start_of : (depth : ℕ) (start next : List Terminal) → GoesOn OfTokens (IsQueryWithin depth) start next → IsStart depth (start ++ next)
+start_of depth start next g = (g.value, g.more, g.allowed, subst (IsQueryWithin depth g.value) (sym (append_assoc start next g.more)) g.spelled)
 
 whole_of : (start more : List Terminal) (q : Asked) → more ≡ [] → IsQueryWithin most_depth q (start ++ more) → IsQueryWithin most_depth q start
 whole_of start more q none spelled = subst (IsQueryWithin most_depth q) (ap (λ (l : List Terminal). start ++ l) none ∙ append-nil start) spelled
@@ -107,7 +121,7 @@ module _ (ts : List Terminal) (select : Terminal) (is_select : is_keyword word.S
   not_selected w v left due fits = subst (λ (l : List Terminal). Stopped (select ∷ ts) w l) due.1 (subst (λ (u : Wrong). Stopped (select ∷ ts) u ts) due.0 (record {
     before = select ∷ [];
     split = refl;
-    begun = (least, least_star, (select ∷ [], least_star, refl, (select, is_select, refl), star_spelled));
+    begun = (least, least_star, star_known, (select ∷ [], least_star, refl, (select, is_select, refl), star_spelled));
     fits = fits;
   }))
 
@@ -115,7 +129,7 @@ module _ (ts : List Terminal) (select : Terminal) (is_select : is_keyword word.S
   star_stops w left read = by_first ts refl read
     where
       expected : (Expected ≡ w) × (ts ≡ left) → Stopped (select ∷ ts) w left
-      expected due = in_query w left (one_halts (is_symbol symbols.Star) (symbol symbols.Star) refl OnFrom least_from from_spelled ts w left due)
+      expected due = in_query w left (one_halts (is_symbol symbols.Star) (symbol symbols.Star) refl OnFrom least_from from_spelled star_known ts w left due)
 
       by_first : (l : List Terminal) → ts ≡ l → star_at l ≡ Err (w, left) → Stopped (select ∷ ts) w left
       by_first [] is stops = let e = stop_is stops in expected (e.0, is ∙ e.1)
@@ -129,42 +143,47 @@ module _ (ts : List Terminal) (select : Terminal) (is_select : is_keyword word.S
           (chosen (is_keyword word.Distinct t) _ _ _ r1.1))
           (chosen (is_symbol symbols.Star t) _ _ _ stops)
 
-  behind_select : (w : Wrong) (left : List Terminal) → behind_select_at ts ≡ Err (w, left) → Stopped (select ∷ ts) w left
-  behind_select w left read =
+  behind_select : (w : Wrong) (left : List Terminal) → AreSpelled ts → behind_select_at ts ≡ Err (w, left) → Stopped (select ∷ ts) w left
+  behind_select w left known read =
       ⊎_elim
       (λ first. star_stops w left first)
-      (λ found. in_query w left (inner_halts (is_symbol symbols.Star) (symbol symbols.Star) refl OnFrom least_from from_spelled ts found.1 w left (star_sound ts found.0 found.1 found.2) (from_halts found.1 w left found.3)))
+      (λ found.
+      let star = star_sound ts found.0 found.1 found.2 in
+      in_query w left (inner_halts (is_symbol symbols.Star) (symbol symbols.Star) refl OnFrom least_from from_spelled ts found.1 w left star (from_halts found.1 w left (left_spelled _ ts found.1 star known) found.3)))
       (stopped (star_at ts) _ (w, left) read)
 
 -- what stands at the very front
 abbrev least_query : List Terminal
 least_query = keyword word.Select (letters word.Select) ∷ least_star
 
+query_known : AreSpelled least_query
+query_known = (keyword_spelled word.Select, star_known)
+
 query_spelled : IsQueryWithin most_depth least least_query
 query_spelled = least_outer (is_keyword word.Select) (keyword word.Select (letters word.Select)) refl OnStar least_star star_spelled
 
 select_due : (ts : List Terminal) (w : Wrong) (left : List Terminal) → (Expected ≡ w) × (ts ≡ left) → Stopped ts w left
-select_due ts w left due = stopped_of ts w left (one_halts (is_keyword word.Select) (keyword word.Select (letters word.Select)) refl OnStar least_star star_spelled ts w left due)
+select_due ts w left due = stopped_of ts w left (one_halts (is_keyword word.Select) (keyword word.Select (letters word.Select)) refl OnStar least_star star_spelled query_known ts w left due)
 
 import_stops : (ts : List Terminal) (w : Wrong) (left : List Terminal) → begins (is_keyword word.Import) ts ≡ true → (NotACq part.Import ≡ w) × (ts ≡ left) → Stopped ts w left
-import_stops ts w left is due = subst (λ (l : List Terminal). Stopped ts w l) due.1 (subst (λ (u : Wrong). Stopped ts u ts) due.0 (record { before = []; split = refl; begun = (least, least_query, query_spelled); fits = (refl, is) }))
+import_stops ts w left is due = subst (λ (l : List Terminal). Stopped ts w l) due.1 (subst (λ (u : Wrong). Stopped ts u ts) due.0 (record { before = []; split = refl; begun = (least, least_query, query_known, query_spelled); fits = (refl, is) }))
 
-select_stops : (ts : List Terminal) (w : Wrong) (left : List Terminal)
+select_stops : (ts : List Terminal) (w : Wrong) (left : List Terminal) → AreSpelled ts
     → (keyword_at word.Select ts >>= λ select. behind_select_at select.1) ≡ Err (w, left) → Stopped ts w left
-select_stops [] w left read = select_due [] w left (stop_is read)
-select_stops (t ∷ ts) w left read =
+select_stops [] w left known read = select_due [] w left (stop_is read)
+select_stops (t ∷ ts) w left known read =
     ⊎_elim
     (λ first. select_due (t ∷ ts) w left (keyword_due word.Select (t ∷ ts) w left first))
     (λ found.
     ⊎_elim
-    (λ h. behind_select ts t h.0 w left (ap behind_select_at (left_is h.1) ∙ found.3))
+    (λ h. behind_select ts t h.0 w left known.1 (ap behind_select_at (left_is h.1) ∙ found.3))
     (λ h. absurd (cc h.1))
     (chosen (is_keyword word.Select t) _ _ _ found.2))
     (stopped (keyword_at word.Select (t ∷ ts)) _ (w, left) read)
 
-pub query_stopped : (ts : List Terminal) (w : Wrong) (left : List Terminal) → query_at ts ≡ Err (w, left) → Stopped ts w left
-query_stopped ts w left read =
+pub query_stopped : (ts : List Terminal) (w : Wrong) (left : List Terminal) → AreSpelled ts → query_at ts ≡ Err (w, left) → Stopped ts w left
+query_stopped ts w left known read =
     ⊎_elim
     (λ h. import_stops ts w left h.0 (stop_is h.1))
-    (λ h. select_stops ts w left h.1)
+    (λ h. select_stops ts w left known h.1)
     (chosen (begins (is_keyword word.Import) ts) _ _ _ read)

@@ -16,8 +16,9 @@ use Rattle.gr_oql.specs.FirstFault.{IsStart, IsOver, Fits, rank, Ceases}
 use Rattle.gr_oql.proofs.Readings.{wrong_is}
 use Rattle.gr_oql.proofs.Complete.{symbol_no_keyword, symbol_no_name, keyword_no_name, keyword_no_symbol, keyword_other}
 use Rattle.gr_oql.proofs.CompleteQuery.{EndsQuery, end_by, query_to_end}
+use Rattle.gr_oql.proofs.Spelled.{AreSpelled}
 use Rattle.gr_oql.proofs.AheadClauses.{least}
-use Rattle.gr_oql.proofs.AheadQuery.{least_from, from_spelled, query_stopped}
+use Rattle.gr_oql.proofs.AheadQuery.{least_from, from_known, from_spelled, query_stopped}
 use Rattle.gr_oql.proofs.FirstFaults.{no_start, itself_alike, no_dollar, no_escape, over}
 
 at_most_last : (w : Wrong) → rank w ≤ 8
@@ -117,7 +118,7 @@ module _ (before left : List Terminal) (w : Wrong) (read : query_at (before ++ l
     projection_first some = by_left left refl
       where
         star_start : (t : Terminal) → is_symbol symbols.Star t ≡ true → IsStart most_depth (before ++ t ∷ [])
-        star_start t star = subst (λ (l : List Terminal). IsStart most_depth (l ++ t ∷ [])) (sym one) (least, least_from, (s ∷ [], t ∷ least_from, refl, (s, is_select, refl), (t ∷ [], least_from, refl, (t, star, refl), from_spelled)))
+        star_start t star = subst (λ (l : List Terminal). IsStart most_depth (l ++ t ∷ [])) (sym one) (least, least_from, from_known, (s ∷ [], t ∷ least_from, refl, (s, is_select, refl), (t ∷ [], least_from, refl, (t, star, refl), from_spelled)))
 
         by_left : (l : List Terminal) → left ≡ l → rank w ≤ 2
         by_left [] none = absurd (some none)
@@ -208,8 +209,8 @@ first before left w read (NotACq part.Escape) fits =
     escape_first before (quoted fits.1.0) fits.1.1 w (subst (λ (l : List Terminal). query_at (before ++ l) ≡ Err (w, l)) fits.1.2 read) fits.1.0 refl fits.1.3 fits.0
 
 -- Where the reader of a query stops, the terminals cease to begin a query, for that fault.
-pub query_ceases : (ts : List Terminal) (w : Wrong) (left : List Terminal) → query_at ts ≡ Err (w, left) → (before : List Terminal) × (ts ≡ before ++ left) × Ceases before left w
-query_ceases ts w left read =
-    let s = query_stopped ts w left read in
+pub query_ceases : (ts : List Terminal) (w : Wrong) (left : List Terminal) → AreSpelled ts → query_at ts ≡ Err (w, left) → (before : List Terminal) × (ts ≡ before ++ left) × Ceases before left w
+query_ceases ts w left known read =
+    let s = query_stopped ts w left known read in
     let stops : query_at (s.before ++ left) ≡ Err (w, left) = ap query_at (sym s.split) ∙ read in
     (s.before, s.split, record { begun = s.begun; over = over s.before left w stops; fits = s.fits; first = first s.before left w stops })

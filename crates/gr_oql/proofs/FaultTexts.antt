@@ -6,6 +6,7 @@ use Rattle.gr_lex.specs.declared.token.Token.{Token}
 use Rattle.gr_lex.specs.declared.fault.LexFault.{LexFault}
 use Rattle.gr_lex.specs.declared.fault.LexFault.TheVariants as lex
 use Rattle.gr_lex.specs.Reading.{tokens_of}
+use Rattle.gr_lex.specs.Layout.{IsLaidOut}
 use Rattle.gr_oql.specs.declared.fault.Part.TheVariants as part
 use Rattle.gr_oql.specs.declared.fault.OqlFault.{OqlFault}
 use Rattle.gr_oql.specs.declared.fault.OqlFault.TheVariants as fault
@@ -19,6 +20,7 @@ use Rattle.gr_oql.specs.FirstFault.{IsStart, IsOver, rank, Ceases, fault_at, IsF
 use Rattle.gr_lex.proofs.Laid.{tokens_laid, fault_found}
 use Rattle.gr_lex.proofs.Only.{tokens_only, tokens_fault}
 use Rattle.gr_oql.proofs.SoundQuery.{query_sound}
+use Rattle.gr_oql.proofs.Spelled.{AreSpelled, both_spelled, front_spelled, back_spelled, laid_spelled}
 use Rattle.gr_oql.proofs.FaultRanks.{query_ceases}
 
 -- tokens are split where their terminals are
@@ -45,14 +47,15 @@ fault_there text before left w =
 answered : (text : List ℕ) (tokens : List Token) (read : Reading Asked) (f : OqlFault) → tokens_of text ≡ Ok tokens → query_at (terminals_of text tokens) ≡ read → answer text tokens read ≡ Err f → IsFault text f
 answered text tokens (Ok x) f lexed is read = absurd (cc)
 answered text tokens (Err e) f lexed is read =
-    let stops = query_ceases (terminals_of text tokens) e.0 e.1 is in
+    let laid = tokens_laid text tokens lexed in
+    let stops = query_ceases (terminals_of text tokens) e.0 e.1 (laid_spelled text 0 (length text) tokens laid) is in
     let parts = tokens_split text tokens stops.0 e.1 stops.1 in
     let front_is = parts.3 in
     let behind_is = parts.4 in
     let ceases : Ceases (terminals_of text parts.0) (terminals_of text parts.1) e.0 = rw (front_is, behind_is) stops.2 in
     let found : fault_of text tokens e.0 e.1 ≡ fault_at text parts.1 e.0 = ap (λ (l : List Token). fault_of text l e.0 e.1) parts.2 ∙ ap (fault_of text (parts.0 ++ parts.1) e.0) (sym behind_is) ∙ fault_there text parts.0 parts.1 e.0 in
     let given : fault_of text tokens e.0 e.1 ≡ f = cc in
-    inr (parts.0, parts.1, e.0, tokens_laid text (parts.0 ++ parts.1) (lexed ∙ ap (λ (l : List Token). Ok l) parts.2), ceases, sym given ∙ found)
+    inr (parts.0, parts.1, e.0, subst (IsLaidOut text 0) parts.2 laid, ceases, sym given ∙ found)
 
 lexed_fault : (text : List ℕ) (lexed : Result (List Token) LexFault) (f : OqlFault) → tokens_of text ≡ lexed → answer_of_tokens text lexed ≡ Err f → IsFault text f
 lexed_fault text (Ok tokens) f is read = answered text tokens _ f is refl read
@@ -63,8 +66,8 @@ pub fault_is : (text : List ℕ) (f : OqlFault) → question_of text ≡ Err f �
 fault_is text f read = lexed_fault text _ f refl read
 
 -- Two places where the same terminals cease to begin a query are one.
-start_before : (before left : List Terminal) → IsStart most_depth (before ++ left) → IsStart most_depth before
-start_before before left start = (start.0, left ++ start.1, subst (IsQuery start.0) (append_assoc before left start.1) start.2)
+start_before : (before left : List Terminal) → AreSpelled left → IsStart most_depth (before ++ left) → IsStart most_depth before
+start_before before left known start = (start.0, left ++ start.1, both_spelled left start.1 known start.2, subst (IsQuery start.0) (append_assoc before left start.1) start.3)
 
 -- one of two lists stands at the front of the other
 split_twice : (before left before' left' : List Terminal) → before ++ left ≡ before' ++ left'
@@ -84,17 +87,21 @@ split_twice (s ∷ before) left (t ∷ before') left' same = by_rest (split_twic
     by_rest (inr (u, more, inr h)) = inr (u, more, inr (ap (λ (l : List Terminal). s ∷ l) h.0 ∙ ap (λ (x : Terminal). x ∷ (before' ++ u ∷ more)) first, h.1))
 
 -- a longer start shows that it isn't over before
-not_over : (before left longer : List Terminal) (t : Terminal) (more behind : List Terminal) → longer ≡ before ++ t ∷ more → left ≡ t ∷ behind → IsStart most_depth longer → IsOver before left → ⊥
-not_over before left longer t more behind longer_is left_is start over =
-    subst (IsOver before) left_is over (start_before (before ++ t ∷ []) more (subst (IsStart most_depth) (longer_is ∙ sym (append_assoc before (t ∷ []) more)) start))
+not_over : (before left longer : List Terminal) (t : Terminal) (more behind : List Terminal) → AreSpelled more → longer ≡ before ++ t ∷ more → left ≡ t ∷ behind → IsStart most_depth longer → IsOver before left → ⊥
+not_over before left longer t more behind known longer_is left_is start over =
+    subst (IsOver before) left_is over (start_before (before ++ t ∷ []) more known (subst (IsStart most_depth) (longer_is ∙ sym (append_assoc before (t ∷ []) more)) start))
 
-one_place : (before left before' left' : List Terminal) (w w' : Wrong) → before ++ left ≡ before' ++ left' → Ceases before left w → Ceases before' left' w' → (before ≡ before') × (left ≡ left')
-one_place before left before' left' w w' same one two = by_split (split_twice before left before' left' same)
+-- what two places have between them
+inner_spelled : (before left : List Terminal) (t : Terminal) (more behind : List Terminal) → left ≡ t ∷ (more ++ behind) → AreSpelled (before ++ left) → AreSpelled more
+inner_spelled before left t more behind left_is known = front_spelled more behind (subst AreSpelled left_is (back_spelled before left known)).1
+
+one_place : (before left before' left' : List Terminal) (w w' : Wrong) → AreSpelled (before ++ left) → before ++ left ≡ before' ++ left' → Ceases before left w → Ceases before' left' w' → (before ≡ before') × (left ≡ left')
+one_place before left before' left' w w' known same one two = by_split (split_twice before left before' left' same)
   where
     by_split : ((before ≡ before') × (left ≡ left')) ⊎ ((t : Terminal) × (more : List Terminal) × (((before' ≡ before ++ t ∷ more) × (left ≡ t ∷ (more ++ left'))) ⊎ ((before ≡ before' ++ t ∷ more) × (left' ≡ t ∷ (more ++ left))))) → (before ≡ before') × (left ≡ left')
     by_split (inl h) = h
-    by_split (inr (t, more, inl h)) = absurd (not_over before left before' t more (more ++ left') h.0 h.1 two.begun one.over)
-    by_split (inr (t, more, inr h)) = absurd (not_over before' left' before t more (more ++ left) h.0 h.1 one.begun two.over)
+    by_split (inr (t, more, inl h)) = absurd (not_over before left before' t more (more ++ left') (inner_spelled before left t more left' h.1 known) h.0 h.1 two.begun one.over)
+    by_split (inr (t, more, inr h)) = absurd (not_over before' left' before t more (more ++ left) (inner_spelled before' left' t more left h.1 (subst AreSpelled same known)) h.0 h.1 one.begun two.over)
 
 -- two that are each the first that fits are one
 wrongs : List Wrong
@@ -117,21 +124,24 @@ one_wrong before left w w' one two =
     let same : rank w ≡ rank w' = omega (arith, one.first w' two.fits, two.first w one.fits) in
     sym (at_its_rank w) ∙ ap (λ (n : ℕ). get_or wrongs n Expected) same ∙ at_its_rank w'
 
-no_query : (before left : List Terminal) (w : Wrong) (q : Asked) → Ceases before left w → IsQuery q (before ++ left) → ⊥
-no_query before [] w q ceases is = ceases.over q (subst (IsQuery q) (append-nil before) is)
-no_query before (t ∷ more) w q ceases is = ceases.over (q, more, subst (IsQuery q) (sym (append_assoc before (t ∷ []) more)) is)
+no_query : (before left : List Terminal) (w : Wrong) (q : Asked) → AreSpelled (before ++ left) → Ceases before left w → IsQuery q (before ++ left) → ⊥
+no_query before [] w q known ceases is = ceases.over q (subst (IsQuery q) (append-nil before) is)
+no_query before (t ∷ more) w q known ceases is = ceases.over (q, more, (back_spelled before (t ∷ more) known).1, subst (IsQuery q) (sym (append_assoc before (t ∷ []) more)) is)
 
-module _ (text : List ℕ) (before left : List Token) (w : Wrong) (ceases : Ceases (terminals_of text before) (terminals_of text left) w) where
+module _ (text : List ℕ) (before left : List Token) (w : Wrong) (laid : IsLaidOut text 0 (before ++ left)) (ceases : Ceases (terminals_of text before) (terminals_of text left) w) where
   parted : terminals_of text (before ++ left) ≡ terminals_of text before ++ terminals_of text left
   parted = map-append (terminal_of text) before left
+
+  known : AreSpelled (terminals_of text (before ++ left))
+  known = laid_spelled text 0 (length text) (before ++ left) laid
 
   stops_there : (read : Reading Asked) → query_at (terminals_of text (before ++ left)) ≡ read → answer text (before ++ left) read ≡ Err (fault_at text left w)
   stops_there (Ok x) is =
       let sound = query_sound most_depth (terminals_of text (before ++ left)) x.0 x.1 is in
-      absurd (no_query (terminals_of text before) (terminals_of text left) w x.0 ceases (subst (IsQuery x.0) parted sound.1))
+      absurd (no_query (terminals_of text before) (terminals_of text left) w x.0 (subst AreSpelled parted known) ceases (subst (IsQuery x.0) parted sound.1))
   stops_there (Err e) is =
-      let stops = query_ceases (terminals_of text (before ++ left)) e.0 e.1 is in
-      let place = one_place (terminals_of text before) (terminals_of text left) stops.0 e.1 w e.0 (sym parted ∙ stops.1) ceases stops.2 in
+      let stops = query_ceases (terminals_of text (before ++ left)) e.0 e.1 known is in
+      let place = one_place (terminals_of text before) (terminals_of text left) stops.0 e.1 w e.0 (subst AreSpelled parted known) (sym parted ∙ stops.1) ceases stops.2 in
       let here : Ceases (terminals_of text before) (terminals_of text left) e.0 = subst (λ (l : List Terminal). Ceases (terminals_of text before) l e.0) (sym place.1) (subst (λ (l : List Terminal). Ceases l e.1 e.0) (sym place.0) stops.2) in
       let same : e.0 ≡ w = one_wrong (terminals_of text before) (terminals_of text left) e.0 w here ceases in
       ap (λ (l : List Terminal). Err (fault_of text (before ++ left) e.0 l)) (sym place.1) ∙ ap (λ (v : Wrong). Err (fault_of text (before ++ left) v (terminals_of text left))) same ∙ ap (λ (f : OqlFault). Err f) (fault_there text before left w)
@@ -140,4 +150,4 @@ module _ (text : List ℕ) (before left : List Token) (w : Wrong) (ceases : Ceas
 pub fault_only : (text : List ℕ) (f : OqlFault) → IsFault text f → question_of text ≡ Err f
 fault_only text f (inl h) = ap (answer_of_tokens text) (tokens_fault text h.0 h.1) ∙ ap (λ (g : OqlFault). Err g) (sym h.2)
 fault_only text f (inr h) =
-    ap (answer_of_tokens text) (tokens_only text (h.0 ++ h.1) h.3) ∙ stops_there text h.0 h.1 h.2 h.4 (query_at (terminals_of text (h.0 ++ h.1))) refl ∙ ap (λ (g : OqlFault). Err g) (sym h.5)
+    ap (answer_of_tokens text) (tokens_only text (h.0 ++ h.1) h.3) ∙ stops_there text h.0 h.1 h.2 h.3 h.4 (query_at (terminals_of text (h.0 ++ h.1))) refl ∙ ap (λ (g : OqlFault). Err g) (sym h.5)

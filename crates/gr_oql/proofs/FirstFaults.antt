@@ -27,7 +27,7 @@ no_start t t' m Ordinary bottom alike imports before w ordinary read start =
     let m' = start.1 in
     let stays = query_stays (alike m') imports most_depth in
     let stopped = stays.stops (before ++ t ∷ m) (before ++ t' ∷ m') w (before, refl, refl) ordinary read in
-    let whole = query_complete (raised bottom most_depth) ((before ++ t' ∷ []) ++ m') start.0 start.2 in
+    let whole = query_complete (raised bottom most_depth) ((before ++ t' ∷ []) ++ m') start.0 start.3 in
     let same = ap (query_within (raised bottom most_depth)) (append_assoc before (t' ∷ []) m') in
     not_both (query_within (raised bottom most_depth) ((before ++ t' ∷ []) ++ m')) _ _ whole (same ∙ stopped.1)
 

@@ -10,6 +10,7 @@ pub mod SoundQuery
 pub mod Complete
 pub mod CompleteQuery
 pub mod Exact
+pub mod Spelled
 pub mod Ahead
 pub mod AheadCondition
 pub mod Stays

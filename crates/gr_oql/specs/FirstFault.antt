@@ -1,10 +1,11 @@
 -- Where the tokens of a text cease to begin a query, and which fault that is. It goes by the grammar alone.
 use Rattle.std.specs.Prelude.{◌≡◌, ◌⊎◌, ◌≤◌, ℕ, suc, List, [], ◌∷◌, ◌++◌, length, ◌^◌, Bool, false, ◌==◌, if◌then◌else◌, IsTrue, Option, None, Some}
+use Rattle.std.specs.List.{AllByRecursion}
 use Rattle.gr_lex.specs.declared.token.Symbol.TheVariants as symbols
 use Rattle.gr_lex.specs.declared.token.Token.{Token}
 use Rattle.gr_lex.specs.declared.fault.LexFault.{LexFault}
 use Rattle.gr_lex.specs.declared.fault.LexFault.TheVariants as lex
-use Rattle.gr_lex.specs.Layout.{IsLaidOut}
+use Rattle.gr_lex.specs.Layout.{IsToken, IsLaidOut}
 use Rattle.gr_lex.specs.Faults as lexical
 use Rattle.gr_oql.specs.declared.keyword.Keyword.TheVariants as word
 use Rattle.gr_oql.specs.declared.fault.Part.TheVariants as part
@@ -12,12 +13,16 @@ use Rattle.gr_oql.specs.declared.fault.OqlFault.{OqlFault}
 use Rattle.gr_oql.specs.declared.fault.OqlFault.TheVariants as fault
 use Rattle.gr_oql.specs.declared.stop.Wrong.{Wrong}
 use Rattle.gr_oql.specs.declared.stop.Wrong.TheVariants.{Expected, NotACq, TooDeep}
-use Rattle.gr_oql.specs.Terminals.{Terminal, symbol, quoted, is_symbol, is_keyword, begins, front, as_number, is_tail, terminals_of}
+use Rattle.gr_oql.specs.Terminals.{Terminal, symbol, quoted, is_symbol, is_keyword, begins, front, as_number, is_tail, terminal_of, terminals_of}
 use Rattle.gr_oql.specs.Grammar.{most_depth, has_backslash, Asked, One, IsQueryWithin, IsQuery}
 
--- A query goes on from these terminals, with so many NOTs and brackets at most around a condition.
+-- a terminal that a token of some text is
+abbrev pub IsSpelled : Terminal → Type 0
+IsSpelled t = (text : List ℕ) × (token : Token) × IsToken text token × (terminal_of text token ≡ t)
+
+-- A query goes on from these terminals, with terminals of tokens, and with so many NOTs and brackets at most around a condition.
 abbrev pub IsStart : ℕ → List Terminal → Type 0
-IsStart depth ts = (q : Asked) × (more : List Terminal) × IsQueryWithin depth q (ts ++ more)
+IsStart depth ts = (q : Asked) × (more : List Terminal) × AllByRecursion IsSpelled more × IsQueryWithin depth q (ts ++ more)
 
 -- No query goes on with the next of the terminals that are left; or none is left, and more is due.
 abbrev pub IsOver : List Terminal → List Terminal → Type 0
