@@ -4,7 +4,7 @@ use Rattle.std.specs.List.{prefix_len, take_while, list_all}
 use Rattle.std.specs.Char.{is_ascii_alphabetic, is_ascii_digit}
 use Rattle.std.specs.Int.{is_in_range}
 use Rattle.std.proofs.Math.Seq.{take-append_seam}
-use Rattle.std.proofs.lemmas.Bool.{eqb-true, leb-true, le-leb, cases_Bool, or_cases, and_parts}
+use Rattle.std.proofs.lemmas.Bool.{eqb-true, leb-true, le-leb, cases_Bool, or_cases, and_parts, cond-true, cond-false}
 use Rattle.gr_lex.specs.declared.token.Symbol.{Symbol}
 use Rattle.gr_lex.specs.declared.token.Symbol.TheVariants.{Star, LeftBracket, RightBracket, Comma, Dot, Equal, Angles, BangEqual, Less, LessEqual, Greater, GreaterEqual, Slash, Dollar, Minus}
 use Rattle.gr_lex.specs.declared.token.TokenKind.{TokenKind}
@@ -12,7 +12,7 @@ use Rattle.gr_lex.specs.declared.token.TokenKind.TheVariants as kind
 use Rattle.gr_lex.specs.Bytes.{is_blank, is_letter, is_word_byte, quote, number_of, greatest_number, spelling}
 use Rattle.gr_lex.specs.Reading.{quoted_len, quoted_at, number_at, token_at, spanning}
 use Rattle.gr_lex.specs.Layout.{doubled, quoted, IsOfKind, first_fails, goes_on, could_take}
-use Rattle.gr_lex.proofs.Fronts.{chosen_yes, chosen_no, prefix_len_yes, prefix_len_no, one_more}
+use Rattle.gr_lex.proofs.Fronts.{prefix_len_yes, prefix_len_no, one_more}
 
 -- a test that would bring what can't be
 pub fails : (test : Bool) → (test ≡ true → ⊥) → test ≡ false
@@ -62,8 +62,8 @@ quoted_len_front (b ∷ bs) rest stops =
     ⊎_elim
     (λ yes. rw yes (ap (option_map (λ n. suc (suc n))) (quoted_len_front bs rest stops)))
     (λ no.
-    subst (λ (inner : List ℕ). quoted_len ((inner ++ quote ∷ []) ++ rest) ≡ Some (length (inner ++ quote ∷ []))) (sym (chosen_no (eqb b quote) (quote ∷ quote ∷ doubled bs) (b ∷ doubled bs) no))
-    (chosen_no (eqb b quote) _ _ no ∙ ap (option_map suc) (quoted_len_front bs rest stops)))
+    subst (λ (inner : List ℕ). quoted_len ((inner ++ quote ∷ []) ++ rest) ≡ Some (length (inner ++ quote ∷ []))) (sym (cond-false (eqb b quote) (quote ∷ quote ∷ doubled bs) (b ∷ doubled bs) no))
+    (cond-false (eqb b quote) _ _ no ∙ ap (option_map suc) (quoted_len_front bs rest stops)))
     (cases_Bool (eqb b quote))
 
 -- whether a number is read, by its digits
@@ -82,7 +82,7 @@ module _ (place : ℕ) (rest : List ℕ) where
   number_front number b bs all same within stops =
       let digit : is_ascii_digit b ≡ true = (and_parts (is_ascii_digit b) (list_all is_ascii_digit bs) all).0 in
       let digits : take_while is_ascii_digit (b ∷ (bs ++ rest)) ≡ b ∷ bs = take_while_front is_ascii_digit (b ∷ bs) rest all stops in
-      chosen_no (is_letter b) _ _ (digit_no_letter b digit) ∙ chosen_yes (is_ascii_digit b) _ _ digit ∙ ap (number_at place) digits ∙ read_number place (b ∷ bs) number same within
+      cond-false (is_letter b) _ _ (digit_no_letter b digit) ∙ cond-true (is_ascii_digit b) _ _ digit ∙ ap (number_at place) digits ∙ read_number place (b ∷ bs) number same within
 
   quoted_front : (text : List ℕ) → first_fails (λ b. eqb b quote) rest ≡ true → token_at place (quoted text ++ rest) ≡ Ok (spanning kind.Quoted place (length (quoted text)))
   quoted_front text stops = ap (quoted_at place) (quoted_len_front text rest stops)

@@ -18,13 +18,6 @@ pub chosen : {X : Type 0} (b : Bool) (x y z : X) → cond b x y ≡ z → ((b �
 chosen true x y z is = inl (refl, is)
 chosen false x y z is = inr (refl, is)
 
--- what a test chooses
-pub chosen_yes : {X : Type 0} (b : Bool) (x y : X) → b ≡ true → cond b x y ≡ x
-chosen_yes b x y is = rw is refl
-
-pub chosen_no : {X : Type 0} (b : Bool) (x y : X) → b ≡ false → cond b x y ≡ y
-chosen_no b x y is = rw is refl
-
 pub and_true : {a b : Bool} → a ≡ true → b ≡ true → (a && b) ≡ true
 and_true {a} {b} p q = rw (p, q) refl
 

@@ -2,7 +2,7 @@
 use Rattle.std.proofs.Common.{◌≡◌, ℕ, zero, suc, ◌+◌, ◌-◌, ◌≤◌, List, [], ◌∷◌, length, take, drop, Result, Ok, Err, Bool, true, false, inl, inr, ⊎_elim, sym, refl, ap, ◌∙◌, subst, arith}
 use Rattle.std.specs.Prelude.{◌⊎◌, IfOk, IfErr, All, if◌then◌else◌}
 use Rattle.std.specs.List.{list_all, AllByRecursion}
-use Rattle.std.proofs.lemmas.Bool.{cases_Bool}
+use Rattle.std.proofs.lemmas.Bool.{cases_Bool, cond-true, cond-false}
 use Rattle.std.proofs.lemmas.List.Elements.{All-from_recursion}
 use Rattle.std.proofs.lemmas.List.{drop-drop, length-drop}
 use Rattle.gr_lex.specs.declared.token.Token.{Token}
@@ -12,7 +12,7 @@ use Rattle.gr_lex.specs.Bytes.{is_blank}
 use Rattle.gr_lex.specs.Reading.{token_at, with_first, followed, tokens_from, tokens_of, Gives}
 use Rattle.gr_lex.specs.Layout.{IsOfKind, first_fails, could_take, IsToken, AreBlanks, IsLaidOutTo, IsLaidOut}
 use Rattle.gr_lex.specs.Faults.{IsFault}
-use Rattle.gr_lex.proofs.Fronts.{chosen_yes, chosen_no, and_true, Begins, begins}
+use Rattle.gr_lex.proofs.Fronts.{and_true, Begins, begins}
 use Rattle.gr_lex.proofs.Misses.{IsFaultAt, fault_at}
 
 -- what one byte more leaves
@@ -80,8 +80,8 @@ ends_followed text place b bs (Ok t) rest other read later =
 ends_chosen : (text : List ℕ) (place : ℕ) (blank : Bool) (one other : Result (List Token) LexFault) → (blank ≡ true → Ends text place one) → (blank ≡ false → Ends text place other) → Ends text place (if blank then one else other)
 ends_chosen text place blank one other blanks others =
     ⊎_elim
-    (λ is. subst (Ends text place) (sym (chosen_yes blank one other is)) (blanks is))
-    (λ is. subst (Ends text place) (sym (chosen_no blank one other is)) (others is))
+    (λ is. subst (Ends text place) (sym (cond-true blank one other is)) (blanks is))
+    (λ is. subst (Ends text place) (sym (cond-false blank one other is)) (others is))
     (cases_Bool blank)
 
 ends : (text : List ℕ) (place taken : ℕ) (bytes : List ℕ) → bytes ≡ drop place text → place + taken ≤ length text → Ends text (place + taken) (tokens_from place taken bytes)

@@ -2,7 +2,7 @@
 use Rattle.std.proofs.Common.{◌≡◌, ℕ, suc, ◌<◌, List, [], ◌∷◌, ◌++◌, length, get_or, drop, Option, Some, None, Result, Err, Bool, true, false, not, ◌||◌, eqb, leb, ⊎_elim, sym, refl, ap, ◌∙◌, subst, arith}
 use Rattle.std.specs.List.{prefix_len, take_while, list_all}
 use Rattle.std.specs.Char.{is_ascii_digit}
-use Rattle.std.proofs.lemmas.Bool.{eqb-true, leb-false, lt-leb, and_parts}
+use Rattle.std.proofs.lemmas.Bool.{eqb-true, leb-false, lt-leb, and_parts, cond-true, cond-false}
 use Rattle.std.proofs.lemmas.List.{take-append-drop}
 use Rattle.gr_lex.specs.declared.token.Symbol.{Symbol}
 use Rattle.gr_lex.specs.declared.token.Symbol.TheVariants.{Star, LeftBracket, RightBracket, Comma, Dot, Equal, Angles, BangEqual, Less, LessEqual, Greater, GreaterEqual, Slash, Dollar, Minus}
@@ -13,7 +13,7 @@ use Rattle.gr_lex.specs.Bytes.{is_blank, is_letter, quote, number_of, greatest_n
 use Rattle.gr_lex.specs.Reading.{quoted_len, number_at, quoted_at, symbol_at, token_at, followed, tokens_from}
 use Rattle.gr_lex.specs.Layout.{doubled, quoted, first_fails}
 use Rattle.gr_lex.specs.Faults.{HasBadCharacter, HasNumberTooLarge, HasOpenText}
-use Rattle.gr_lex.proofs.Fronts.{chosen, chosen_yes, chosen_no, prefix_passes, prefix_stops, closes, symbol_spells}
+use Rattle.gr_lex.proofs.Fronts.{chosen, prefix_passes, prefix_stops, closes, symbol_spells}
 use Rattle.gr_lex.proofs.Ahead.{not_true, digit_no_letter, digit_no_blank, take_while_front, quoted_len_front}
 
 -- the fault at the front of bytes that begin at a place
@@ -93,7 +93,7 @@ neither false b is = (refl, is)
 neither true b is = absurd (cc)
 
 missed : (place b : ℕ) (bs : List ℕ) (fault : LexFault) → is_blank b ≡ false → token_at place (b ∷ bs) ≡ Err fault → tokens_from place 0 (b ∷ bs) ≡ Err fault
-missed place b bs fault other read = chosen_no (is_blank b) _ _ other ∙ ap (λ (front : Result Token LexFault). followed front (λ taken. tokens_from (suc place) taken bs)) read
+missed place b bs fault other read = cond-false (is_blank b) _ _ other ∙ ap (λ (front : Result Token LexFault). followed front (λ taken. tokens_from (suc place) taken bs)) read
 
 unspelled : (place b : ℕ) (bs : List ℕ) (o : Option Symbol) → symbol_of b (get_or bs 0 0) ≡ o → ((s : Symbol) (behind : List ℕ) → b ∷ bs ≡ spelling s ++ behind → ⊥) → symbol_at place o ≡ Err (BadCharacter place)
 unspelled place b bs None is never = refl
@@ -108,7 +108,7 @@ bad_character place (b ∷ bs) has =
     let digits = neither (is_blank b || is_letter b) (is_ascii_digit b) quotes.0 in
     let letters = neither (is_blank b) (is_letter b) digits.0 in
     missed place b bs (BadCharacter place) letters.0
-    (chosen_no (is_letter b) _ _ letters.1 ∙ chosen_no (is_ascii_digit b) _ _ digits.1 ∙ chosen_no (eqb b quote) _ _ quotes.1 ∙ unspelled place b bs (symbol_of b (get_or bs 0 0)) refl has.1)
+    (cond-false (is_letter b) _ _ letters.1 ∙ cond-false (is_ascii_digit b) _ _ digits.1 ∙ cond-false (eqb b quote) _ _ quotes.1 ∙ unspelled place b bs (symbol_of b (get_or bs 0 0)) refl has.1)
 
 number_too_large : (place : ℕ) (digits behind : List ℕ) → list_all is_ascii_digit digits ≡ true → first_fails is_ascii_digit behind ≡ true → greatest_number < number_of digits → tokens_from place 0 (digits ++ behind) ≡ Err (NumberTooLarge place)
 number_too_large place [] behind all stops large = absurd (omega (arith, large))
@@ -116,7 +116,7 @@ number_too_large place (d ∷ ds) behind all stops large =
     let digit : is_ascii_digit d ≡ true = (and_parts (is_ascii_digit d) (list_all is_ascii_digit ds) all).0 in
     let digits : take_while is_ascii_digit (d ∷ (ds ++ behind)) ≡ d ∷ ds = take_while_front is_ascii_digit (d ∷ ds) behind all stops in
     missed place d (ds ++ behind) (NumberTooLarge place) (digit_no_blank d digit)
-    (chosen_no (is_letter d) _ _ (digit_no_letter d digit) ∙ chosen_yes (is_ascii_digit d) _ _ digit ∙ ap (number_at place) digits ∙ chosen_no (leb (number_of (d ∷ ds)) greatest_number) _ _ (lt-leb _ _ large))
+    (cond-false (is_letter d) _ _ (digit_no_letter d digit) ∙ cond-true (is_ascii_digit d) _ _ digit ∙ ap (number_at place) digits ∙ cond-false (leb (number_of (d ∷ ds)) greatest_number) _ _ (lt-leb _ _ large))
 
 unclosed : (place : ℕ) (bs : List ℕ) (o : Option ℕ) → quoted_len bs ≡ o → ((text behind : List ℕ) → quote ∷ bs ≡ quoted text ++ behind → first_fails (λ b. eqb b quote) behind ≡ true → ⊥) → quoted_at place o ≡ Err (OpenText place)
 unclosed place bs None is never = refl

@@ -1,7 +1,7 @@
 -- What is laid out by the grammar is what is read: the tokens up to the text's end, or up to a fault.
 use Rattle.std.proofs.Common.{◌≡◌, ℕ, zero, suc, ◌+◌, ◌-◌, List, [], ◌∷◌, ◌++◌, length, get_or, take, drop, Result, Ok, Err, true, false, sym, refl, ap, ◌∙◌, subst, arith, append-nil}
 use Rattle.std.specs.List.{list_all}
-use Rattle.std.proofs.lemmas.Bool.{and_parts}
+use Rattle.std.proofs.lemmas.Bool.{and_parts, cond-true}
 use Rattle.std.proofs.lemmas.List.{take-append-drop, drop-drop, drop_all, length-drop, length-take-le, get_or-drop, take_rest}
 use Rattle.gr_lex.specs.declared.token.Token.{Token}
 use Rattle.gr_lex.specs.declared.fault.LexFault.{LexFault}
@@ -10,7 +10,6 @@ use Rattle.gr_lex.specs.Bytes.{is_blank}
 use Rattle.gr_lex.specs.Reading.{token_at, with_first, tokens_from, tokens_of, Gives}
 use Rattle.gr_lex.specs.Layout.{bytes_of, IsToken, AreBlanks, IsLaidOutTo, IsLaidOut}
 use Rattle.gr_lex.specs.Faults.{HasTokensTo, IsFault}
-use Rattle.gr_lex.proofs.Fronts.{chosen_yes}
 use Rattle.gr_lex.proofs.InTurn.{behind, tokens_from_token}
 use Rattle.gr_lex.proofs.Ahead.{front_read, front_no_blank}
 use Rattle.gr_lex.proofs.Misses.{IsFaultAt, fault_read}
@@ -20,7 +19,7 @@ blanks_read zero place bytes blanks = ap (λ (p : ℕ). tokens_from p 0 bytes) (
 blanks_read (suc n) place [] blanks = refl
 blanks_read (suc n) place (b ∷ bs) blanks =
     let parts = and_parts (is_blank b) (list_all is_blank (take n bs)) blanks in
-    chosen_yes (is_blank b) _ _ parts.0 ∙ blanks_read n (suc place) bs parts.1 ∙ ap (λ (p : ℕ). tokens_from p 0 (drop n bs)) (omega arith)
+    cond-true (is_blank b) _ _ parts.0 ∙ blanks_read n (suc place) bs parts.1 ∙ ap (λ (p : ℕ). tokens_from p 0 (drop n bs)) (omega arith)
 
 between_read : (text : List ℕ) (place stop : ℕ) → AreBlanks text place stop → tokens_from place 0 (drop place text) ≡ tokens_from stop 0 (drop stop text)
 between_read text place stop are =

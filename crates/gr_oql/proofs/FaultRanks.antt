@@ -1,6 +1,6 @@
 -- Of the faults that fit, the reader of a query stops with the first.
-use Rattle.std.proofs.Common.{◌≡◌, ℕ, suc, ◌≤◌, List, [], ◌∷◌, ◌++◌, Err, Option, Some, None, Bool, true, false, ⊎_elim, refl, sym, ap, ◌∙◌, subst, arith}
-use Rattle.std.proofs.lemmas.Bool.{or_cases}
+use Rattle.std.proofs.Common.{◌≡◌, ℕ, suc, ◌<◌, ◌≤◌, leb, List, [], ◌∷◌, ◌++◌, Err, Option, Some, None, Bool, true, false, ⊎_elim, refl, sym, ap, ◌∙◌, subst, arith}
+use Rattle.std.proofs.lemmas.Bool.{or_cases, cases_Bool, leb-true, leb-false}
 use Rattle.gr_lex.specs.declared.token.Symbol.TheVariants as symbols
 use Rattle.gr_oql.specs.declared.keyword.Keyword.{Keyword}
 use Rattle.gr_oql.specs.declared.keyword.Keyword.TheVariants as word
@@ -136,62 +136,23 @@ module _ (before left : List Terminal) (w : Wrong) (read : query_at (before ++ l
                 let stop_there : query_at (s ∷ t ∷ more) ≡ Err (NotACq part.Projection, t ∷ more) = rw (no_import, is_select, no_star, no_distinct) refl in
                 subst (λ (u : Wrong). rank u ≤ 2) (wrong_is (sym stop_there ∙ stops)) (omega arith)
 
+-- a number that isn't above another
+unless : (m n : ℕ) → (n < m → ⊥) → m ≤ n
+unless m n never = ⊎_elim (λ within. leb-true m n within) (λ above. absurd (never (leb-false m n above))) (cases_Bool (leb m n))
+
 -- where a sign, an empty pattern or one level more would go on
 module _ (before : List Terminal) (t : Terminal) (m : List Terminal) (w : Wrong) (read : query_at (before ++ t ∷ m) ≡ Err (w, t ∷ m)) where
   bind_first : is_symbol symbols.Dollar t ≡ true → IsStart most_depth (before ++ symbol symbols.Minus ∷ []) → rank w ≤ 5
-  bind_first dollar start = by_wrong w refl
-    where
-      no_other : (v : Wrong) → w ≡ v → (v ≡ NotACq part.Bind → ⊥) → ⊥
-      no_other v is other = no_start t (symbol symbols.Minus) m (λ u. u ≡ NotACq part.Bind → ⊥) 0 (λ m'. no_dollar t m m' dollar) (sym (symbol_no_keyword symbols.Dollar word.Import t dollar)) before w (λ same. other (sym is ∙ same)) read start
-
-      by_wrong : (v : Wrong) → w ≡ v → rank v ≤ 5
-      by_wrong Expected is = absurd (no_other Expected is (λ same. absurd (cc)))
-      by_wrong TooDeep is = absurd (no_other TooDeep is (λ same. absurd (cc)))
-      by_wrong (NotACq part.Escape) is = absurd (no_other (NotACq part.Escape) is (λ same. absurd (cc)))
-      by_wrong (NotACq part.Import) is = omega arith
-      by_wrong (NotACq part.Distinct) is = omega arith
-      by_wrong (NotACq part.Projection) is = omega arith
-      by_wrong (NotACq part.Join) is = omega arith
-      by_wrong (NotACq part.Tail) is = omega arith
-      by_wrong (NotACq part.Bind) is = omega arith
+  bind_first dollar start = unless (rank w) 5 (λ above.
+      no_start t (symbol symbols.Minus) m (λ u. u ≡ NotACq part.Bind → ⊥) 0 (λ m'. no_dollar t m m' dollar) (sym (symbol_no_keyword symbols.Dollar word.Import t dollar)) before w (λ same. omega (arith, above, ap rank same)) read start)
 
   escape_first : (pattern : List ℕ) → t ≡ quoted pattern → has_backslash pattern ≡ true → IsStart most_depth (before ++ quoted [] ∷ []) → rank w ≤ 6
-  escape_first pattern quotes escaped start = by_wrong w refl
-    where
-      reads : query_at (before ++ quoted pattern ∷ m) ≡ Err (w, quoted pattern ∷ m)
-      reads = subst (λ (u : Terminal). query_at (before ++ u ∷ m) ≡ Err (w, u ∷ m)) quotes read
-
-      no_other : (v : Wrong) → w ≡ v → (v ≡ NotACq part.Escape → ⊥) → ⊥
-      no_other v is other = no_start (quoted pattern) (quoted []) m (λ u. u ≡ NotACq part.Escape → ⊥) 0 (λ m'. no_escape pattern m m' escaped) refl before w (λ same. other (sym is ∙ same)) reads start
-
-      by_wrong : (v : Wrong) → w ≡ v → rank v ≤ 6
-      by_wrong Expected is = absurd (no_other Expected is (λ same. absurd (cc)))
-      by_wrong TooDeep is = absurd (no_other TooDeep is (λ same. absurd (cc)))
-      by_wrong (NotACq part.Escape) is = omega arith
-      by_wrong (NotACq part.Import) is = omega arith
-      by_wrong (NotACq part.Distinct) is = omega arith
-      by_wrong (NotACq part.Projection) is = omega arith
-      by_wrong (NotACq part.Join) is = omega arith
-      by_wrong (NotACq part.Tail) is = omega arith
-      by_wrong (NotACq part.Bind) is = omega arith
+  escape_first pattern quotes escaped start = unless (rank w) 6 (λ above.
+      no_start (quoted pattern) (quoted []) m (λ u. u ≡ NotACq part.Escape → ⊥) 0 (λ m'. no_escape pattern m m' escaped) refl before w (λ same. omega (arith, above, ap rank same)) (subst (λ (u : Terminal). query_at (before ++ u ∷ m) ≡ Err (w, u ∷ m)) quotes read) start)
 
   deep_first : IsStart (suc most_depth) (before ++ t ∷ []) → rank w ≤ 7
-  deep_first start = by_wrong w refl
-    where
-      no_other : (v : Wrong) → w ≡ v → (v ≡ TooDeep → ⊥) → ⊥
-      no_other v is other =
-          no_start t t m (λ u. u ≡ TooDeep → ⊥) 1 (itself_alike t m (λ u. u ≡ TooDeep → ⊥) 1 (λ alias m' ordinary opens. absurd (ordinary refl))) refl before w (λ same. other (sym is ∙ same)) read start
-
-      by_wrong : (v : Wrong) → w ≡ v → rank v ≤ 7
-      by_wrong Expected is = absurd (no_other Expected is (λ same. absurd (cc)))
-      by_wrong TooDeep is = omega arith
-      by_wrong (NotACq part.Escape) is = omega arith
-      by_wrong (NotACq part.Import) is = omega arith
-      by_wrong (NotACq part.Distinct) is = omega arith
-      by_wrong (NotACq part.Projection) is = omega arith
-      by_wrong (NotACq part.Join) is = omega arith
-      by_wrong (NotACq part.Tail) is = omega arith
-      by_wrong (NotACq part.Bind) is = omega arith
+  deep_first start = unless (rank w) 7 (λ above.
+      no_start t t m (λ u. u ≡ TooDeep → ⊥) 1 (itself_alike t m (λ u. u ≡ TooDeep → ⊥) 1 (λ alias m' ordinary opens. absurd (ordinary refl))) refl before w (λ same. omega (arith, above, ap rank same)) read start)
 
 -- each fault that fits comes no earlier than the one with which the reader stopped
 first : (before left : List Terminal) (w : Wrong) → query_at (before ++ left) ≡ Err (w, left) → (other : Wrong) → Fits before left other → rank w ≤ rank other

@@ -1,10 +1,9 @@
 -- A text is answered with the fault that the grammar gives it, and with no other.
-use Rattle.std.proofs.Common.{◌≡◌, ◌⊎◌, ℕ, ◌-◌, List, [], ◌∷◌, ◌++◌, length, drop, get_or, Result, Ok, Err, if◌then◌else◌, inl, inr, refl, sym, ap, ◌∙◌, subst, append_assoc, append-nil, arith}
+use Rattle.std.proofs.Common.{◌≡◌, ◌⊎◌, ℕ, ◌-◌, List, [], ◌∷◌, ◌++◌, length, drop, get_or, Result, Ok, Err, inl, inr, refl, sym, ap, ◌∙◌, subst, append_assoc, append-nil, arith}
 use Rattle.std.proofs.Math.Seq.{drop-append_seam}
 use Rattle.std.proofs.lemmas.List.{length-append, length-map, map-append}
 use Rattle.gr_lex.specs.declared.token.Token.{Token}
 use Rattle.gr_lex.specs.declared.fault.LexFault.{LexFault}
-use Rattle.gr_lex.specs.declared.fault.LexFault.TheVariants as lex
 use Rattle.gr_lex.specs.Reading.{tokens_of}
 use Rattle.gr_lex.specs.Layout.{IsLaidOut}
 use Rattle.gr_oql.specs.declared.fault.Part.TheVariants as part
@@ -16,7 +15,7 @@ use Rattle.gr_oql.specs.Terminals.{Terminal, front, rest, as_number, terminal_of
 use Rattle.gr_oql.specs.Reading.{Reading, query_at}
 use Rattle.gr_oql.specs.Faults.{fault_of, answer, answer_of_tokens, question_of}
 use Rattle.gr_oql.specs.Grammar.{IsQuery, Asked, most_depth}
-use Rattle.gr_oql.specs.FirstFault.{IsStart, IsOver, rank, Ceases, fault_at, IsFault, place_of, is_greatest, named}
+use Rattle.gr_oql.specs.FirstFault.{IsStart, IsOver, rank, Ceases, fault_at, IsFault, place_of, fault_by}
 use Rattle.gr_lex.proofs.Laid.{tokens_laid, fault_found}
 use Rattle.gr_lex.proofs.Only.{tokens_only, tokens_fault}
 use Rattle.gr_oql.proofs.SoundQuery.{query_sound}
@@ -35,7 +34,7 @@ tokens_split text (t ∷ tokens) (b ∷ before) left is =
 -- the fault at the tokens that are left
 fault_there : (text : List ℕ) (before left : List Token) (w : Wrong) → fault_of text (before ++ left) w (terminals_of text left) ≡ fault_at text left w
 fault_there text before left w =
-    ap (λ (l : List Token). if is_greatest (front as_number (terminals_of text left)) then fault.Lex (lex.NumberTooLarge (place_of text l)) else named w (place_of text l)) there
+    ap (λ (l : List Token). fault_by (place_of text l) (front as_number (terminals_of text left)) w) there
   where
     count : length (before ++ left) - length (terminals_of text left) ≡ length before
     count = omega (arith, length-append before left, length-map left (terminal_of text))

@@ -22,9 +22,6 @@ abbrev no_end : List Terminal → Wrong
 no_end [] = Expected
 no_end (t ∷ ts) = if is_tail t then NotACq part.Tail else Expected
 
-abbrev no_bare_end : List Terminal → Wrong
-no_bare_end ts = if begins (is_symbol symbols.Comma) ts then NotACq part.Join else no_end ts
-
 -- a query from SELECT on
 abbrev selection_at : ℕ → List Terminal → Reading Asked
 selection_at depth ts = keyword_at word.Select ts >>= λ select. star_at select.1 >>= λ star. keyword_at word.From star.1 >>= λ from. symbol_at symbols.Slash from.1 >>= λ slash. source_at depth slash.1
@@ -55,9 +52,6 @@ module _ {t t' : Terminal} {m m' : List Terminal} {Ordinary : Wrong → Type 0} 
   end_stays : Stays t t' m m' Ordinary end_at end_at
   end_stays = stays_by leaves follows
     where
-      stops_at : (s : Terminal) (ts : List Terminal) → end_at (s ∷ ts) ≡ stop (no_end (s ∷ ts)) (s ∷ ts)
-      stops_at s ts = refl
-
       leaves : (ts : List Terminal) → Leaves ts (end_at ts)
       leaves [] = ok_leaves tt []
       leaves (s ∷ ts) = stop_leaves (no_end (s ∷ ts)) (s ∷ ts)

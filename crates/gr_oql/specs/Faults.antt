@@ -1,5 +1,5 @@
 -- What a text asks, or its fault and where it is.
-use Rattle.std.specs.Prelude.{◌≡◌, ℕ, ◌-◌, List, length, drop, if◌then◌else◌, Result, Ok, Err}
+use Rattle.std.specs.Prelude.{◌≡◌, ℕ, ◌-◌, List, length, drop, Result, Ok, Err}
 use Rattle.gr_lex.specs.declared.token.Token.{Token}
 use Rattle.gr_lex.specs.declared.fault.LexFault.{LexFault}
 use Rattle.gr_lex.specs.declared.fault.LexFault.TheVariants as lex
@@ -10,14 +10,12 @@ use Rattle.gr_oql.specs.declared.stop.Wrong.{Wrong}
 use Rattle.gr_oql.specs.Question.{Question}
 use Rattle.gr_oql.specs.Terminals.{Terminal, terminals_of, front, as_number}
 use Rattle.gr_oql.specs.Grammar.{Asked}
-use Rattle.gr_oql.specs.FirstFault.{place_of, is_greatest, named}
+use Rattle.gr_oql.specs.FirstFault.{place_of, fault_by}
 use Rattle.gr_oql.specs.Reading.{Reading, query_at}
 
--- A number that would be right behind a sign is too large wherever the tokens cease to begin a query with it.
+-- the fault at the tokens of which so many are left
 abbrev pub fault_of : List ℕ → List Token → Wrong → List Terminal → OqlFault
-fault_of text tokens w left =
-    let place = place_of text (drop (length tokens - length left) tokens) in
-    if is_greatest (front as_number left) then fault.Lex (lex.NumberTooLarge place) else named w place
+fault_of text tokens w left = fault_by (place_of text (drop (length tokens - length left) tokens)) (front as_number left) w
 
 abbrev pub answer : List ℕ → List Token → Reading Asked → Result Question OqlFault
 answer text tokens (Ok x) = Ok (record { text = text; region = x.0.region; alias = x.0.alias; condition = x.0.condition })

@@ -79,10 +79,11 @@ named (NotACq which) place = fault.NotACq place which
 named TooDeep place = fault.TooDeep place
 
 -- A number that would be right behind a sign is too large wherever the tokens cease to begin a query with it.
+abbrev pub fault_by : ℕ → Option ℕ → Wrong → OqlFault
+fault_by place number w = if is_greatest number then fault.Lex (lex.NumberTooLarge place) else named w place
+
 abbrev pub fault_at : List ℕ → List Token → Wrong → OqlFault
-fault_at text left w =
-    if is_greatest (front as_number (terminals_of text left)) then fault.Lex (lex.NumberTooLarge (place_of text left))
-    else named w (place_of text left)
+fault_at text left w = fault_by (place_of text left) (front as_number (terminals_of text left)) w
 
 -- A text has a fault of its tokens; or it is laid out of tokens that cease to begin a query.
 abbrev pub IsFault : List ℕ → OqlFault → Type 0
