@@ -2,10 +2,12 @@ ghost use Rattle.std.specs.Prelude.{◌≡◌};
 
 use crate::{Done, Identity, Shard};
 use gr_history::{Ask, Reply};
-use gr_stamp::LIMIT;
 use gr_value::{Key, Value};
 use std::alloc::Global;
 use std::test::Fail;
+
+// The greatest version.
+const GREATEST: u64 = 281_474_976_710_655;
 
 fn only_shard() -> Identity
     ensures { result ≡ record { member = 1; members = 1; founders = 1; shard = 0; shards = 1 } }
@@ -40,7 +42,7 @@ fn made_version(done: &Done) -> u64 {
 #[test]
 fn limit_at_one_shard(rt: HostRuntime) -> Result<(), Fail> {
     let alloc = rt.alloc();
-    let mut shard = Shard::new(alloc, only_shard(), LIMIT)?;
+    let mut shard = Shard::new(alloc, only_shard(), GREATEST)?;
     let done = shard.call(alloc, 1, 1, &put(alloc, b"{}")?)?;
     assert!(rt; matches!(&done.reply, Reply::Limit));
     assert_eq!(rt; (made_version(&done), done.to), (0, 0));
@@ -54,7 +56,7 @@ fn limit_at_one_shard(rt: HostRuntime) -> Result<(), Fail> {
             left.region.rows.len(),
             left.region.floor
         ),
-        (2, 0, LIMIT)
+        (2, 0, GREATEST)
     );
     Ok(())
 }
@@ -63,9 +65,9 @@ fn limit_at_one_shard(rt: HostRuntime) -> Result<(), Fail> {
 #[test]
 fn one_below_the_limit(rt: HostRuntime) -> Result<(), Fail> {
     let alloc = rt.alloc();
-    let mut shard = Shard::new(alloc, only_shard(), LIMIT - 1)?;
+    let mut shard = Shard::new(alloc, only_shard(), GREATEST - 1)?;
     let done = shard.call(alloc, 1, 1, &put(alloc, b"{}")?)?;
-    assert_eq!(rt; (made_version(&done), done.to), (LIMIT, 0));
+    assert_eq!(rt; (made_version(&done), done.to), (GREATEST, 0));
     let done = shard.call(alloc, 1, 2, &put(alloc, b"{\"x\":1}")?)?;
     assert!(rt; matches!(&done.reply, Reply::Limit));
     let key = Key::read(alloc, b"a")?;
@@ -81,7 +83,7 @@ fn one_below_the_limit(rt: HostRuntime) -> Result<(), Fail> {
             left.region.tombstones,
             shard.floor()
         ),
-        (1, 0, LIMIT - 1)
+        (1, 0, GREATEST - 1)
     );
     Ok(())
 }
