@@ -19,7 +19,7 @@ use Rattle.gr_history.specs.Lawful.{IsLawful, IsLawfulDeed}
 use Rattle.gr_history.specs.Regions.{region_of}
 use Rattle.gr_script.specs.declared.script.Script.{Script}
 use Rattle.gr_world.specs.Calls.{Asking, identity, asking_of, answer_of}
-use Rattle.gr_world.specs.Replayed.{IsShardLeft, AreShardsLeft, AreMembersLeft, IsClientLeft, AreClientsLeft, IsReplayed, IsOnlyReplayed, deeds_at, trimmed_shard, trimmed_member, trimmed}
+use Rattle.gr_world.specs.Replayed.{IsShardRecord, AreShardRecords, AreMemberRecords, IsClientRecord, AreClientRecords, IsReplayed, IsOnlyReplayed, deeds_at, trimmed_shard, trimmed_member, trimmed}
 
 map-reverse : {X Y : Type 0} (f : X → Y) (xs : List X) → map f (reverse xs) ≡ reverse (map f xs)
 map-reverse f [] = refl
@@ -60,7 +60,7 @@ one_history id opening one other lawful also same =
     (map-reverse asking_of one ∙ ap (λ askings. reverse askings) same ∙ sym (map-reverse asking_of other)) in
     sym (reverse-reverse one) ∙ ap (λ deeds. reverse deeds) turned ∙ reverse-reverse other
 
-one_shard : (script : Script) (member shard : ℕ) (one other : ShardRecord) → IsShardLeft script member shard one → IsShardLeft script member shard other
+one_shard : (script : Script) (member shard : ℕ) (one other : ShardRecord) → IsShardRecord script member shard one → IsShardRecord script member shard other
     → trimmed_shard one ≡ trimmed_shard other
 one_shard script member shard one other left also =
     let deeds : one.history.deeds ≡ other.history.deeds =
@@ -70,12 +70,12 @@ one_shard script member shard one other left also =
     ∙ ap (λ r. trimmed_shard (record { history = other.history; region = r })) region
 
 -- No list of shards goes past the last.
-shards_within : (script : Script) (member shard : ℕ) (lefts : List ShardRecord) → AreShardsLeft script member shard lefts → shard ≤ script.shards
+shards_within : (script : Script) (member shard : ℕ) (lefts : List ShardRecord) → AreShardRecords script member shard lefts → shard ≤ script.shards
 shards_within script member shard [] all = omega (arith, all)
 shards_within script member shard (left ∷ rest) all = omega (arith, shards_within script member (shard + 1) rest all.1)
 
-one_shards : (script : Script) (member shard : ℕ) (one other : List ShardRecord) → AreShardsLeft script member shard one
-    → AreShardsLeft script member shard other → map trimmed_shard one ≡ map trimmed_shard other
+one_shards : (script : Script) (member shard : ℕ) (one other : List ShardRecord) → AreShardRecords script member shard one
+    → AreShardRecords script member shard other → map trimmed_shard one ≡ map trimmed_shard other
 one_shards script member shard [] [] all also = refl
 one_shards script member shard [] (left ∷ rest) all also = absurd (omega (arith, all, shards_within script member (shard + 1) rest also.1))
 one_shards script member shard (left ∷ rest) [] all also = absurd (omega (arith, also, shards_within script member (shard + 1) rest all.1))
@@ -83,7 +83,7 @@ one_shards script member shard (left ∷ rest) (first ∷ others) all also =
     ap (λ s. s ∷ map trimmed_shard rest) (one_shard script member shard left first all.0 also.0)
     ∙ ap (λ ss. trimmed_shard first ∷ ss) (one_shards script member (shard + 1) rest others all.1 also.1)
 
-members_within : (script : Script) (number : ℕ) (lefts : List MemberRecord) → AreMembersLeft script number lefts → number ≤ script.members + 1
+members_within : (script : Script) (number : ℕ) (lefts : List MemberRecord) → AreMemberRecords script number lefts → number ≤ script.members + 1
 members_within script number [] all = omega (arith, all)
 members_within script number (left ∷ rest) all = omega (arith, members_within script (number + 1) rest all.2)
 
@@ -93,8 +93,8 @@ one_member one other number shards =
     let member : ℕ → List ShardRecord → MemberRecord = λ n ss. record { member = n; shards = ss } in
     ap (λ n. member n (map trimmed_shard one.shards)) number ∙ ap (member other.member) shards
 
-one_members : (script : Script) (number : ℕ) (one other : List MemberRecord) → AreMembersLeft script number one
-    → AreMembersLeft script number other → map trimmed_member one ≡ map trimmed_member other
+one_members : (script : Script) (number : ℕ) (one other : List MemberRecord) → AreMemberRecords script number one
+    → AreMemberRecords script number other → map trimmed_member one ≡ map trimmed_member other
 one_members script number [] [] all also = refl
 one_members script number [] (left ∷ rest) all also = absurd (omega (arith, all, members_within script (number + 1) rest also.2))
 one_members script number (left ∷ rest) [] all also = absurd (omega (arith, also, members_within script (number + 1) rest all.2))
@@ -125,7 +125,7 @@ deeds_at_kept member (left ∷ rest) =
 -- What a client was told is told from the deeds at its member.
 one_client : (script : Script) (members others : List MemberRecord) (number : ℕ) (one other : ClientRecord)
     → ((member : ℕ) → deeds_at member members ≡ deeds_at member others)
-    → IsClientLeft script members number one → IsClientLeft script others number other → one ≡ other
+    → IsClientRecord script members number one → IsClientRecord script others number other → one ≡ other
 one_client script members others number one other deeds left also =
     let member : one.member ≡ other.member = left.member ∙ sym also.member in
     let answers : one.answers ≡ other.answers =
@@ -135,13 +135,13 @@ one_client script members others number one other deeds left also =
     ap (λ c. told c one.member one.answers) client ∙ ap (λ m. told other.client m one.answers) member ∙ ap (told other.client other.member) answers
 
 clients_within : (script : Script) (members : List MemberRecord) (number : ℕ) (lefts : List ClientRecord)
-    → AreClientsLeft script members number lefts → number ≤ length script.clients + 1
+    → AreClientRecords script members number lefts → number ≤ length script.clients + 1
 clients_within script members number [] all = omega (arith, all)
 clients_within script members number (left ∷ rest) all = omega (arith, clients_within script members (number + 1) rest all.1)
 
 one_clients : (script : Script) (members others : List MemberRecord) (number : ℕ) (one other : List ClientRecord)
     → ((member : ℕ) → deeds_at member members ≡ deeds_at member others)
-    → AreClientsLeft script members number one → AreClientsLeft script others number other → one ≡ other
+    → AreClientRecords script members number one → AreClientRecords script others number other → one ≡ other
 one_clients script members others number [] [] deeds all also = refl
 one_clients script members others number [] (left ∷ rest) deeds all also = absurd (omega (arith, all, clients_within script others (number + 1) rest also.1))
 one_clients script members others number (left ∷ rest) [] deeds all also = absurd (omega (arith, also, clients_within script members (number + 1) rest all.1))

@@ -3,12 +3,12 @@ use Rattle.std.proofs.lemmas.List.{take_more}
 use Rattle.gr_history.specs.declared.record.Answer.{Answer}
 use Rattle.gr_report.specs.Answers.{answer_line, answers_from}
 use Rattle.gr_report.proofs.Lines.{answers_from-push}
-use Rattle.gr_report.proofs.answers.put_client.Goals as goal
+use Rattle.gr_report.proofs.answers.ClientRecordWritten.put.Goals as goal
 
 pub loop-place-preserved : goal.loop-place-preserved
 loop-place-preserved c =
-    let all : List Answer = c.args.left.now.answers in
-    let client = c.args.left.now.client in
+    let all : List Answer = c.args.self.now.answers in
+    let client = c.args.self.now.client in
     let place = c.loop-place.place in
     let told : Answer = c.answer-item.result in
     let before : List ℕ = c.args.out.now.items in
