@@ -128,7 +128,10 @@ fn keys_are_read(rt: HostRuntime) {
     assert!(rt; Key::read(rt.alloc(), &most).is_ok());
     assert_eq!(rt; Key::read(rt.alloc(), &more).err(), Some(KeyFault::TooLong));
     let blanks = vec![in rt.alloc(); b' '; 256].expect(&rt, "there is memory");
-    assert_eq!(rt; Key::read(rt.alloc(), &blanks).err(), Some(KeyFault::TooLong));
+    assert_eq!(rt;
+        Key::read(rt.alloc(), &blanks).err(),
+        Some(KeyFault::TooLong)
+    );
     assert_eq!(rt; Key::read(rt.alloc(), b"").err(), Some(KeyFault::Empty));
     assert_eq!(rt;
         Key::read(rt.alloc(), b"a b").err(),
