@@ -20,17 +20,20 @@ pub record IsShardRecord (script : Script) (member shard : ℕ) (shard_record : 
 -- the shards of a member, from this one on
 abbrev pub AreShardRecords : Script → ℕ → ℕ → List ShardRecord → Type 0
 AreShardRecords script member shard [] = shard ≡ script.shards
-AreShardRecords script member shard (shard_record ∷ rest) = IsShardRecord script member shard shard_record × AreShardRecords script member (shard + 1) rest
+AreShardRecords script member shard (shard_record ∷ rest) = IsShardRecord script member shard shard_record
+    × AreShardRecords script member (shard + 1) rest
 
 -- the members from this one on
 abbrev pub AreMemberRecords : Script → ℕ → List MemberRecord → Type 0
 AreMemberRecords script number [] = number ≡ script.members + 1
-AreMemberRecords script number (member_record ∷ rest) = (member_record.member ≡ number) × AreShardRecords script number 0 member_record.shards × AreMemberRecords script (number + 1) rest
+AreMemberRecords script number (member_record ∷ rest) = (member_record.member ≡ number)
+    × AreShardRecords script number 0 member_record.shards × AreMemberRecords script (number + 1) rest
 
 -- the deeds at a member, shard after shard
 abbrev pub deeds_at : ℕ → List MemberRecord → List Deed
 deeds_at member members =
-    flat_map (λ member_record. flat_map (λ shard. shard.history.deeds) member_record.shards) (filter (λ member_record. member_record.member == member) members)
+    flat_map (λ member_record. flat_map (λ shard. shard.history.deeds) member_record.shards)
+    (filter (λ member_record. member_record.member == member) members)
 
 -- A client was told the replies of its deeds.
 pub record IsClientRecord (script : Script) (members : List MemberRecord) (number : ℕ) (client_record : ClientRecord) : Type 0 where
@@ -41,7 +44,8 @@ pub record IsClientRecord (script : Script) (members : List MemberRecord) (numbe
 -- the clients from this one on
 abbrev pub AreClientRecords : Script → List MemberRecord → ℕ → List ClientRecord → Type 0
 AreClientRecords script members number [] = number ≡ length script.clients + 1
-AreClientRecords script members number (client_record ∷ rest) = IsClientRecord script members number client_record × AreClientRecords script members (number + 1) rest
+AreClientRecords script members number (client_record ∷ rest) = IsClientRecord script members number client_record
+    × AreClientRecords script members (number + 1) rest
 
 pub record IsReplayed (script : Script) (record_of : Record) : Type 0 where
   pub members : AreMemberRecords script 1 record_of.members

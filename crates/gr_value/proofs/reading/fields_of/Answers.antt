@@ -21,9 +21,11 @@ loop-name-preserved c = record {
   can_next = tt;
   is_finite = tt;
   so_far =
-      let so_far : HasRead c.args.members.entries c.loop-name.fields c.loop-name.place ((c.in-Some.name, c.in-Some.json) ∷ c.next.new.self) =
+      let so_far : HasRead c.args.members.entries c.loop-name.fields c.loop-name.place
+      ((c.in-Some.name, c.in-Some.json) ∷ c.next.new.self) =
       rw c.in-Some.ensures.steps at c.loop-name.invariant.so_far in
-      rw c.in_ok-push.ensures.ok (read_more _ _ _ (c.in-Some.name, c.in-Some.json) _ (record { name = c.of_string.result; scalar = c.in_ok-scalar.scalar }) so_far c.of_string.ensures.text
+      rw c.in_ok-push.ensures.ok (read_more _ _ _ (c.in-Some.name, c.in-Some.json) _
+      (record { name = c.of_string.result; scalar = c.in_ok-scalar.scalar }) so_far c.of_string.ensures.text
       (sym c.in_ok-scalar.ensures.value) (c.of_string.ensures.utf8, c.in_ok-scalar.ensures.scalar));
 }
 
@@ -32,7 +34,12 @@ returns-in_err-scalar c =
     let so_far : HasRead c.args.members.entries c.loop-name.fields c.loop-name.place ((c.in-Some.name, c.in-Some.json) ∷ c.next.new.self) =
     rw c.in-Some.ensures.steps at c.loop-name.invariant.so_far in
     let p = err_from_is_err_and c.from_residual-in_err-scalar.result c.from_residual-in_err-scalar.ensures.1 in
-    rw (p.1, p.2) (record { value = inr (read_fault _ _ _ _ _ _ so_far (sym c.in_err-scalar.ensures.value)); readable = tt; ascending = tt })
+    rw (p.1, p.2) (record {
+      value = inr (read_fault _ _ _ _ _ _ so_far (sym c.in_err-scalar.ensures.value));
+      readable = tt;
+      ascending =
+          tt;
+    })
 
 pub returns : goal.returns
 returns c =
