@@ -89,7 +89,7 @@ fn fields_by_json(alloc: Global, bytes: &[u8]) -> Result<Vec<Field>, ValueFault>
     }
 }
 
-/// Most texts are what their value prints, and need no JSON reader.
+// Most texts are what their value prints, and need no JSON reader.
 fn fields_of_bytes(alloc: Global, bytes: &[u8]) -> Result<Vec<Field>, ValueFault>
     requires { length bytes.now ≤ 1024 }
     ensures value { MatchResult result (λ fields. read_value bytes.now ≡ Ok fields.items)

@@ -1,6 +1,6 @@
 use crate::{Copied, Key, KeyFault, KeyList, Scalar, Value, ValueFault};
 
-/// What the value of a text prints, or why the text is none.
+// What the value of a text prints, or why the text is none.
 fn printed(rt: &HostRuntime, text: &[u8]) -> Result<Vec<u8>, ValueFault> {
     let value = Value::read(rt.alloc(), text)?;
     let mut out = Vec::new(rt.alloc());
@@ -83,7 +83,7 @@ fn values_are_refused_for_their_first_fault(rt: HostRuntime) {
     }
 }
 
-/// So many opening brackets and as many closing ones.
+// So many opening brackets and as many closing ones.
 fn brackets(rt: &HostRuntime, depth: usize) -> Result<Vec<u8>, ValueFault> {
     let mut text = vec![in rt.alloc(); b'['; depth]?;
     text.extend_from_slice(&vec![in rt.alloc(); b']'; depth]?)?;

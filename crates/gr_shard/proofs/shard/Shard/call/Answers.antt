@@ -24,5 +24,6 @@ invariant_of-self-2 c =
     ∙ ap (λ deeds. deeds ++ c.in_ok-deed.deed ∷ []) c.in_ok-reserve.ensures.deeds
     ∙ ap (λ deed. was.history.deeds ++ deed ∷ []) c.in_ok-deed.ensures in
     rw (pushed, reverse-append, c.count_with-self-inside.ensures)
-    (kept_after was.id was.opening was.floor was.entries c.enter.new.entries was.made past c.args.client c.args.seq c.args.ask.now done.reply done.made done.to
+    (kept_after was.id was.opening was.floor was.entries c.enter.new.entries was.made past c.args.client c.args.seq c.args.ask.now
+    done.reply done.made done.to
     c.self.invariant here gives c.in_ok-enter.ensures.ok)
