@@ -1,0 +1,1 @@
+-- Ids in order: the same ids are one list.
