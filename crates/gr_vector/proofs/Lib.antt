@@ -2,4 +2,8 @@ pub mod Apart
 pub mod Common
 pub mod Edits
 pub mod Ends
+pub mod Members
+pub mod Order
 pub mod Places
+pub mod Tops
+pub mod Views

@@ -21,9 +21,10 @@ ids_from member (missing ∷ rest) = ids_of member (numbers (greatest missing.ga
 abbrev pub view_of : List Missing → ℕ → Ids
 view_of members spare = record { ids = ids_from 1 members; spare = spare }
 
--- each of eight members has so much room
+-- each of eight members has so much room, which is for one range or for none
 pub record HaveRoom (members : List Missing) (spare : ℕ) : Type 0 where
   pub eight : length members ≡ 8
+  pub most : spare ≤ 1
   pub room : (k : ℕ) (d : Missing) → k < 8 → spare ≤ (slice_index_or members k d).spare
 
 -- whether the member at a place has a number

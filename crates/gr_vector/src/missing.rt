@@ -153,7 +153,8 @@ impl Missing {
     }
 
     pub fn exceptions(&self) -> u64
-        ensures { result ≡ ends_upto (greatest self.now.gaps) self.now.gaps }
+        ensures exceptions { result ≡ ends_upto (greatest self.now.gaps) self.now.gaps }
+        ensures held { 1 ≤ greatest self.now.gaps → holds (greatest self.now.gaps) self.now.gaps ≡ true }
     {
         self.gaps.len() as u64 - 1
     }

@@ -1,5 +1,6 @@
 use crate::Vector;
-use gr_value::ItemList;
+use gr_value::{Copied, ItemList, Memory};
+use std::alloc::Global;
 
 /// What a member says of a shard: the length of its history, the greatest number of its own changes,
 /// and all the ids that it knows.
@@ -12,3 +13,14 @@ pub struct Report {
 }
 
 pub type ReportList = ItemList<Report>;
+
+impl Copied for Report {
+    fn copy(&self, alloc: Global) -> Result<Report, Memory> {
+        Ok(Report {
+            member: self.member,
+            at: self.at,
+            own: self.own,
+            vector: Copied::copy(&self.vector, alloc)?,
+        })
+    }
+}
