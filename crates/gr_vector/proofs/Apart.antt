@@ -29,7 +29,7 @@ pub none_below : (v low end : ℕ) (gaps : List Gap) → AreApart low end gaps �
 none_below v low end [] h lt = refl
 none_below v low end (gap ∷ rest) h lt =
     outside_below gap.first gap.last v (is_missing v rest) (omega (arith, h.0))
-        (none_below v (gap.last + 2) end rest h.2 (omega (arith, h.0, h.1)))
+    (none_below v (gap.last + 2) end rest h.2 (omega (arith, h.0, h.1)))
 
 pub start_above : (low end b s : ℕ) (gaps : List Gap) → AreApart low end gaps → b ≤ s → b ≤ low → b ≤ last_start s gaps
 start_above low end b s [] h k m = k
@@ -71,7 +71,7 @@ holds_is v gaps h =
     let a = start_above 1 END 1 1 gaps h.0 (omega arith) (omega arith) in
     let b = start_below 1 END 1 gaps h.0 (omega arith) in
     is_held v (greatest gaps) END (is_missing v gaps)
-        (λ k m. all_above v 1 END 1 gaps h.0 h.1 (omega (arith, k, a)) m) (omega (arith, a, b))
+    (λ k m. all_above v 1 END 1 gaps h.0 h.1 (omega (arith, k, a)) m) (omega (arith, a, b))
 
 within : (v end : ℕ) (m : Bool) → 1 ≤ v → v ≤ end → (ltb 0 v && (leb v end && not m)) ≡ not m
 within v end m h k = grind (arith, nat_tests)

@@ -30,7 +30,7 @@ overlaps_missing q one [] = never (is_in q one)
 overlaps_missing q one (two ∷ rest) =
     missing_append q (overlap one two) (overlaps one rest)
     ∙ joined (is_missing q (overlap one two)) (is_missing q (overlaps one rest)) (is_in q one) (is_in q two) (is_missing q rest)
-        (overlap_missing q one two) (overlaps_missing q one rest)
+    (overlap_missing q one two) (overlaps_missing q one rest)
   where
     joined : (m n a b c : Bool) → m ≡ (a && b) → n ≡ (a && c) → (m || n) ≡ (a && (b || c))
     joined m n a b c h k = grind arith
@@ -40,7 +40,7 @@ common_missing q [] theirs = refl
 common_missing q (one ∷ rest) theirs =
     missing_append q (overlaps one theirs) (common rest theirs)
     ∙ joined (is_missing q (overlaps one theirs)) (is_missing q (common rest theirs)) (is_in q one) (is_missing q rest) (is_missing q theirs)
-        (overlaps_missing q one theirs) (common_missing q rest theirs)
+    (overlaps_missing q one theirs) (common_missing q rest theirs)
   where
     joined : (m n a b c : Bool) → m ≡ (a && c) → n ≡ (b && c) → (m || n) ≡ ((a || b) && c)
     joined m n a b c h k = grind arith
@@ -50,8 +50,8 @@ overlaps_apart : (low their end : ℕ) (one : Gap) (theirs : List Gap) → low �
 overlaps_apart low their end one [] h k apart = k
 overlaps_apart low their end one (two ∷ rest) h k apart =
     at_test (leb (max one.first two.first) (min one.last two.last)) refl
-        (overlaps_apart (min one.last two.last + 2) (two.last + 2) end one rest (omega arith) (omega arith) apart.2)
-        (overlaps_apart low (two.last + 2) end one rest (omega (arith, h, apart.0, apart.1)) k apart.2)
+    (overlaps_apart (min one.last two.last + 2) (two.last + 2) end one rest (omega arith) (omega arith) apart.2)
+    (overlaps_apart low (two.last + 2) end one rest (omega (arith, h, apart.0, apart.1)) k apart.2)
   where
     below : (a b : ℕ) → leb a b ≡ true → a ≤ b
     below a b e = grind (arith, nat_tests)
@@ -59,7 +59,7 @@ overlaps_apart low their end one (two ∷ rest) h k apart =
     at_test : (b : Bool) → leb (max one.first two.first) (min one.last two.last) ≡ b
         → AreApart (min one.last two.last + 2) one.last (overlaps one rest) → AreApart low one.last (overlaps one rest)
         → AreApart low one.last
-            ((if b then record { first = max one.first two.first; last = min one.last two.last } ∷ [] else []) ++ overlaps one rest)
+        ((if b then record { first = max one.first two.first; last = min one.last two.last } ∷ [] else []) ++ overlaps one rest)
     at_test true e behind all = (omega (arith, h, apart.0), below (max one.first two.first) (min one.last two.last) e, behind)
     at_test false e behind all = all
 
@@ -72,8 +72,8 @@ common_apart low their end [] theirs h k = h
 common_apart low their end (one ∷ rest) theirs h k =
     let a = apart_low (one.last + 2) end rest h.2 in
     apart_append low one.last end (overlaps one theirs) (common rest theirs) (omega (arith, a))
-        (overlaps_apart low their end one theirs (omega (arith, h.0)) (omega (arith, h.0, h.1)) k)
-        (common_apart (one.last + 2) their end rest theirs h.2 k)
+    (overlaps_apart low their end one theirs (omega (arith, h.0)) (omega (arith, h.0, h.1)) k)
+    (common_apart (one.last + 2) their end rest theirs h.2 k)
 
 pub common_gaps : (ours theirs : List Gap) → AreGaps ours → AreGaps theirs → AreGaps (common ours theirs)
 common_gaps ours theirs h k =
@@ -85,8 +85,8 @@ common_gaps ours theirs h k =
 pub common_holds : (v : ℕ) (ours theirs : List Gap) → AreGaps ours → AreGaps theirs → holds v (common ours theirs) ≡ (holds v ours || holds v theirs)
 common_holds v ours theirs h k =
     joined (ltb 0 v) (leb v END) (is_missing v (common ours theirs)) (is_missing v ours) (is_missing v theirs)
-        (holds v (common ours theirs)) (holds v ours) (holds v theirs)
-        (common_missing v ours theirs) (holds_is v (common ours theirs) (common_gaps ours theirs h k)) (holds_is v ours h) (holds_is v theirs k)
+    (holds v (common ours theirs)) (holds v ours) (holds v theirs)
+    (common_missing v ours theirs) (holds_is v (common ours theirs) (common_gaps ours theirs h k)) (holds_is v ours h) (holds_is v theirs k)
   where
     joined : (a b m n o x y z : Bool) → m ≡ (n && o) → x ≡ (a && (b && not m)) → y ≡ (a && (b && not n)) → z ≡ (a && (b && not o)) → x ≡ (y || z)
     joined a b m n o x y z h p q r = grind arith
@@ -98,7 +98,7 @@ none_if true gap e = absurd (cc)
 no_overlap : (one two : Gap) → one.last < two.first → overlap one two ≡ []
 no_overlap one two h =
     none_if (leb (max one.first two.first) (min one.last two.last)) (record { first = max one.first two.first; last = min one.last two.last })
-        (apart one.first one.last two.first two.last h)
+    (apart one.first one.last two.first two.last h)
   where
     apart : (a b c d : ℕ) → b < c → leb (max a c) (min b d) ≡ false
     apart a b c d h = grind (arith, nat_tests)
@@ -106,7 +106,7 @@ no_overlap one two h =
 no_overlap_before : (one two : Gap) → two.last < one.first → overlap one two ≡ []
 no_overlap_before one two h =
     none_if (leb (max one.first two.first) (min one.last two.last)) (record { first = max one.first two.first; last = min one.last two.last })
-        (apart one.first one.last two.first two.last h)
+    (apart one.first one.last two.first two.last h)
   where
     apart : (a b c d : ℕ) → d < a → leb (max a c) (min b d) ≡ false
     apart a b c d h = grind (arith, nat_tests)
@@ -153,8 +153,8 @@ pub walk_ours : (i j : ℕ) (ours theirs : List Gap) (d e : Gap) → AreApart 1 
 walk_ours i j ours theirs d e h k i_lt j_lt lt =
     let a = apart_drop j 1 END theirs k in
     rw (add-one i) (rw (drop-cons ours i d i_lt, drop-cons theirs j e j_lt)
-        (common_ours a.0 END (get_or ours i d) (get_or theirs j e) (drop (suc i) ours) (drop (suc j) theirs)
-            (subst (λ xs. AreApart a.0 END xs) (drop-cons theirs j e j_lt) a.1) lt))
+    (common_ours a.0 END (get_or ours i d) (get_or theirs j e) (drop (suc i) ours) (drop (suc j) theirs)
+    (subst (λ xs. AreApart a.0 END xs) (drop-cons theirs j e j_lt) a.1) lt))
 
 pub walk_theirs : (i j : ℕ) (ours theirs : List Gap) (d e : Gap) → AreApart 1 END ours → AreApart 1 END theirs → i < length ours → j < length theirs
     → (get_or theirs j e).last ≤ (get_or ours i d).last
@@ -162,8 +162,8 @@ pub walk_theirs : (i j : ℕ) (ours theirs : List Gap) (d e : Gap) → AreApart 
 walk_theirs i j ours theirs d e h k i_lt j_lt le =
     let a = apart_drop i 1 END ours h in
     rw (add-one j) (rw (drop-cons ours i d i_lt, drop-cons theirs j e j_lt)
-        (common_theirs a.0 END (get_or ours i d) (get_or theirs j e) (drop (suc i) ours) (drop (suc j) theirs)
-            (subst (λ xs. AreApart a.0 END xs) (drop-cons ours i d i_lt) a.1) le))
+    (common_theirs a.0 END (get_or ours i d) (get_or theirs j e) (drop (suc i) ours) (drop (suc j) theirs)
+    (subst (λ xs. AreApart a.0 END xs) (drop-cons ours i d i_lt) a.1) le))
 
 -- what was found, with what is left to find
 pub walk_on : (done both here left next all : List Gap) → both ≡ done ++ here → left ≡ here ++ next → done ++ left ≡ all → both ++ next ≡ all

@@ -213,7 +213,7 @@ out_whole v low end place gap gaps h at e =
     let own = its_own v place gap gaps at in
     let b = bounds v gap.first gap.last own in
     at_place (λ xs k. take k xs ++ drop (suc k) xs) v low end place gap gaps own (λ first rest k. refl)
-        (λ rest. none_left v gap rest (omega (arith, b.1, e)) (omega (arith, b.0, e))) h at.lt at.is
+    (λ rest. none_left v gap rest (omega (arith, b.1, e)) (omega (arith, b.0, e))) h at.lt at.is
 
 pub out_first : (v low end place : ℕ) (gap : Gap) (gaps : List Gap) → AreApart low end gaps → IsAt v place gap gaps → gap.first ≢ gap.last
     → gap.first ≡ v → set gaps place (record { first = v + 1; last = gap.last }) ≡ without v gaps
@@ -221,7 +221,7 @@ out_first v low end place gap gaps h at ne e =
     let own = its_own v place gap gaps at in
     let b = bounds v gap.first gap.last own in
     at_place (λ xs k. set xs k (record { first = v + 1; last = gap.last })) v low end place gap gaps own (λ first rest k. refl)
-        (λ rest. back_left v gap rest (omega (arith, e)) (omega (arith, b.1, e, ne))) h at.lt at.is
+    (λ rest. back_left v gap rest (omega (arith, e)) (omega (arith, b.1, e, ne))) h at.lt at.is
 
 pub out_last : (v low end place : ℕ) (gap : Gap) (gaps : List Gap) → AreApart low end gaps → IsAt v place gap gaps → gap.first ≢ v
     → gap.last ≡ v → set gaps place (record { first = gap.first; last = v - 1 }) ≡ without v gaps
@@ -229,7 +229,7 @@ out_last v low end place gap gaps h at ne e =
     let own = its_own v place gap gaps at in
     let b = bounds v gap.first gap.last own in
     at_place (λ xs k. set xs k (record { first = gap.first; last = v - 1 })) v low end place gap gaps own (λ first rest k. refl)
-        (λ rest. front_left v gap rest (omega (arith, b.0, ne)) (omega (arith, e))) h at.lt at.is
+    (λ rest. front_left v gap rest (omega (arith, b.0, ne)) (omega (arith, e))) h at.lt at.is
 
 pub out_middle : (v low end place : ℕ) (gap : Gap) (gaps : List Gap) → AreApart low end gaps → IsAt v place gap gaps → gap.first ≢ v → gap.last ≢ v
     → set (take (suc place) gaps ++ record { first = v + 1; last = gap.last } ∷ drop (suc place) gaps) place (record { first = gap.first; last = v - 1 })
@@ -238,8 +238,8 @@ out_middle v low end place gap gaps h at ne nl =
     let own = its_own v place gap gaps at in
     let b = bounds v gap.first gap.last own in
     at_place (λ xs k. set (take (suc k) xs ++ record { first = v + 1; last = gap.last } ∷ drop (suc k) xs) k (record { first = gap.first; last = v - 1 }))
-        v low end place gap gaps own (λ first rest k. refl)
-        (λ rest. both_left v gap rest (omega (arith, b.0, ne)) (omega (arith, b.1, nl))) h at.lt at.is
+    v low end place gap gaps own (λ first rest k. refl)
+    (λ rest. both_left v gap rest (omega (arith, b.0, ne)) (omega (arith, b.1, nl))) h at.lt at.is
 
 pub without_gaps : (v : ℕ) (gaps : List Gap) → AreGaps gaps → v < END → AreGaps (without v gaps)
 without_gaps v gaps h lt = (without_apart v 1 END gaps h.0, without_missing END v 1 END gaps h.0 ∙ still (is_missing END gaps) h.1 lt)
@@ -251,7 +251,7 @@ pub without_holds : (q v : ℕ) (gaps : List Gap) → AreGaps gaps → 1 ≤ v �
     → holds q (without v gaps) ≡ (q == v || holds q gaps)
 without_holds q v gaps h some lt there =
     one_more END (is_missing q (without v gaps)) (is_missing q gaps) (holds q (without v gaps)) (holds q gaps)
-        (without_missing q v 1 END gaps h.0) (holds_is q (without v gaps) (without_gaps v gaps h lt)) (holds_is q gaps h) lt
+    (without_missing q v 1 END gaps h.0) (holds_is q (without v gaps) (without_gaps v gaps h lt)) (holds_is q gaps h) lt
   where
     one_more : (end : ℕ) (n m x y : Bool) → n ≡ (m && not (q == v)) → x ≡ (ltb 0 q && (leb q end && not n))
         → y ≡ (ltb 0 q && (leb q end && not m)) → v < end → x ≡ (q == v || y)

@@ -25,9 +25,9 @@ holds_upto-is zero gap rest h lt = positive gap.first h.0.0
 holds_upto-is (suc n) gap rest h lt =
     ap (λ b. holds (suc n) (gap ∷ rest) && b) (holds_upto-is n gap rest h (omega arith))
     ∙ covered n gap.first (holds (suc n) (gap ∷ rest)) (is_missing (suc n) (gap ∷ rest))
-        (holds_within (suc n) (gap ∷ rest) h (omega arith) (omega arith))
-        (λ k. none_below (suc n) gap.first END (gap ∷ rest) (omega arith, h.0.1, h.0.2) k)
-        (λ e. subst (λ z. is_missing z (gap ∷ rest) ≡ true) (sym e) (first_in gap.first gap.last (is_missing gap.first rest) h.0.1))
+    (holds_within (suc n) (gap ∷ rest) h (omega arith) (omega arith))
+    (λ k. none_below (suc n) gap.first END (gap ∷ rest) (omega arith, h.0.1, h.0.2) k)
+    (λ e. subst (λ z. is_missing z (gap ∷ rest) ≡ true) (sym e) (first_in gap.first gap.last (is_missing gap.first rest) h.0.1))
 
 -- how many ranges end up to a number
 abbrev pub ended : ℕ → List Gap → ℕ
@@ -46,9 +46,9 @@ pub ended-suc : (n low end : ℕ) (gaps : List Gap) → AreApart low end gaps
 ended-suc n low end [] h = refl
 ended-suc n low end (gap ∷ rest) h =
     one_end n gap.first gap.last (ended n rest) (ended (suc n) rest) (is_missing (suc n) rest) (is_missing (suc (suc n)) rest) h.1
-        (λ k. none_below (suc n) (gap.last + 2) end rest h.2 (omega (arith, k)))
-        (λ k. none_below (suc (suc n)) (gap.last + 2) end rest h.2 (omega (arith, k)))
-        (ended-suc n (gap.last + 2) end rest h.2)
+    (λ k. none_below (suc n) (gap.last + 2) end rest h.2 (omega (arith, k)))
+    (λ k. none_below (suc (suc n)) (gap.last + 2) end rest h.2 (omega (arith, k)))
+    (ended-suc n (gap.last + 2) end rest h.2)
 
 ended_none : (low end : ℕ) (gaps : List Gap) → 1 ≤ low → AreApart low end gaps → ended 0 gaps ≡ 0
 ended_none low end [] k h = refl
@@ -61,8 +61,8 @@ pub ends_upto-is : (n : ℕ) (gaps : List Gap) → AreGaps gaps → n < END → 
 ends_upto-is zero gaps h lt = sym (ended_none 1 END gaps (omega arith) h.0)
 ends_upto-is (suc n) gaps h lt =
     step (ends_upto n gaps) (ended n gaps) (holds (suc n) gaps) (holds (suc (suc n)) gaps) (is_missing (suc n) gaps) (is_missing (suc (suc n)) gaps)
-        (ends_upto-is n gaps h (omega arith))
-        (holds_within (suc n) gaps h (omega arith) (omega arith)) (holds_within (suc (suc n)) gaps h (omega arith) (omega arith))
+    (ends_upto-is n gaps h (omega arith))
+    (holds_within (suc n) gaps h (omega arith) (omega arith)) (holds_within (suc (suc n)) gaps h (omega arith) (omega arith))
     ∙ sym (ended-suc n 1 END gaps h.0)
   where
     step : (e f : ℕ) (a b m k : Bool) → e ≡ f → a ≡ not m → b ≡ not k

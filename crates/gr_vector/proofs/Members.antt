@@ -40,7 +40,7 @@ pushed_both n xs ours theirs m our their xs_is ours_is theirs_is both here k v =
     held_pushed k v m xs ∙ ap (λ n. if k == n then holds v m.gaps else is_held k v xs) xs_is
     ∙ either (k == n) _ _ _ _ _ _ (both k v) (here v)
     ∙ sym (joined (held_pushed k v our ours ∙ ap (λ n. if k == n then holds v our.gaps else is_held k v ours) ours_is)
-        (held_pushed k v their theirs ∙ ap (λ n. if k == n then holds v their.gaps else is_held k v theirs) theirs_is))
+    (held_pushed k v their theirs ∙ ap (λ n. if k == n then holds v their.gaps else is_held k v theirs) theirs_is))
   where
     joined : {a b x y : Bool} → a ≡ x → b ≡ y → (a || b) ≡ (x || y)
     joined {a} {b} {x} {y} h e = cc

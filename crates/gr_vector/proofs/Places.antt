@@ -20,8 +20,8 @@ rising low end (gap ∷ next ∷ rest) h (suc k) d lt = rising (gap.last + 2) en
 pub are_parted : (v : ℕ) (gaps : List Gap) → AreGaps gaps → IsPartitionedBy (λ gap. ltb gap.last v) gaps
 are_parted v gaps h = IsPartitionedBy-ltb (λ gap. gap.last) gaps v
     (IsNonDecreasingBy-from_all_adjacent (λ gap. gap.last) gaps
-        (λ k d lt. subst (λ z. (get_or gaps k d).last ≤ (get_or gaps z d).last) (sym (add-one k))
-            (rising 1 END gaps h.0 k d (subst (λ z. z < length gaps) (add-one k) lt))))
+    (λ k d lt. subst (λ z. (get_or gaps k d).last ≤ (get_or gaps z d).last) (sym (add-one k))
+    (rising 1 END gaps h.0 k d (subst (λ z. z < length gaps) (add-one k) lt))))
 
 not_all : (v end : ℕ) (gaps : List Gap) → is_missing end gaps ≡ true → ((k : ℕ) (d : Gap) → k < length gaps → (get_or gaps k d).last < v) → v ≤ end → ⊥
 not_all v end [] e h le = no e
@@ -66,14 +66,14 @@ pub point_is : (v place : ℕ) (gaps : List Gap) (d : Gap) → AreGaps gaps → 
 point_is v place gaps d h lt point le =
     let within = point_within v place gaps h lt point le in
     is_at v 1 END place gaps d h.0 (λ k e k_lt. ltb-true (get_or gaps k e).last v (point.0 k e (omega arith) k_lt)) within
-        (ltb-false (get_or gaps place d).last v (point.1 place d (omega arith) within))
+    (ltb-false (get_or gaps place d).last v (point.1 place d (omega arith) within))
 
 pub point_in : (v place : ℕ) (gaps : List Gap) (d e : Gap) → AreGaps gaps → v < END → IsPoint v gaps place → place ≤ length gaps
     → (get_or gaps place e).first ≤ v → is_in v (get_or gaps place d) ≡ true
 point_in v place gaps d e h lt point le k =
     let within = point_within v place gaps h lt point le in
     both (get_or gaps place d).first (get_or gaps place d).last (subst (λ gap. gap.first ≤ v) (get_or_default gaps place e d within) k)
-        (ltb-false (get_or gaps place d).last v (point.1 place d (omega arith) within))
+    (ltb-false (get_or gaps place d).last v (point.1 place d (omega arith) within))
   where
     both : (a b : ℕ) → a ≤ v → v ≤ b → (leb a v && leb v b) ≡ true
     both a b h k = grind (arith, nat_tests)
@@ -107,8 +107,8 @@ last_in v last [] d e h lt is k = absurd (omega (arith, is))
 last_in v last (gap ∷ rest) d e h lt is k =
     let last_is : last ≡ length rest = omega (arith, is) in
     both (get_or (gap ∷ rest) last d).first (get_or (gap ∷ rest) last d).last
-        (subst (λ gap. gap.first ≤ v) (get_or_default (gap ∷ rest) last e d (omega (arith, is))) k)
-        (subst (λ n. END ≤ (get_or (gap ∷ rest) n d).last) (sym last_is) (last_ends 1 END gap rest d h.0 h.1))
+    (subst (λ gap. gap.first ≤ v) (get_or_default (gap ∷ rest) last e d (omega (arith, is))) k)
+    (subst (λ n. END ≤ (get_or (gap ∷ rest) n d).last) (sym last_is) (last_ends 1 END gap rest d h.0 h.1))
   where
     both : (a b : ℕ) → a ≤ v → END ≤ b → (leb a v && leb v b) ≡ true
     both a b h k = grind (arith, nat_tests)

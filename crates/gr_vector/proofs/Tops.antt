@@ -74,12 +74,12 @@ pub top_ids : (member : ℕ) (members : List Missing) → 1 ≤ member
     → top member (ids_from 1 members) ≡ greatest (at (member - 1) members).gaps
 top_ids member members some held =
     both (top member (ids_from 1 members)) (greatest (at (member - 1) members).gaps)
-        (⊎_elim (λ none. rw none (omega arith))
-            (λ has. held_below (top member (ids_from 1 members)) (at (member - 1) members)
-                (sym (has_member member (top member (ids_from 1 members)) members some) ∙ has))
-            (top-has member (ids_from 1 members)))
-        (λ k. has-top member (greatest (at (member - 1) members).gaps) (ids_from 1 members)
-            (has_member member (greatest (at (member - 1) members).gaps) members some ∙ held k))
+    (⊎_elim (λ none. rw none (omega arith))
+    (λ has. held_below (top member (ids_from 1 members)) (at (member - 1) members)
+    (sym (has_member member (top member (ids_from 1 members)) members some) ∙ has))
+    (top-has member (ids_from 1 members)))
+    (λ k. has-top member (greatest (at (member - 1) members).gaps) (ids_from 1 members)
+    (has_member member (greatest (at (member - 1) members).gaps) members some ∙ held k))
   where
     both : (a b : ℕ) → a ≤ b → (1 ≤ b → b ≤ a) → a ≡ b
     both a b h k = grind arith

@@ -47,7 +47,7 @@ none_of id from [] lt = refl
 none_of id from (missing ∷ rest) lt =
     has_append id (ids_of from (numbers (greatest missing.gaps) missing.gaps)) (ids_from (suc from) rest)
     ∙ neither from id.member (holds id.rv missing.gaps) (has_id id (ids_of from (numbers (greatest missing.gaps) missing.gaps))) (has_id id (ids_from (suc from) rest))
-        lt (has_own id from missing.gaps) (none_of id (suc from) rest (omega (arith, lt)))
+    lt (has_own id from missing.gaps) (none_of id (suc from) rest (omega (arith, lt)))
   where
     neither : (a b : ℕ) (h x y : Bool) → b < a → x ≡ (a == b && h) → y ≡ false → (x || y) ≡ false
     neither a b h x y lt e f = grind (arith, nat_tests)
@@ -60,17 +60,17 @@ has_place k v from [] = none v
 has_place zero v from (missing ∷ rest) =
     has_append (record { member = from + 0; rv = v }) (ids_of from (numbers (greatest missing.gaps) missing.gaps)) (ids_from (suc from) rest)
     ∙ own from (holds v missing.gaps) (has_id (record { member = from + 0; rv = v }) (ids_of from (numbers (greatest missing.gaps) missing.gaps)))
-        (has_id (record { member = from + 0; rv = v }) (ids_from (suc from) rest))
-        (has_own (record { member = from + 0; rv = v }) from missing.gaps) (none_of (record { member = from + 0; rv = v }) (suc from) rest (omega arith))
+    (has_id (record { member = from + 0; rv = v }) (ids_from (suc from) rest))
+    (has_own (record { member = from + 0; rv = v }) from missing.gaps) (none_of (record { member = from + 0; rv = v }) (suc from) rest (omega arith))
   where
     own : (a : ℕ) (h x y : Bool) → x ≡ (a == (a + 0) && h) → y ≡ false → (x || y) ≡ h
     own a h x y e f = grind (arith, nat_tests)
 has_place (suc k) v from (missing ∷ rest) =
     has_append (record { member = from + suc k; rv = v }) (ids_of from (numbers (greatest missing.gaps) missing.gaps)) (ids_from (suc from) rest)
     ∙ other from (holds v missing.gaps) (has_id (record { member = from + suc k; rv = v }) (ids_of from (numbers (greatest missing.gaps) missing.gaps)))
-        (has_id (record { member = from + suc k; rv = v }) (ids_from (suc from) rest)) (is_held k v rest)
-        (has_own (record { member = from + suc k; rv = v }) from missing.gaps)
-        (subst (λ m. has_id (record { member = m; rv = v }) (ids_from (suc from) rest) ≡ is_held k v rest) (moved from k) (has_place k v (suc from) rest))
+    (has_id (record { member = from + suc k; rv = v }) (ids_from (suc from) rest)) (is_held k v rest)
+    (has_own (record { member = from + suc k; rv = v }) from missing.gaps)
+    (subst (λ m. has_id (record { member = m; rv = v }) (ids_from (suc from) rest) ≡ is_held k v rest) (moved from k) (has_place k v (suc from) rest))
   where
     moved : (a k : ℕ) → suc a + k ≡ a + suc k
     moved a k = omega arith
@@ -141,7 +141,7 @@ both_held a x y e = ap (λ b. a && b) e
 pub same_ids : (new old : List Missing) → ((k v : ℕ) → is_held k v new ≡ is_held k v old) → ids_from 1 new ≡ ids_from 1 old
 same_ids new old same = one_vector (ids_from 1 new) (ids_from 1 old) (ids_sorted 1 new) (ids_sorted 1 old)
     (λ id. has_ids id new ∙ both_held (ltb 0 id.member) (is_held (id.member - 1) id.rv new) (is_held (id.member - 1) id.rv old) (same (id.member - 1) id.rv)
-        ∙ sym (has_ids id old))
+    ∙ sym (has_ids id old))
 
 pub no_ids : (members : List Missing) → ((k v : ℕ) → is_held k v members ≡ false) → ids_from 1 members ≡ []
 no_ids members none = one_vector (ids_from 1 members) [] (ids_sorted 1 members) tt
@@ -156,11 +156,11 @@ pub noted_ids : (member rv : ℕ) (new old : List Missing) → 1 ≤ member
     → ids_from 1 new ≡ with_id (record { member = member; rv = rv }) (ids_from 1 old)
 noted_ids member rv new old some more =
     one_vector (ids_from 1 new) (with_id (record { member = member; rv = rv }) (ids_from 1 old)) (ids_sorted 1 new)
-        (with_sorted (record { member = member; rv = rv }) (ids_from 1 old) (ids_sorted 1 old))
-        (λ id. has_ids id new
-            ∙ joined id.member id.rv (is_held (id.member - 1) id.rv new) (is_held (id.member - 1) id.rv old) (has_id id (ids_from 1 old))
-                (more (id.member - 1) id.rv) (has_ids id old)
-            ∙ sym (has_with id (record { member = member; rv = rv }) (ids_from 1 old)))
+    (with_sorted (record { member = member; rv = rv }) (ids_from 1 old) (ids_sorted 1 old))
+    (λ id. has_ids id new
+    ∙ joined id.member id.rv (is_held (id.member - 1) id.rv new) (is_held (id.member - 1) id.rv old) (has_id id (ids_from 1 old))
+    (more (id.member - 1) id.rv) (has_ids id old)
+    ∙ sym (has_with id (record { member = member; rv = rv }) (ids_from 1 old)))
   where
     joined : (m v : ℕ) (x y z : Bool) → x ≡ (((m - 1) == (member - 1) && v == rv) || y) → z ≡ (ltb 0 m && y)
         → (ltb 0 m && x) ≡ ((member == m && rv == v) || z)
@@ -171,11 +171,11 @@ pub united_ids : (new ours theirs : List Missing) → ((k v : ℕ) → is_held k
     → ids_from 1 new ≡ united (ids_from 1 ours) (ids_from 1 theirs)
 united_ids new ours theirs both =
     one_vector (ids_from 1 new) (united (ids_from 1 ours) (ids_from 1 theirs)) (ids_sorted 1 new)
-        (united_sorted (ids_from 1 ours) (ids_from 1 theirs) (ids_sorted 1 ours))
-        (λ id. has_ids id new
-            ∙ joined (ltb 0 id.member) (is_held (id.member - 1) id.rv new) (is_held (id.member - 1) id.rv ours) (is_held (id.member - 1) id.rv theirs)
-                (has_id id (ids_from 1 ours)) (has_id id (ids_from 1 theirs)) (both (id.member - 1) id.rv) (has_ids id ours) (has_ids id theirs)
-            ∙ sym (has_united id (ids_from 1 ours) (ids_from 1 theirs)))
+    (united_sorted (ids_from 1 ours) (ids_from 1 theirs) (ids_sorted 1 ours))
+    (λ id. has_ids id new
+    ∙ joined (ltb 0 id.member) (is_held (id.member - 1) id.rv new) (is_held (id.member - 1) id.rv ours) (is_held (id.member - 1) id.rv theirs)
+    (has_id id (ids_from 1 ours)) (has_id id (ids_from 1 theirs)) (both (id.member - 1) id.rv) (has_ids id ours) (has_ids id theirs)
+    ∙ sym (has_united id (ids_from 1 ours) (ids_from 1 theirs)))
   where
     joined : (a x y z p q : Bool) → x ≡ (y || z) → p ≡ (a && y) → q ≡ (a && z) → (a && x) ≡ (p || q)
     joined a x y z p q e f g = grind arith

@@ -9,16 +9,16 @@ use Rattle.gr_vector.proofs.missing.common_of.Goals.{then-loop-our-test+else-the
 pub loop-our-preserved-then-one-two : goal.loop-our-preserved-then-one-two
 loop-our-preserved-then-one-two c =
     walk_on c.loop-our.both.items c.push_overlap.new.gaps.items _ _ _ _ c.in_ok-push_overlap.ensures
-        (walk_ours c.loop-our.our c.loop-our.their c.args.ours.now c.args.theirs.now _ _ c.requires.ours c.requires.theirs
-            c.loop-our-test.true c.if-their-theirs.true c.if-one-two.true)
-        c.loop-our.invariant
+    (walk_ours c.loop-our.our c.loop-our.their c.args.ours.now c.args.theirs.now _ _ c.requires.ours c.requires.theirs
+    c.loop-our-test.true c.if-their-theirs.true c.if-one-two.true)
+    c.loop-our.invariant
 
 pub loop-our-preserved : goal.loop-our-preserved
 loop-our-preserved c =
     walk_on c.loop-our.both.items c.push_overlap.new.gaps.items _ _ _ _ c.in_ok-push_overlap.ensures
-        (walk_theirs c.loop-our.our c.loop-our.their c.args.ours.now c.args.theirs.now _ _ c.requires.ours c.requires.theirs
-            c.loop-our-test.true c.if-their-theirs.true c.if-one-two.false)
-        c.loop-our.invariant
+    (walk_theirs c.loop-our.our c.loop-our.their c.args.ours.now c.args.theirs.now _ _ c.requires.ours c.requires.theirs
+    c.loop-our-test.true c.if-their-theirs.true c.if-one-two.false)
+    c.loop-our.invariant
 
 pub returns : goal.returns
 returns c = elim c.loop-our-test.branch [

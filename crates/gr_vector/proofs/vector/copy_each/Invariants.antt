@@ -6,5 +6,5 @@ use Rattle.gr_vector.proofs.vector.copy_each.Given as goal
 abbrev pub invariant-loop-missing : goal.invariant-loop-missing
 invariant-loop-missing l = record {
   count : length l.copies.items ≡ l.missing-index;
-  held : (k v : ℕ) → is_held k v l.copies.items ≡ is_held k v (take l.missing-index l.members)
+  held : (k v : ℕ) → is_held k v l.copies.items ≡ is_held k v (take l.missing-index l.members);
 }

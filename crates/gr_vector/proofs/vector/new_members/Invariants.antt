@@ -5,5 +5,5 @@ use Rattle.gr_vector.proofs.vector.new_members.Given as goal
 abbrev pub invariant-loop : goal.invariant-loop
 invariant-loop l = record {
   count : length l.members.items ≡ l.counter;
-  none : (k v : ℕ) → is_held k v l.members.items ≡ false
+  none : (k v : ℕ) → is_held k v l.members.items ≡ false;
 }

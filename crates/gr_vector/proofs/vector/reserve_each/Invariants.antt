@@ -7,5 +7,5 @@ abbrev pub invariant-loop-missing : goal.invariant-loop-missing
 invariant-loop-missing l = record {
   held : (k v : ℕ) → is_held k v l.members ≡ is_held k v l.initial.members;
   kept : (k : ℕ) (d : Missing) → (get_or l.initial.members k d).spare ≤ (get_or l.members k d).spare;
-  room : (k : ℕ) (d : Missing) → k < l.missing-index → 1 ≤ (get_or l.members k d).spare
+  room : (k : ℕ) (d : Missing) → k < l.missing-index → 1 ≤ (get_or l.members k d).spare;
 }

@@ -9,7 +9,7 @@ use Rattle.gr_vector.proofs.missing.Missing.note.Goals as goal
 pub invariant_of-self-in-Some : goal.invariant_of-self-in-Some
 invariant_of-self-in-Some c =
     subst (λ gaps. AreGaps gaps) (sym c.in_ok-take_out-in-Some.ensures.ok)
-        (without_gaps c.args.number c.self.inside.gaps.items c.self.invariant c.requires.most)
+    (without_gaps c.args.number c.self.inside.gaps.items c.self.invariant c.requires.most)
 
 pub returns-in-None-clause-fresh : goal.returns-in-None-clause-fresh
 returns-in-None-clause-fresh c =
@@ -41,4 +41,4 @@ pub returns-in_ok-take_out-in-Some-clause-ok : goal.returns-in_ok-take_out-in-So
 returns-in_ok-take_out-in-Some-clause-ok c = λ v.
     let there : is_missing c.args.number c.self.inside.gaps.items ≡ true = sym (rw (← c.deref.ensures.value) (found c.find.result c.args.number c.deref.result.now c.find.ensures.within c.find.ensures.place)) ∙ ap is_some c.in-Some.is in
     rw (← c.self.view_is) (ap (λ gaps. holds v gaps) c.in_ok-take_out-in-Some.ensures.ok
-        ∙ without_holds v c.args.number c.self.inside.gaps.items c.self.invariant c.requires.some c.requires.most there)
+    ∙ without_holds v c.args.number c.self.inside.gaps.items c.self.invariant c.requires.some c.requires.most there)

@@ -13,11 +13,11 @@ pub returns-clause-top : goal.returns-clause-top
 returns-clause-top c =
     let some = not_empty c.self.inside.gaps.items c.self.invariant in
     rw (← c.self.view_is) (ap (λ n. n - 1) (sym (last_is (c.len.result - 1) c.index.result.now c.self.inside.gaps.items c.self.invariant
-        (omega (arith, some, c.self.inside.gaps.ok)) c.index.ensures)))
+    (omega (arith, some, c.self.inside.gaps.ok)) c.index.ensures)))
 
 pub returns-clause-held : goal.returns-clause-held
 returns-clause-held c =
     let some = not_empty c.self.inside.gaps.items c.self.invariant in
     let is : greatest c.self.inside.gaps.items ≡ c.index.result.now.first - 1 = ap (λ n. n - 1) (last_is (c.len.result - 1) c.index.result.now c.self.inside.gaps.items c.self.invariant
-        (omega (arith, some, c.self.inside.gaps.ok)) c.index.ensures) in
+    (omega (arith, some, c.self.inside.gaps.ok)) c.index.ensures) in
     rw (← c.self.view_is) (λ k. subst (λ n. holds n c.self.inside.gaps.items ≡ true) is (greatest_held c.self.inside.gaps.items c.self.invariant (omega (arith, is, k))))

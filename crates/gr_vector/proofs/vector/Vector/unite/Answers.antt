@@ -10,6 +10,6 @@ either k v xs ys ps qs h e = ap (λ zs. is_held k v zs || is_held k v ys) h ∙ 
 pub returns-clause-ids : goal.returns-clause-ids
 returns-clause-ids c =
     rw (← c.self.view_is, ← c.other.view_is)
-        (united_ids c.in_ok-self-inside.field-0.items c.self.inside.members.items c.other.inside.members.items
-            (λ k v. c.in_ok-self-inside.ensures.held k v
-                ∙ either k v c.deref.result.now c.deref-2.result.now c.self.inside.members.items c.other.inside.members.items c.deref.ensures.value c.deref-2.ensures.value))
+    (united_ids c.in_ok-self-inside.field-0.items c.self.inside.members.items c.other.inside.members.items
+    (λ k v. c.in_ok-self-inside.ensures.held k v
+    ∙ either k v c.deref.result.now c.deref-2.result.now c.self.inside.members.items c.other.inside.members.items c.deref.ensures.value c.deref-2.ensures.value))
