@@ -1,11 +1,11 @@
 -- What two lists of ranges have in common.
-use Rattle.std.proofs.Common.{◌≡◌, ℕ, zero, suc, ◌+◌, ◌-◌, ◌<◌, ◌≤◌, List, [], ◌∷◌, ◌++◌, length, get_or, drop, Bool, true, false, not, ◌&&◌, ◌||◌, ltb, leb, max, min, refl, sym, ◌∙◌, subst, ap, arith, if◌then◌else◌, append_assoc, add-one, drop-cons}
+use Rattle.std.proofs.Common.{◌≡◌, ℕ, zero, suc, ◌+◌, ◌<◌, ◌≤◌, List, [], ◌∷◌, ◌++◌, length, get_or, drop, Bool, true, false, not, ◌&&◌, ◌||◌, ltb, leb, max, min, refl, sym, ◌∙◌, subst, ap, arith, if◌then◌else◌, append_assoc, add-one, drop-cons}
 use Rattle.std.proofs.lemmas.Bool.Decides.{nat_tests}
 use Rattle.std.proofs.lemmas.List.{append-nil}
 use Rattle.gr_vector.specs.declared.gap.Gap.{Gap}
 use Rattle.gr_vector.specs.declared.gap.TheConstants.{END}
 use Rattle.gr_vector.specs.Gaps.{is_in, is_missing, AreApart, AreGaps, holds, overlap, overlaps, common}
-use Rattle.gr_vector.proofs.Apart.{apart_low, apart_sooner, none_below, holds_is}
+use Rattle.gr_vector.proofs.Apart.{apart_low, apart_sooner, holds_is}
 use Rattle.gr_vector.proofs.Edits.{missing_append}
 
 overlap_missing : (q : ℕ) (one two : Gap) → is_missing q (overlap one two) ≡ (is_in q one && is_in q two)

@@ -1,10 +1,10 @@
 -- The first range, the last, and how many end below the greatest number.
-use Rattle.std.proofs.Common.{◌≡◌, ℕ, zero, suc, ◌+◌, ◌-◌, ◌<◌, ◌≤◌, List, [], ◌∷◌, ◌++◌, length, get_or, Bool, true, false, not, ◌&&◌, ◌||◌, ltb, leb, refl, sym, ◌∙◌, subst, ap, arith, if◌then◌else◌}
+use Rattle.std.proofs.Common.{◌≡◌, ℕ, zero, suc, ◌+◌, ◌<◌, ◌≤◌, List, [], ◌∷◌, length, get_or, Bool, true, false, not, ◌&&◌, ◌||◌, ltb, leb, refl, sym, ◌∙◌, subst, ap, arith, if◌then◌else◌}
 use Rattle.std.proofs.lemmas.Bool.Decides.{nat_tests}
 use Rattle.gr_vector.specs.declared.gap.Gap.{Gap}
 use Rattle.gr_vector.specs.declared.gap.TheConstants.{END}
-use Rattle.gr_vector.specs.Gaps.{is_in, is_missing, AreApart, AreGaps, last_start, greatest, holds, holds_upto, ends_upto}
-use Rattle.gr_vector.proofs.Apart.{apart_low, apart_sooner, none_below, start_above, start_below, all_above, before_last, holds_within, not_empty}
+use Rattle.gr_vector.specs.Gaps.{is_missing, AreApart, AreGaps, last_start, greatest, holds, holds_upto, ends_upto}
+use Rattle.gr_vector.proofs.Apart.{none_below, start_above, start_below, before_last, holds_within}
 
 pub last_start-is : (s : ℕ) (gap : Gap) (rest : List Gap) (d : Gap) → last_start s (gap ∷ rest) ≡ (get_or (gap ∷ rest) (length rest) d).first
 last_start-is s gap [] d = refl

@@ -5,5 +5,6 @@ pub mod Ends
 pub mod Members
 pub mod Order
 pub mod Places
+pub mod Same
 pub mod Tops
 pub mod Views

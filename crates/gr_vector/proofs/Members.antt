@@ -1,10 +1,9 @@
 -- Members in a list: what a write and a push leave.
-use Rattle.std.proofs.Common.{◌≡◌, ◌≢◌, ℕ, zero, suc, ◌+◌, ◌-◌, ◌<◌, ◌≤◌, List, [], ◌∷◌, ◌++◌, length, get_or, set, take, Bool, true, false, not, ◌&&◌, ◌||◌, ◌==◌, ltb, leb, refl, sym, ◌∙◌, subst, ap, arith, if◌then◌else◌, get_or-set_other, get_or-set_same}
+use Rattle.std.proofs.Common.{◌≡◌, ◌≢◌, ℕ, zero, suc, ◌+◌, ◌<◌, List, [], ◌∷◌, ◌++◌, length, get_or, set, take, Bool, true, false, ◌&&◌, ◌||◌, ◌==◌, refl, sym, ◌∙◌, subst, ap, arith, if◌then◌else◌, get_or-set_other, get_or-set_same}
 use Rattle.std.proofs.lemmas.Bool.Decides.{nat_tests}
 use Rattle.std.proofs.lemmas.List.{take_more, get_or_default}
 use Rattle.gr_vector.specs.Gaps.{Missing, holds}
 use Rattle.gr_vector.specs.Views.{is_held}
-use Rattle.gr_vector.proofs.Tops.{at}
 
 held_pushed : (k v : ℕ) (m : Missing) (xs : List Missing) → is_held k v (xs ++ m ∷ []) ≡ (if k == length xs then holds v m.gaps else is_held k v xs)
 held_pushed zero v m [] = refl

@@ -1,10 +1,10 @@
 -- The ids of a vector: in order, and there exactly where the member's ranges lack them.
-use Rattle.std.proofs.Common.{◌≡◌, ℕ, zero, suc, ◌+◌, ◌-◌, ◌<◌, ◌≤◌, List, [], ◌∷◌, ◌++◌, length, get_or, Bool, true, false, not, ◌&&◌, ◌||◌, ◌==◌, ltb, leb, max, refl, sym, ◌∙◌, subst, ap, arith, if◌then◌else◌}
+use Rattle.std.proofs.Common.{◌≡◌, ℕ, zero, suc, ◌+◌, ◌-◌, ◌<◌, ◌≤◌, List, [], ◌∷◌, ◌++◌, Bool, true, false, not, ◌&&◌, ◌||◌, ◌==◌, ltb, leb, refl, sym, ◌∙◌, subst, ap, arith, if◌then◌else◌}
 use Rattle.std.proofs.lemmas.Bool.Decides.{nat_tests}
 use Rattle.gr_vector.specs.declared.gap.Gap.{Gap}
 use Rattle.gr_vector.specs.Gaps.{Missing, is_missing, greatest, holds}
 use Rattle.gr_vector.specs.Ids.{Id, is_same_id, has_id}
-use Rattle.gr_vector.specs.Order.{is_before, with_id, united, AllAfter, IsSorted}
+use Rattle.gr_vector.specs.Order.{with_id, united, AllAfter, IsSorted}
 use Rattle.gr_vector.specs.Views.{numbers, ids_of, ids_from, is_held}
 use Rattle.gr_vector.proofs.Order.{has_with, has_united, with_sorted, united_sorted, one_vector}
 

@@ -1,5 +1,5 @@
 -- The ids that a vector stands for, by the ranges of missing numbers of each member.
-use Rattle.std.specs.Prelude.{◌≡◌, ◌<◌, ◌≤◌, ℕ, zero, suc, List, [], ◌∷◌, ◌++◌, Bool, map, length, slice_index_or, if◌then◌else◌}
+use Rattle.std.specs.Prelude.{◌≡◌, ◌<◌, ◌≤◌, ℕ, zero, suc, List, [], ◌∷◌, ◌++◌, Bool, length, slice_index_or, if◌then◌else◌}
 use Rattle.gr_vector.specs.declared.gap.Gap.{Gap}
 use Rattle.gr_vector.specs.Gaps.{Missing, is_missing, greatest, holds}
 use Rattle.gr_vector.specs.Ids.{Id, Ids}

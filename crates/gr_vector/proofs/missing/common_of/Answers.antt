@@ -1,7 +1,6 @@
-use Rattle.std.proofs.Common.{◌≡◌, ℕ, ◌-◌, ◌+◌, ◌++◌, [], drop, get_or, length, arith, ap, sym, ◌∙◌, subst}
-use Rattle.std.proofs.lemmas.List.{append-nil, drop_all}
-use Rattle.gr_vector.specs.declared.gap.Gap.{Gap}
-use Rattle.gr_vector.specs.Gaps.{common, overlap}
+use Rattle.std.proofs.Common.{drop, arith, ap, ◌∙◌}
+use Rattle.std.proofs.lemmas.List.{drop_all}
+use Rattle.gr_vector.specs.Gaps.{common}
 use Rattle.gr_vector.proofs.Common.{walk_ours, walk_theirs, walk_on, walk_done, common_none}
 use Rattle.gr_vector.proofs.missing.common_of.Goals as goal
 use Rattle.gr_vector.proofs.missing.common_of.Goals.{then-loop-our-test+else-their-theirs, else-loop-our-test}

@@ -1,8 +1,6 @@
-use Rattle.std.proofs.Common.{rules, ◌≡◌, ◌<◌, ◌≤◌, ◌+◌, ◌-◌, ◌∙◌, sym, ℕ, length, get_or, arith, false, true, ltb, leb}
+use Rattle.std.proofs.Common.{rules, ◌-◌, length, arith, ltb}
 use Rattle.std.proofs.lemmas.List.Sorted.{IsPartitionPoint-from_clause}
-use Rattle.std.proofs.lemmas.Bool.Decides.{nat_tests}
-use Rattle.gr_vector.specs.declared.gap.Gap.{Gap}
-use Rattle.gr_vector.proofs.Places.{are_parted, IsPoint, point_within, point_is, point_in, point_out, last_in}
+use Rattle.gr_vector.proofs.Places.{are_parted, IsPoint, point_within, point_in, point_out, last_in}
 use Rattle.gr_vector.proofs.Apart.{not_empty}
 use Rattle.gr_vector.proofs.missing.find.Goals as goal
 

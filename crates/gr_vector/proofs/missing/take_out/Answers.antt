@@ -1,6 +1,4 @@
-use Rattle.std.proofs.Common.{◌≡◌, ◌+◌, ◌-◌, ◌∙◌, ap, take, drop, set, ◌++◌, ◌∷◌, add-one, ℕ}
-use Rattle.gr_vector.specs.declared.gap.Gap.{Gap}
-use Rattle.gr_vector.specs.Gaps.{without}
+use Rattle.std.proofs.Common.{◌+◌, ◌-◌, ◌∙◌, ap, take, drop, set, ◌++◌, ◌∷◌, add-one}
 use Rattle.gr_vector.specs.declared.gap.TheConstants.{END}
 use Rattle.gr_vector.proofs.Edits.{IsAt, out_whole, out_first, out_last, out_middle}
 use Rattle.gr_vector.proofs.missing.take_out.Goals as goal

@@ -1,5 +1,5 @@
-use Rattle.std.proofs.Common.{◌≡◌, ◌≤◌, ◌<◌, ◌∙◌, ◌+◌, ◌++◌, ◌∷◌, ℕ, List, length, get_or, take, [], ap, sym, subst, rules, arith, length-take-le}
-use Rattle.gr_vector.specs.Gaps.{Missing, holds}
+use Rattle.std.proofs.Common.{◌∙◌, take, ap, sym, rules, arith, length-take-le}
+use Rattle.gr_vector.specs.Gaps.{holds}
 use Rattle.gr_vector.specs.Views.{is_held}
 use Rattle.gr_vector.proofs.Members.{pushed_same, take_next}
 use Rattle.gr_vector.proofs.vector.copy_each.Goals as goal

@@ -1,4 +1,4 @@
-use Rattle.std.proofs.Common.{◌≡◌, ◌≤◌, ◌<◌, ℕ, length, get_or}
+use Rattle.std.proofs.Common.{◌≡◌, ◌≤◌, ◌<◌, ℕ, get_or}
 use Rattle.gr_vector.specs.Gaps.{Missing}
 use Rattle.gr_vector.specs.Views.{is_held}
 use Rattle.gr_vector.proofs.vector.reserve_each.Given as goal

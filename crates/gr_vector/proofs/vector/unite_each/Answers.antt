@@ -1,7 +1,6 @@
-use Rattle.std.proofs.Common.{◌≡◌, ◌≤◌, ◌<◌, ◌∙◌, ◌+◌, ◌++◌, ◌∷◌, ◌||◌, Bool, ℕ, List, length, get_or, take, [], ap, sym, subst, rules, arith, length-take-le}
-use Rattle.gr_vector.specs.Gaps.{Missing, holds}
+use Rattle.std.proofs.Common.{◌∙◌, take, ap, sym, rules, arith, length-take-le}
 use Rattle.gr_vector.specs.Views.{is_held}
-use Rattle.gr_vector.proofs.Members.{pushed_both, take_next, both_taken}
+use Rattle.gr_vector.proofs.Members.{pushed_both, both_taken}
 use Rattle.gr_vector.proofs.vector.unite_each.Goals as goal
 
 pub loop-place-preserved : goal.loop-place-preserved

@@ -1,5 +1,4 @@
-use Rattle.std.proofs.Common.{◌≡◌, ◌≤◌, ◌<◌, ℕ, length, get_or, take, ◌||◌}
-use Rattle.gr_vector.specs.Gaps.{Missing}
+use Rattle.std.proofs.Common.{◌≡◌, ℕ, length, take, ◌||◌}
 use Rattle.gr_vector.specs.Views.{is_held}
 use Rattle.gr_vector.proofs.vector.unite_each.Given as goal
 

@@ -1,4 +1,3 @@
-use Rattle.std.proofs.Common.{◌≡◌, ℕ}
 use Rattle.gr_vector.proofs.Ends.{covers_is}
 use Rattle.gr_vector.proofs.missing.Missing.covers.Goals as goal
 

@@ -1,5 +1,4 @@
-use Rattle.std.proofs.Common.{◌≡◌, ℕ, ◌-◌, ◌+◌, arith}
-use Rattle.gr_vector.specs.Gaps.{ends_upto, greatest}
+use Rattle.std.proofs.Common.{arith}
 use Rattle.gr_vector.proofs.Ends.{ends, greatest_held}
 use Rattle.gr_vector.proofs.missing.Missing.exceptions.Goals as goal
 

@@ -1,4 +1,4 @@
-use Rattle.std.proofs.Common.{◌≡◌, ℕ, ◌≤◌, ◌∙◌, sym, arith, Bool, not}
+use Rattle.std.proofs.Common.{◌≡◌, arith, Bool, not}
 use Rattle.std.specs.Option.{is_some}
 use Rattle.gr_vector.specs.Gaps.{is_missing, holds}
 use Rattle.gr_vector.proofs.Apart.{holds_within}

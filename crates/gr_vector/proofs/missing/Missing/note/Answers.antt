@@ -1,7 +1,7 @@
-use Rattle.std.proofs.Common.{◌≡◌, ℕ, ◌≤◌, ◌<◌, ◌∙◌, ap, sym, subst, arith, Bool, not, true, false, ◌||◌, ◌==◌, refl}
+use Rattle.std.proofs.Common.{◌≡◌, ℕ, ◌∙◌, ap, sym, subst, arith, Bool, not, true, false, ◌||◌, ◌==◌, refl}
 use Rattle.std.proofs.lemmas.Bool.Decides.{nat_tests}
 use Rattle.std.specs.Option.{is_some}
-use Rattle.gr_vector.specs.Gaps.{is_missing, holds, without, AreGaps}
+use Rattle.gr_vector.specs.Gaps.{is_missing, holds, AreGaps}
 use Rattle.gr_vector.proofs.Apart.{holds_within}
 use Rattle.gr_vector.proofs.Edits.{found, without_gaps, without_holds}
 use Rattle.gr_vector.proofs.missing.Missing.note.Goals as goal

@@ -1,5 +1,5 @@
-use Rattle.std.proofs.Common.{◌≡◌, ◌≤◌, ℕ, ◌-◌, ◌+◌, length, sym, ap, subst, arith, true}
-use Rattle.gr_vector.specs.Gaps.{last_start, greatest, holds}
+use Rattle.std.proofs.Common.{◌≡◌, ◌-◌, sym, ap, subst, arith, true}
+use Rattle.gr_vector.specs.Gaps.{greatest, holds}
 use Rattle.gr_vector.proofs.Apart.{not_empty}
 use Rattle.gr_vector.proofs.Ends.{last_is, last_some, greatest_held}
 use Rattle.gr_vector.proofs.missing.Missing.top.Goals as goal

@@ -1,4 +1,4 @@
-use Rattle.std.proofs.Common.{◌≡◌, ℕ, sym, subst, ap, ◌∙◌, Bool, ◌||◌, List}
+use Rattle.std.proofs.Common.{◌≡◌, sym, subst, ap, ◌∙◌, List}
 use Rattle.gr_vector.specs.declared.gap.Gap.{Gap}
 use Rattle.gr_vector.specs.Gaps.{AreGaps, holds, common}
 use Rattle.gr_vector.proofs.Common.{common_gaps, common_holds}

@@ -1,5 +1,4 @@
-use Rattle.std.proofs.Common.{◌≡◌, ℕ, ap, subst, ◌∙◌}
-use Rattle.gr_vector.specs.Ids.{Ids}
+use Rattle.std.proofs.Common.{ap, ◌∙◌}
 use Rattle.gr_vector.specs.Views.{is_held}
 use Rattle.gr_vector.proofs.Views.{same_ids}
 use Rattle.gr_vector.proofs.vector.Vector.copy.Goals as goal

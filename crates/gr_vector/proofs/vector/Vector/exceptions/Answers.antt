@@ -1,6 +1,6 @@
-use Rattle.std.proofs.Common.{◌≡◌, ℕ, ◌-◌, ◌<◌, sym, ap, subst, ◌∙◌, arith, length, get_or, true, ◌≤◌}
-use Rattle.gr_vector.specs.Gaps.{Missing, holds, holds_upto, ends_upto, greatest}
-use Rattle.gr_vector.proofs.Tops.{at, element_is, top_ids, covers_ids, exceptions_ids}
+use Rattle.std.proofs.Common.{◌≡◌, ◌-◌, sym, ap, subst, ◌∙◌, arith, get_or, true, ◌≤◌}
+use Rattle.gr_vector.specs.Gaps.{holds, ends_upto, greatest}
+use Rattle.gr_vector.proofs.Tops.{at, element_is, top_ids, exceptions_ids}
 use Rattle.gr_vector.proofs.vector.Vector.exceptions.Goals as goal
 
 pub returns : goal.returns

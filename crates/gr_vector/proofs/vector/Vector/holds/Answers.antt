@@ -1,5 +1,5 @@
-use Rattle.std.proofs.Common.{◌≡◌, ℕ, ◌-◌, ◌<◌, sym, ap, subst, ◌∙◌, arith, length, get_or}
-use Rattle.gr_vector.specs.Gaps.{Missing, holds}
+use Rattle.std.proofs.Common.{◌≡◌, ◌-◌, sym, ap, subst, ◌∙◌, arith, get_or}
+use Rattle.gr_vector.specs.Gaps.{holds}
 use Rattle.gr_vector.proofs.Tops.{at, element_is, has_member}
 use Rattle.gr_vector.proofs.vector.Vector.holds.Goals as goal
 

@@ -1,5 +1,4 @@
-use Rattle.std.proofs.Common.{◌≡◌, ℕ, ap}
-use Rattle.gr_vector.specs.Ids.{Ids}
+use Rattle.std.proofs.Common.{ap}
 use Rattle.gr_vector.proofs.Views.{no_ids}
 use Rattle.gr_vector.proofs.vector.Vector.new.Goals as goal
 

@@ -1,8 +1,7 @@
-use Rattle.std.proofs.Common.{◌≡◌, ℕ, ◌-◌, ◌<◌, sym, ap, subst, ◌∙◌, arith, length, get_or, set, ◌&&◌, not, ◌||◌, ◌==◌, Bool}
+use Rattle.std.proofs.Common.{◌≡◌, ℕ, ◌-◌, sym, ap, subst, ◌∙◌, arith, get_or, set, ◌&&◌, not, ◌||◌, ◌==◌}
 use Rattle.std.proofs.lemmas.Result.{err_from_is_err_and}
-use Rattle.gr_vector.specs.Gaps.{Missing, holds}
-use Rattle.gr_vector.specs.Ids.{Id, has_id}
-use Rattle.gr_vector.specs.Views.{ids_from, is_held}
+use Rattle.gr_vector.specs.Gaps.{holds}
+use Rattle.gr_vector.specs.Views.{is_held}
 use Rattle.gr_vector.proofs.Tops.{at, element_is, has_member}
 use Rattle.gr_vector.proofs.Views.{same_ids, noted_ids}
 use Rattle.gr_vector.proofs.Members.{noted_at, same_at}

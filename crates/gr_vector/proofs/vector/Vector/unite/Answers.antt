@@ -1,4 +1,4 @@
-use Rattle.std.proofs.Common.{◌≡◌, ℕ, ap, subst, ◌∙◌, ◌||◌, List}
+use Rattle.std.proofs.Common.{◌≡◌, ℕ, ap, ◌∙◌, ◌||◌, List}
 use Rattle.gr_vector.specs.Gaps.{Missing}
 use Rattle.gr_vector.specs.Views.{is_held}
 use Rattle.gr_vector.proofs.Views.{united_ids}
