@@ -2,10 +2,11 @@ ghost use Rattle.std.specs.Prelude.{◌≡◌, ◌<◌, ◌≤◌, ◌+◌, leng
 ghost use Rattle.std.specs.List.{prefix_len, AllPass};
 ghost use Rattle.std.specs.Char.{is_ascii_digit};
 ghost use Rattle.gr_lex.specs.Bytes.{is_word_byte, number_of, greatest_number};
-ghost use Rattle.gr_lex.specs.Reading.{quoted_len};
+ghost use Rattle.gr_lex.specs.Reader.Reading.{quoted_len};
 
 use crate::bytes::{QUOTE, is_word_byte};
 
+// 2 ^ 63, which a sign before it makes the least whole number.
 const GREATEST_NUMBER: u64 = 9223372036854775808;
 
 /// How many bytes at the front may stand in a word.
