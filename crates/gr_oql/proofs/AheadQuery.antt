@@ -9,7 +9,7 @@ use Rattle.gr_oql.specs.declared.stop.Wrong.{Wrong}
 use Rattle.gr_oql.specs.declared.stop.Wrong.TheVariants.{Expected, NotACq, TooDeep}
 use Rattle.gr_oql.specs.Words.{letters}
 use Rattle.gr_oql.specs.Terminals.{Terminal, keyword, symbol, quoted, begins, is_symbol, is_keyword}
-use Rattle.gr_oql.specs.Reading.{Reading, ◌>>=◌, symbol_at, keyword_at, star_at, source_at, query_at}
+use Rattle.gr_oql.specs.Reader.Reading.{Reading, ◌>>=◌, symbol_at, keyword_at, star_at, source_at, query_at}
 use Rattle.gr_oql.specs.Grammar.{One, ◌then◌, IsQueryWithin, most_depth, Asked}
 use Rattle.gr_oql.specs.FirstFault.{IsStart, Fits}
 use Rattle.gr_oql.proofs.Readings.{chosen, left_is, stopped}

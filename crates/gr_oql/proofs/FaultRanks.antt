@@ -10,7 +10,7 @@ use Rattle.gr_oql.specs.declared.stop.Wrong.TheVariants.{Expected, NotACq, TooDe
 use Rattle.gr_oql.specs.Words.{keyword_eq}
 use Rattle.gr_oql.specs.Tree.{Tree}
 use Rattle.gr_oql.specs.Terminals.{Terminal, keyword, name, number, quoted, symbol, begins, is_symbol, is_keyword, is_tail}
-use Rattle.gr_oql.specs.Reading.{read_as, query_at}
+use Rattle.gr_oql.specs.Reader.Reading.{read_as, query_at}
 use Rattle.gr_oql.specs.Grammar.{IsQuery, has_backslash, most_depth, Asked}
 use Rattle.gr_oql.specs.FirstFault.{IsStart, IsOver, Fits, rank, Ceases}
 use Rattle.gr_oql.proofs.Readings.{wrong_is}

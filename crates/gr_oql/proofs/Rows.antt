@@ -1,8 +1,8 @@
 -- How items with separators between them are read one after another.
 use Rattle.std.proofs.Common.{◌≡◌, ℕ, zero, suc, ◌≤◌, List, [], ◌∷◌, ◌++◌, length, Ok, Err, Bool, true, false, sym, refl, ap, ◌∙◌, arith, append-nil, append_assoc}
 use Rattle.gr_oql.specs.Terminals.{Terminal, begins, rest}
-use Rattle.gr_oql.specs.Reading.{Reading, read_as, more_at, separated_at}
-use Rattle.gr_oql.specs.Gives.{Stops}
+use Rattle.gr_oql.specs.Reader.Reading.{Reading, read_as, more_at, separated_at}
+use Rattle.gr_oql.specs.Reader.Gives.{Stops}
 use Rattle.gr_oql.specs.declared.stop.Wrong.{Wrong}
 use Rattle.gr_oql.specs.declared.stop.Stop.{Stop}
 use Rattle.gr_oql.specs.declared.stop.Stop.TheVariants as stops

@@ -11,7 +11,7 @@ use Rattle.gr_oql.specs.declared.stop.Wrong.TheVariants.{Expected, TooDeep}
 use Rattle.gr_oql.specs.Tree.{Tree, any, all, negation, test}
 use Rattle.gr_oql.specs.View.{in_order}
 use Rattle.gr_oql.specs.Terminals.{Terminal, begins, rest, is_symbol, is_keyword}
-use Rattle.gr_oql.specs.Reading.{Reading, ◌>>=◌, read_as, stop, more_at, separated_at, relation_at, like_at, among_at, compare_at, behind_operand, behind_first, bracketed_at, test_at, all_at, any_at, bracket_at, part_at, condition_at}
+use Rattle.gr_oql.specs.Reader.Reading.{Reading, ◌>>=◌, read_as, stop, more_at, separated_at, relation_at, like_at, among_at, compare_at, behind_operand, behind_first, bracketed_at, test_at, all_at, any_at, bracket_at, part_at, condition_at}
 use Rattle.gr_oql.proofs.Readings.{wrong_is}
 use Rattle.gr_oql.proofs.Ahead.{raised}
 use Rattle.gr_oql.proofs.Trees.{part_at_test}

@@ -8,9 +8,9 @@ use Rattle.gr_oql.specs.declared.stop.Stop.{Stop}
 use Rattle.gr_oql.specs.declared.stop.Stop.TheVariants as stops
 use Rattle.gr_oql.specs.Tree.{any, all, test}
 use Rattle.gr_oql.specs.View.{tree_of, in_order}
-use Rattle.gr_oql.specs.Gives.{Stops}
+use Rattle.gr_oql.specs.Reader.Gives.{Stops}
 use Rattle.gr_oql.specs.Terminals.{Terminal, begins, is_keyword, is_symbol}
-use Rattle.gr_oql.specs.Reading.{Reading, read_as, part_at, test_at}
+use Rattle.gr_oql.specs.Reader.Reading.{Reading, read_as, part_at, test_at}
 
 pub tree_of-All : (parts : Vec Condition Global) → tree_of (All parts) ≡ all (in_order (map tree_of parts.items))
 tree_of-All parts = search (rules, the_lemmas)

@@ -1,10 +1,11 @@
 -- Where the tokens of a text cease to begin a query, and which fault that is. It goes by the grammar alone.
-use Rattle.std.specs.Prelude.{◌≡◌, ◌⊎◌, ◌≤◌, ℕ, suc, List, [], ◌∷◌, ◌++◌, length, ◌^◌, Bool, false, ◌==◌, if◌then◌else◌, IsTrue, Option, None, Some}
+use Rattle.std.specs.Prelude.{◌≡◌, ◌⊎◌, ◌≤◌, ℕ, suc, List, [], ◌∷◌, ◌++◌, length, Bool, false, ◌==◌, if◌then◌else◌, IsTrue, Option, None, Some}
 use Rattle.std.specs.List.{AllByRecursion}
 use Rattle.gr_lex.specs.declared.token.Symbol.TheVariants as symbols
 use Rattle.gr_lex.specs.declared.token.Token.{Token}
 use Rattle.gr_lex.specs.declared.fault.LexFault.{LexFault}
 use Rattle.gr_lex.specs.declared.fault.LexFault.TheVariants as lex
+use Rattle.gr_lex.specs.Bytes.{greatest_number}
 use Rattle.gr_lex.specs.Layout.{IsToken, IsLaidOut}
 use Rattle.gr_lex.specs.Faults as lexical
 use Rattle.gr_oql.specs.declared.keyword.Keyword.TheVariants as word
@@ -68,10 +69,10 @@ abbrev pub place_of : List ℕ → List Token → ℕ
 place_of text [] = length text
 place_of text (t ∷ ts) = t.start
 
--- 2 ^ 63, which is a whole number behind a sign alone
+-- the one that is a whole number behind a sign alone
 abbrev pub is_greatest : Option ℕ → Bool
 is_greatest None = false
-is_greatest (Some n) = n == 2 ^ 63
+is_greatest (Some n) = n == greatest_number
 
 abbrev pub named : Wrong → ℕ → OqlFault
 named Expected place = fault.Expected place

@@ -1,5 +1,5 @@
 -- The grammar of queries: which terminals spell what. Nothing here says how they are read.
-use Rattle.std.specs.Prelude.{◌≡◌, ◌⊎◌, ℕ, zero, suc, ◌<◌, ◌≤◌, ◌^◌, pos, neg_ℤ, List, [], ◌∷◌, ◌++◌, length, Bool, true, false, IsTrue, IsFalse, Option, Some, None, ◌==◌, bytes_eq}
+use Rattle.std.specs.Prelude.{◌≡◌, ◌⊎◌, ℕ, zero, suc, ◌<◌, ◌≤◌, pos, neg_ℤ, List, [], ◌∷◌, ◌++◌, length, Bool, true, false, IsTrue, IsFalse, Option, Some, None, ◌==◌, bytes_eq}
 use Rattle.std.specs.List.{list_any}
 use Rattle.gr_value.specs.declared.scalar.Scalar.{Scalar}
 use Rattle.gr_value.specs.declared.scalar.Scalar.TheVariants as scalar
@@ -12,6 +12,7 @@ use Rattle.gr_oql.specs.declared.condition.Operand.TheVariants as operand
 use Rattle.gr_oql.specs.declared.condition.Test.{Test}
 use Rattle.gr_oql.specs.declared.condition.Test.TheVariants as tests
 use Rattle.gr_lex.specs.declared.token.Token.{Token}
+use Rattle.gr_lex.specs.Bytes.{greatest_number}
 use Rattle.gr_lex.specs.Layout.{IsLaidOut}
 use Rattle.gr_oql.specs.Question.{Question}
 use Rattle.gr_oql.specs.Tree.{Tree, any, all, negation, test}
@@ -55,8 +56,8 @@ Literal (scalar.Bool true) ts = One (is_keyword word.True) ts
 Literal (scalar.Bool false) ts = One (is_keyword word.False) ts
 Literal (scalar.Text text) ts = Is as_quoted text ts
 Literal (scalar.Int z) ts =
-    ((n : ℕ) × (n < 2 ^ 63) × (z ≡ pos n) × Is as_number n ts)
-    ⊎ ((n : ℕ) × (n ≤ 2 ^ 63) × (z ≡ neg_ℤ (pos n)) × (One (is_symbol symbols.Minus) then Is as_number n) ts)
+    ((n : ℕ) × (n < greatest_number) × (z ≡ pos n) × Is as_number n ts)
+    ⊎ ((n : ℕ) × (n ≤ greatest_number) × (z ≡ neg_ℤ (pos n)) × (One (is_symbol symbols.Minus) then Is as_number n) ts)
 
 abbrev pub IsOperand : Option (List ℕ) → Operand → List Terminal → Type 0
 IsOperand alias (operand.Field f) ts = Field alias f ts

@@ -3,19 +3,20 @@
 ghost use Rattle.std.specs.Prelude.{◌≡◌, ◌≤◌, length, option_map, Option, List, ℕ, IfOk, IfErr, ◌∷◌};
 ghost use Rattle.gr_value.specs.KeyBytes.{IsKey};
 ghost use Rattle.gr_oql.specs.Grammar.{Asked, most_depth};
-ghost use Rattle.gr_oql.specs.Gives.{Gives};
-ghost use Rattle.gr_oql.specs.Reading.{star_at, region_at, alias_at, end_at, bare_end_at, where_at, source_at, query_at};
+ghost use Rattle.gr_oql.specs.Reader.Gives.{Gives};
+ghost use Rattle.gr_oql.specs.Reader.Reading.{star_at, region_at, alias_at, end_at, bare_end_at, where_at, source_at, query_at};
 ghost use Rattle.gr_oql.specs.View.{tree_of};
-ghost use Rattle.gr_oql.specs.Sources.{asked};
+ghost use Rattle.gr_oql.specs.Reader.Sources.{asked};
 ghost use Rattle.gr_oql.specs.Terminals.{begins, is_tail};
 ghost use Rattle.gr_oql.specs.declared.stop.Stop.TheVariants as stops;
 
+use crate::Part;
+use crate::condition::Condition;
 use crate::conditions::condition;
 use crate::cursor::Cursor;
 use crate::keyword::Keyword;
 use crate::stop::{Stop, Wrong};
 use crate::terms::{keyword_due, name_due, symbol_due};
-use crate::{Condition, Part};
 use gr_lex::Symbol;
 use gr_value::{Key, KeyFault, Text};
 use std::alloc::Global;

@@ -3,16 +3,17 @@
 ghost use Rattle.std.specs.Prelude.{◌≡◌, ◌≤◌, length, option_map, List, ℕ, IfOk};
 ghost use Rattle.gr_value.specs.declared.scalar.Scalar.{Scalar};
 ghost use Rattle.gr_oql.specs.Grammar.{has_backslash};
-ghost use Rattle.gr_oql.specs.Gives.{Gives};
-ghost use Rattle.gr_oql.specs.Reading.{relation_at, pattern_by, like_at, separated_at, literal_at, among_at, compare_at, behind_operand, behind_first, bracketed_at, test_at};
+ghost use Rattle.gr_oql.specs.Reader.Gives.{Gives};
+ghost use Rattle.gr_oql.specs.Reader.Reading.{relation_at, pattern_by, like_at, separated_at, literal_at, among_at, compare_at, behind_operand, behind_first, bracketed_at, test_at};
 ghost use Rattle.gr_oql.specs.Terminals.{is_symbol, front, as_quoted};
 ghost use Rattle.gr_lex.specs.declared.token.Symbol.TheVariants as symbols;
 
+use crate::Part;
+use crate::condition::{Operand, Relation, Test};
 use crate::cursor::Cursor;
 use crate::keyword::Keyword;
 use crate::stop::{Stop, Wrong};
 use crate::terms::{field, keyword_due, literal, operand, symbol_due, unquoted};
-use crate::{Operand, Part, Relation, Test};
 use gr_lex::Symbol;
 use gr_value::{ItemList, Scalar, Text};
 use std::alloc::Global;

@@ -3,12 +3,12 @@
 ghost use Rattle.std.specs.Prelude.{◌≡◌, ◌≤◌, length, option_map};
 ghost use Rattle.gr_oql.specs.Grammar.{most_depth};
 ghost use Rattle.gr_oql.specs.View.{tree_of};
-ghost use Rattle.gr_oql.specs.Gives.{Gives};
-ghost use Rattle.gr_oql.specs.Reading.{all_at, any_at, bracket_at, part_at, condition_at, read_as, test_at};
+ghost use Rattle.gr_oql.specs.Reader.Gives.{Gives};
+ghost use Rattle.gr_oql.specs.Reader.Reading.{all_at, any_at, bracket_at, part_at, condition_at, read_as, test_at};
 ghost use Rattle.gr_oql.specs.Tree.{test};
 
-use crate::Condition;
 use crate::comparisons::test;
+use crate::condition::Condition;
 use crate::cursor::Cursor;
 use crate::keyword::Keyword;
 use crate::stop::{Stop, Wrong};
@@ -114,7 +114,7 @@ fn any(
     Ok(Condition::Any(parts))
 }
 
-#[tactic(auto, unfolding(crate::specs::Reading::condition_at))]
+#[tactic(auto, unfolding(crate::specs::Reader::Reading::condition_at))]
 pub(crate) fn condition(
     cursor: &mut Cursor,
     alloc: Global,

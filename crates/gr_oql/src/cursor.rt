@@ -1,7 +1,7 @@
 ghost use Rattle.std.specs.Prelude.{◌≡◌, ◌<◌, ◌≤◌, length, if◌then◌else◌, option_map, IfSome};
 ghost use Rattle.std.specs.Bool.{OnTrue};
-ghost use Rattle.gr_oql.specs.Lexemes.{terminals};
-ghost use Rattle.gr_oql.specs.Names.{AreNamed, HasWordBytes};
+ghost use Rattle.gr_oql.specs.Reader.Lexemes.{terminals};
+ghost use Rattle.gr_oql.specs.Reader.Names.{AreNamed, HasWordBytes};
 ghost use Rattle.gr_oql.specs.Terminals.{symbol_eq, is_symbol, is_keyword, begins, front, rest, as_name, as_word, as_number, as_quoted, undoubled};
 
 use crate::keyword::Keyword;
@@ -18,8 +18,8 @@ pub(crate) struct Cursor<'a> {
 impl<'a> Model for Cursor<'a> {
     ghost use Rattle.std.specs.Prelude.{List};
     ghost use Rattle.gr_oql.specs.Terminals.{Terminal};
-    ghost use Rattle.gr_oql.specs.Lexemes.{terminals};
-    ghost use Rattle.gr_oql.specs.Names.{AreNamed};
+    ghost use Rattle.gr_oql.specs.Reader.Lexemes.{terminals};
+    ghost use Rattle.gr_oql.specs.Reader.Names.{AreNamed};
 
     ghost Value = { List Terminal };
 

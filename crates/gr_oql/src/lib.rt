@@ -19,7 +19,6 @@ mod terms;
 mod tests;
 mod truth;
 
-pub use condition::{Condition, Operand, Relation, Test};
 pub use event::{BaseOp, Event, EventList, QueryOp, classify};
 pub use fault::{OqlFault, Part};
 pub use query::Query;

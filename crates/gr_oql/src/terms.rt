@@ -1,20 +1,20 @@
 //! Fields, literals and operands.
 
-ghost use Rattle.std.specs.Prelude.{◌≡◌, ◌≤◌, length, ℤ, pos, neg_ℤ, ◌^◌, nat_le, nat_lt, if◌then◌else◌, Some, None, Option, IfOk, List, ℕ, option_map, MatchOption};
+ghost use Rattle.std.specs.Prelude.{◌≡◌, ◌≤◌, length, ℤ, pos, neg_ℤ, nat_le, nat_lt, if◌then◌else◌, Some, None, Option, IfOk, List, ℕ, option_map, MatchOption};
+ghost use Rattle.gr_lex.specs.Bytes.{greatest_number};
 ghost use Rattle.gr_oql.specs.Grammar.{is_alias};
-ghost use Rattle.gr_oql.specs.Gives.{Gives};
-ghost use Rattle.gr_oql.specs.Reading.{symbol_at, keyword_at, name_at, member_at, field_of_name, field_at, negative_at, literal_at, operand_at, missing, plain_by};
+ghost use Rattle.gr_oql.specs.Reader.Gives.{Gives};
+ghost use Rattle.gr_oql.specs.Reader.Reading.{symbol_at, keyword_at, name_at, member_at, field_of_name, field_at, negative_at, literal_at, operand_at, missing, plain_by};
 ghost use Rattle.gr_oql.specs.Terminals.{undoubled, front, as_number, as_quoted, SplitsAtQuotes};
 
+use crate::Part;
+use crate::condition::Operand;
 use crate::cursor::Cursor;
 use crate::keyword::Keyword;
 use crate::stop::{Stop, Wrong};
-use crate::{Operand, Part};
-use gr_lex::Symbol;
+use gr_lex::{Symbol, Token};
 use gr_value::{Memory, Scalar, Text};
 use std::alloc::Global;
-
-const LEAST_MAGNITUDE: u64 = 9223372036854775808;
 
 pub(crate) fn symbol_due(cursor: &mut Cursor, symbol: Symbol) -> Result<(), Stop>
     ensures exact { Gives (λ x. x) result cursor.new (symbol_at symbol cursor.old) }
@@ -134,11 +134,11 @@ pub(crate) fn unquoted(alloc: Global, inside: &str) -> Result<Text, Memory>
 
 /// The number behind a sign.
 fn negated(number: u64) -> Option<i64>
-    ensures { result ≡ (if nat_le number (2 ^ 63) then Some (neg_ℤ (pos number)) else None) }
+    ensures { result ≡ (if nat_le number greatest_number then Some (neg_ℤ (pos number)) else None) }
 {
-    if number < LEAST_MAGNITUDE {
+    if number < Token::GREATEST_NUMBER {
         Some(-(number as i64))
-    } else if number == LEAST_MAGNITUDE {
+    } else if number == Token::GREATEST_NUMBER {
         Some(i64::MIN)
     } else {
         None
@@ -178,7 +178,7 @@ fn plain(cursor: &mut Cursor, alloc: Global) -> Result<Scalar, Stop>
     ensures within { length cursor.new ≤ length cursor.old }
 {
     if let Some(number) = cursor.number() {
-        if number < LEAST_MAGNITUDE {
+        if number < Token::GREATEST_NUMBER {
             cursor.advance();
             Ok(Scalar::Int(number as i64))
         } else {

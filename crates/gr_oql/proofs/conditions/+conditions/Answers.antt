@@ -4,7 +4,7 @@ use Rattle.gr_oql.specs.declared.keyword.Keyword.TheVariants as word
 use Rattle.gr_oql.specs.Tree.{any, all}
 use Rattle.gr_oql.specs.View.{tree_of, in_order}
 use Rattle.gr_oql.specs.Terminals.{is_keyword}
-use Rattle.gr_oql.specs.Reading.{part_at, all_at}
+use Rattle.gr_oql.specs.Reader.Reading.{part_at, all_at}
 use Rattle.gr_oql.proofs.Rows.{begun, stepped, finished, stops_within}
 use Rattle.gr_oql.proofs.Trees.{tree_of-All, tree_of-Any, pushed, first_pushed, made, made_stops}
 use Rattle.gr_oql.proofs.conditions.+conditions.Goals as goal

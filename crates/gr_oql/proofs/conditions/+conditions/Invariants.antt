@@ -2,7 +2,7 @@ use Rattle.std.proofs.Common.{◌*◌, ◌+◌, length, map, option_map}
 use Rattle.gr_oql.specs.declared.keyword.Keyword.TheVariants as word
 use Rattle.gr_oql.specs.Terminals.{is_keyword}
 use Rattle.gr_oql.specs.View.{tree_of}
-use Rattle.gr_oql.specs.Reading.{all_at, part_at}
+use Rattle.gr_oql.specs.Reader.Reading.{all_at, part_at}
 use Rattle.gr_oql.proofs.Rows.{SoFar}
 use Rattle.gr_oql.proofs.conditions.+conditions.Given as goal
 

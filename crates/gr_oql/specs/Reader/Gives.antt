@@ -1,7 +1,7 @@
 -- What a reader of the code answered beside what is read.
 use Rattle.std.specs.Prelude.{◌≡◌, List, Result, Ok, Err}
 use Rattle.gr_oql.specs.Terminals.{Terminal}
-use Rattle.gr_oql.specs.Reading.{Reading}
+use Rattle.gr_oql.specs.Reader.Reading.{Reading}
 use Rattle.gr_oql.specs.declared.stop.Stop.{Stop}
 use Rattle.gr_oql.specs.declared.stop.Stop.TheVariants as stops
 

@@ -1,7 +1,7 @@
 -- What a query's tokens say, or where they cease to begin a query: a definition for each rule of the grammar.
 -- Each reads at the front, and gives what stands there and the tokens behind it; or what is wrong, and the
 -- tokens from the first wrong one on.
-use Rattle.std.specs.Prelude.{ℕ, zero, suc, ◌^◌, pos, neg_ℤ, List, [], ◌∷◌, length, Bool, true, false, ◌||◌, if◌then◌else◌, nat_lt, nat_le, Option, Some, None, Result, Ok, Err}
+use Rattle.std.specs.Prelude.{ℕ, zero, suc, pos, neg_ℤ, List, [], ◌∷◌, length, Bool, true, false, ◌||◌, if◌then◌else◌, nat_lt, nat_le, Option, Some, None, Result, Ok, Err}
 use Rattle.gr_value.specs.declared.scalar.Scalar.{Scalar}
 use Rattle.gr_value.specs.declared.scalar.Scalar.TheVariants as scalar
 use Rattle.gr_lex.specs.declared.token.Symbol.TheVariants as symbols
@@ -17,6 +17,7 @@ use Rattle.gr_oql.specs.declared.fault.Part.TheVariants as part
 use Rattle.gr_oql.specs.declared.stop.Wrong.{Wrong}
 use Rattle.gr_oql.specs.declared.stop.Wrong.TheVariants.{Expected, NotACq, TooDeep}
 use Rattle.gr_lex.specs.declared.token.Symbol.{Symbol}
+use Rattle.gr_lex.specs.Bytes.{greatest_number}
 use Rattle.gr_oql.specs.Grammar.{is_alias, has_backslash, most_depth, Asked}
 use Rattle.gr_oql.specs.Tree.{Tree, any, all, negation, test}
 use Rattle.gr_oql.specs.View.{in_order}
@@ -67,7 +68,7 @@ abbrev pub field_at : Option (List ℕ) → List Terminal → Reading (List ℕ)
 field_at alias ts = field_by alias (front as_name ts) ts
 
 abbrev pub negative_by : Option ℕ → List Terminal → Reading Scalar
-negative_by (Some n) ts = if nat_le n (2 ^ 63) then Ok (scalar.Int (neg_ℤ (pos n)), rest ts) else stop Expected ts
+negative_by (Some n) ts = if nat_le n greatest_number then Ok (scalar.Int (neg_ℤ (pos n)), rest ts) else stop Expected ts
 negative_by None ts = stop Expected ts
 
 abbrev pub negative_at : List Terminal → Reading Scalar
@@ -78,7 +79,7 @@ abbrev pub missing : List Terminal → Wrong
 missing ts = if begins (is_symbol symbols.Dollar) ts then NotACq part.Bind else Expected
 
 abbrev pub plain_by : Option ℕ → Option (List ℕ) → List Terminal → Reading Scalar
-plain_by (Some n) text ts = if nat_lt n (2 ^ 63) then Ok (scalar.Int (pos n), rest ts) else stop Expected ts
+plain_by (Some n) text ts = if nat_lt n greatest_number then Ok (scalar.Int (pos n), rest ts) else stop Expected ts
 plain_by None (Some text) ts = Ok (scalar.Text text, rest ts)
 plain_by None None ts = stop (missing ts) ts
 

@@ -1,9 +1,8 @@
--- What a text asks, or its fault and where it is.
+-- What the tokens of a text ask, or the fault and where it is.
 use Rattle.std.specs.Prelude.{◌≡◌, ℕ, ◌-◌, List, length, drop, Result, Ok, Err}
 use Rattle.gr_lex.specs.declared.token.Token.{Token}
 use Rattle.gr_lex.specs.declared.fault.LexFault.{LexFault}
 use Rattle.gr_lex.specs.declared.fault.LexFault.TheVariants as lex
-use Rattle.gr_lex.specs.Reading.{tokens_of}
 use Rattle.gr_oql.specs.declared.fault.OqlFault.{OqlFault}
 use Rattle.gr_oql.specs.declared.fault.OqlFault.TheVariants as fault
 use Rattle.gr_oql.specs.declared.stop.Wrong.{Wrong}
@@ -11,7 +10,7 @@ use Rattle.gr_oql.specs.Question.{Question}
 use Rattle.gr_oql.specs.Terminals.{Terminal, terminals_of, front, as_number}
 use Rattle.gr_oql.specs.Grammar.{Asked}
 use Rattle.gr_oql.specs.FirstFault.{place_of, fault_by}
-use Rattle.gr_oql.specs.Reading.{Reading, query_at}
+use Rattle.gr_oql.specs.Reader.Reading.{Reading, query_at}
 
 -- the fault at the tokens of which so many are left
 abbrev pub fault_of : List ℕ → List Token → Wrong → List Terminal → OqlFault
@@ -25,10 +24,7 @@ abbrev pub answer_of_tokens : List ℕ → Result (List Token) LexFault → Resu
 answer_of_tokens text (Ok tokens) = answer text tokens (query_at (terminals_of text tokens))
 answer_of_tokens text (Err f) = Err (fault.Lex f)
 
-abbrev pub question_of : List ℕ → Result Question OqlFault
-question_of text = answer_of_tokens text (tokens_of text)
-
--- What was answered is what the text asks, unless memory ran out. That is never the fault of a token.
+-- What was answered is what is read, unless memory ran out. That is never the fault of a token.
 abbrev pub Answers : Result Question OqlFault → Result Question OqlFault → Type 0
 Answers (Ok q) read = read ≡ Ok q
 Answers (Err fault.Memory) read = Unit {0}
