@@ -1,5 +1,5 @@
 -- What each cause says of the words, the source, the sink and the record.
-use Rattle.std.specs.Prelude.{◌≡◌, ℕ, ◌+◌, ◌≤◌, List, length, Option, None, IfSome, IsSomeAnd}
+use Rattle.std.specs.Prelude.{◌≡◌, ◌↔◌, ◌⊎◌, ℕ, ◌+◌, ◌≤◌, List, length, Option, Some, None, IfSome, IsSomeAnd}
 use Rattle.std.specs.Io.KnownBytes.{IsAtEnd, Appends, Consumes}
 use Rattle.gr_history.specs.declared.record.Record.{Record}
 use Rattle.gr_io.specs.Faults.{Rose}
@@ -15,6 +15,9 @@ use Rattle.gr_script.specs.Spelling.{IsSpelled}
 use Rattle.gr_world.specs.Replayed.{IsReplayed}
 use Rattle.gr_top.specs.declared.cause.Cause.{Cause}
 use Rattle.gr_top.specs.declared.cause.Cause.TheVariants.{Finished, Usage, ReadFault, TooLarge, Script, WriteFault, Memory}
+use Rattle.gr_top.specs.Causes.{status_of}
+use Rattle.gr_top.specs.CauseTexts.{text_of_cause}
+use Rattle.gr_top.specs.Words.{misfit}
 
 -- The most bytes of a script.
 abbrev pub most_bytes : ℕ
@@ -102,3 +105,17 @@ Stops source cause = (sink : Stream) → IsUntouched sink → Explains source si
 -- The words aren't the cause.
 abbrev pub IsNoUsage : Cause → Type 0
 IsNoUsage cause = (place : ℕ) → cause ≡ Usage place → ⊥
+
+-- The cause's line was written, or a part of it where the sink's count rose.
+abbrev pub IsTold : Stream → Cause → Type 0
+IsTold errors cause = Appends errors.bytes_before errors.bytes_after (text_of_cause cause)
+    ⊎ (AppendsPart errors.bytes_before errors.bytes_after (text_of_cause cause) × Counted errors)
+
+-- How the program answered its words: for one cause, which its status, its line and all that it read, wrote and kept agree with.
+pub record IsAnswered (words : List (List ℕ)) (source sink errors : Stream) (status : ℕ) : Type 0 where
+  pub cause : Cause
+  pub kept : Option Record
+  pub status_is : status ≡ status_of cause
+  pub usage : (place : ℕ) → (cause ≡ Usage place) ↔ (misfit words ≡ Some place)
+  pub explained : Explains source sink kept cause
+  pub told : IsTold errors cause
