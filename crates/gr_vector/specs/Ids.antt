@@ -31,7 +31,8 @@ covers member (suc n) ids = has_id (record { member = member; rv = suc n }) ids 
 abbrev pub gaps_upto : ℕ → ℕ → List Id → ℕ
 gaps_upto member zero ids = 0
 gaps_upto member (suc n) ids = gaps_upto member n ids
-    + (if not (has_id (record { member = member; rv = suc n }) ids) && has_id (record { member = member; rv = suc (suc n) }) ids then 1 else 0)
+    + (if not (has_id (record { member = member; rv = suc n }) ids) && has_id
+    (record { member = member; rv = suc (suc n) }) ids then 1 else 0)
 
 -- how many runs of missing numbers lie below a member's greatest: each ends where the next number is there
 abbrev pub exceptions : ℕ → List Id → ℕ
