@@ -18,7 +18,8 @@ overlap_missing q one two = at_test (leb (max one.first two.first) (min one.last
     none a b c d e = grind (arith, nat_tests)
 
     at_test : (b : Bool) → leb (max one.first two.first) (min one.last two.last) ≡ b
-        → is_missing q (if b then record { first = max one.first two.first; last = min one.last two.last } ∷ [] else []) ≡ (is_in q one && is_in q two)
+        → is_missing q (if b then record { first = max one.first two.first; last = min one.last two.last } ∷ [] else [])
+        ≡ (is_in q one && is_in q two)
     at_test true e = some one.first one.last two.first two.last
     at_test false e = none one.first one.last two.first two.last e
 
@@ -39,7 +40,8 @@ pub common_missing : (q : ℕ) (ours theirs : List Gap) → is_missing q (common
 common_missing q [] theirs = refl
 common_missing q (one ∷ rest) theirs =
     missing_append q (overlaps one theirs) (common rest theirs)
-    ∙ joined (is_missing q (overlaps one theirs)) (is_missing q (common rest theirs)) (is_in q one) (is_missing q rest) (is_missing q theirs)
+    ∙ joined (is_missing q (overlaps one theirs)) (is_missing q (common rest theirs)) (is_in q one) (is_missing q rest)
+    (is_missing q theirs)
     (overlaps_missing q one theirs) (common_missing q rest theirs)
   where
     joined : (m n a b c : Bool) → m ≡ (a && c) → n ≡ (b && c) → (m || n) ≡ ((a || b) && c)
@@ -63,11 +65,13 @@ overlaps_apart low their end one (two ∷ rest) h k apart =
     at_test true e behind all = (omega (arith, h, apart.0), below (max one.first two.first) (min one.last two.last) e, behind)
     at_test false e behind all = all
 
-apart_append : (low middle end : ℕ) (xs ys : List Gap) → middle ≤ end → AreApart low middle xs → AreApart (middle + 2) end ys → AreApart low end (xs ++ ys)
+apart_append : (low middle end : ℕ) (xs ys : List Gap) → middle ≤ end → AreApart low middle xs → AreApart (middle + 2) end ys
+    → AreApart low end (xs ++ ys)
 apart_append low middle end [] ys le h k = apart_sooner low (middle + 2) end ys h k
 apart_append low middle end (gap ∷ xs) ys le h k = (h.0, h.1, apart_append (gap.last + 2) middle end xs ys le h.2 k)
 
-pub common_apart : (low their end : ℕ) (ours theirs : List Gap) → AreApart low end ours → AreApart their end theirs → AreApart low end (common ours theirs)
+pub common_apart : (low their end : ℕ) (ours theirs : List Gap) → AreApart low end ours → AreApart their end theirs
+    → AreApart low end (common ours theirs)
 common_apart low their end [] theirs h k = h
 common_apart low their end (one ∷ rest) theirs h k =
     let a = apart_low (one.last + 2) end rest h.2 in
@@ -82,13 +86,16 @@ common_gaps ours theirs h k =
     both : (a b : Bool) → a ≡ true → b ≡ true → (a && b) ≡ true
     both a b h k = grind arith
 
-pub common_holds : (v : ℕ) (ours theirs : List Gap) → AreGaps ours → AreGaps theirs → holds v (common ours theirs) ≡ (holds v ours || holds v theirs)
+pub common_holds : (v : ℕ) (ours theirs : List Gap) → AreGaps ours → AreGaps theirs → holds v (common ours theirs)
+    ≡ (holds v ours || holds v theirs)
 common_holds v ours theirs h k =
     joined (ltb 0 v) (leb v END) (is_missing v (common ours theirs)) (is_missing v ours) (is_missing v theirs)
     (holds v (common ours theirs)) (holds v ours) (holds v theirs)
-    (common_missing v ours theirs) (holds_is v (common ours theirs) (common_gaps ours theirs h k)) (holds_is v ours h) (holds_is v theirs k)
+    (common_missing v ours theirs) (holds_is v (common ours theirs) (common_gaps ours theirs h k)) (holds_is v ours h)
+    (holds_is v theirs k)
   where
-    joined : (a b m n o x y z : Bool) → m ≡ (n && o) → x ≡ (a && (b && not m)) → y ≡ (a && (b && not n)) → z ≡ (a && (b && not o)) → x ≡ (y || z)
+    joined : (a b m n o x y z : Bool) → m ≡ (n && o) → x ≡ (a && (b && not m)) → y ≡ (a && (b && not n)) → z ≡ (a && (b && not o)) → x
+        ≡ (y || z)
     joined a b m n o x y z h p q r = grind arith
 
 none_if : (b : Bool) (gap : Gap) → b ≡ false → (if b then gap ∷ [] else []) ≡ []
@@ -97,7 +104,8 @@ none_if true gap e = absurd (cc)
 
 no_overlap : (one two : Gap) → one.last < two.first → overlap one two ≡ []
 no_overlap one two h =
-    none_if (leb (max one.first two.first) (min one.last two.last)) (record { first = max one.first two.first; last = min one.last two.last })
+    none_if (leb (max one.first two.first) (min one.last two.last))
+    (record { first = max one.first two.first; last = min one.last two.last })
     (apart one.first one.last two.first two.last h)
   where
     apart : (a b c d : ℕ) → b < c → leb (max a c) (min b d) ≡ false
@@ -105,7 +113,8 @@ no_overlap one two h =
 
 no_overlap_before : (one two : Gap) → two.last < one.first → overlap one two ≡ []
 no_overlap_before one two h =
-    none_if (leb (max one.first two.first) (min one.last two.last)) (record { first = max one.first two.first; last = min one.last two.last })
+    none_if (leb (max one.first two.first) (min one.last two.last))
+    (record { first = max one.first two.first; last = min one.last two.last })
     (apart one.first one.last two.first two.last h)
   where
     apart : (a b c d : ℕ) → d < a → leb (max a c) (min b d) ≡ false
@@ -118,7 +127,8 @@ overlaps_past low end one (two ∷ rest) h lt =
     rw (no_overlap one two (omega (arith, h.0))) (overlaps_past (two.last + 2) end one rest h.2 (omega (arith, h.0, h.1)))
 
 -- none of those behind a range has something with it
-pub common_past : (low end : ℕ) (two : Gap) (ours rest : List Gap) → AreApart low end ours → two.last < low → common ours (two ∷ rest) ≡ common ours rest
+pub common_past : (low end : ℕ) (two : Gap) (ours rest : List Gap) → AreApart low end ours → two.last < low → common ours (two ∷ rest)
+    ≡ common ours rest
 common_past low end two [] rest h lt = refl
 common_past low end two (one ∷ ours) rest h lt =
     ap (λ xs. (xs ++ overlaps one rest) ++ common ours (two ∷ rest)) (no_overlap_before one two (omega (arith, h.0)))
@@ -147,7 +157,8 @@ apart_drop (suc k) low end [] h = (low, h)
 apart_drop (suc k) low end (gap ∷ rest) h = apart_drop k (gap.last + 2) end rest h.2
 
 -- one step of the walk along both
-pub walk_ours : (i j : ℕ) (ours theirs : List Gap) (d e : Gap) → AreApart 1 END ours → AreApart 1 END theirs → i < length ours → j < length theirs
+pub walk_ours : (i j : ℕ) (ours theirs : List Gap) (d e : Gap) → AreApart 1 END ours → AreApart 1 END theirs → i < length ours
+    → j < length theirs
     → (get_or ours i d).last < (get_or theirs j e).last
     → common (drop i ours) (drop j theirs) ≡ overlap (get_or ours i d) (get_or theirs j e) ++ common (drop (i + 1) ours) (drop j theirs)
 walk_ours i j ours theirs d e h k i_lt j_lt lt =
@@ -156,7 +167,8 @@ walk_ours i j ours theirs d e h k i_lt j_lt lt =
     (common_ours a.0 END (get_or ours i d) (get_or theirs j e) (drop (suc i) ours) (drop (suc j) theirs)
     (subst (λ xs. AreApart a.0 END xs) (drop-cons theirs j e j_lt) a.1) lt))
 
-pub walk_theirs : (i j : ℕ) (ours theirs : List Gap) (d e : Gap) → AreApart 1 END ours → AreApart 1 END theirs → i < length ours → j < length theirs
+pub walk_theirs : (i j : ℕ) (ours theirs : List Gap) (d e : Gap) → AreApart 1 END ours → AreApart 1 END theirs → i < length ours
+    → j < length theirs
     → (get_or theirs j e).last ≤ (get_or ours i d).last
     → common (drop i ours) (drop j theirs) ≡ overlap (get_or ours i d) (get_or theirs j e) ++ common (drop i ours) (drop (j + 1) theirs)
 walk_theirs i j ours theirs d e h k i_lt j_lt le =
@@ -166,7 +178,8 @@ walk_theirs i j ours theirs d e h k i_lt j_lt le =
     (subst (λ xs. AreApart a.0 END xs) (drop-cons ours i d i_lt) a.1) le))
 
 -- what was found, with what is left to find
-pub walk_on : (done both here left next all : List Gap) → both ≡ done ++ here → left ≡ here ++ next → done ++ left ≡ all → both ++ next ≡ all
+pub walk_on : (done both here left next all : List Gap) → both ≡ done ++ here → left ≡ here ++ next → done ++ left ≡ all → both ++ next
+    ≡ all
 walk_on done both here left next all h k e =
     ap (λ xs. xs ++ next) h ∙ append_assoc done here next ∙ ap (λ xs. done ++ xs) (sym k) ∙ e
 

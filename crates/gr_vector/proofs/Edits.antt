@@ -11,7 +11,8 @@ use Rattle.gr_vector.proofs.Apart.{apart_sooner, none_below, holds_is}
 
 pub missing_append : (q : ℕ) (xs ys : List Gap) → is_missing q (xs ++ ys) ≡ (is_missing q xs || is_missing q ys)
 missing_append q [] ys = refl
-missing_append q (gap ∷ xs) ys = ap (λ b. is_in q gap || b) (missing_append q xs ys) ∙ regroup (is_in q gap) (is_missing q xs) (is_missing q ys)
+missing_append q (gap ∷ xs) ys = ap (λ b. is_in q gap || b) (missing_append q xs ys)
+    ∙ regroup (is_in q gap) (is_missing q xs) (is_missing q ys)
   where
     regroup : (a b c : Bool) → (a || (b || c)) ≡ ((a || b) || c)
     regroup a b c = grind arith
@@ -116,7 +117,8 @@ there_missing v zero gap (first ∷ rest) h lt is = here (is_in v first) (is_mis
   where
     here : (a b : Bool) → a ≡ true → (a || b) ≡ true
     here a b h = grind arith
-there_missing v (suc place) gap (first ∷ rest) h lt is = later (is_in v first) (is_missing v rest) (there_missing v place gap rest h (omega (arith, lt)) is)
+there_missing v (suc place) gap (first ∷ rest) h lt is =
+    later (is_in v first) (is_missing v rest) (there_missing v place gap rest h (omega (arith, lt)) is)
   where
     later : (a b : Bool) → b ≡ true → (a || b) ≡ true
     later a b h = grind arith
@@ -130,11 +132,13 @@ at_place f v low end place gap [] h along at apart lt is = absurd (omega (arith,
 at_place f v low end zero gap (first ∷ rest) h along at apart lt is =
     subst (λ z. f (z ∷ rest) 0 ≡ without v (z ∷ rest)) is (at rest ∙ sym (here (is_in v gap) h))
   where
-    here : (b : Bool) → b ≡ true → (if b then front_of v gap ++ (back_of v gap ++ rest) else gap ∷ without v rest) ≡ front_of v gap ++ (back_of v gap ++ rest)
+    here : (b : Bool) → b ≡ true → (if b then front_of v gap ++ (back_of v gap ++ rest) else gap ∷ without v rest)
+        ≡ front_of v gap ++ (back_of v gap ++ rest)
     here true e = refl
     here false e = absurd (cc)
 at_place f v low end (suc place) gap (first ∷ rest) h along at apart lt is =
-    along first rest place ∙ ap (λ xs. first ∷ xs) (at_place f v (first.last + 2) end place gap rest h along at apart.2 (omega (arith, lt)) is)
+    along first rest place ∙ ap (λ xs. first ∷ xs)
+    (at_place f v (first.last + 2) end place gap rest h along at apart.2 (omega (arith, lt)) is)
     ∙ sym (past (is_in v first) (apart_from (is_in v first) refl))
   where
     upto : (a b : ℕ) → (leb a v && leb v b) ≡ true → v < b + 2
@@ -142,9 +146,11 @@ at_place f v low end (suc place) gap (first ∷ rest) h along at apart lt is =
 
     apart_from : (b : Bool) → is_in v first ≡ b → b ≡ false
     apart_from false e = refl
-    apart_from true e = sym (there_missing v place gap rest h (omega (arith, lt)) is) ∙ none_below v (first.last + 2) end rest apart.2 (upto first.first first.last e)
+    apart_from true e = sym (there_missing v place gap rest h (omega (arith, lt)) is)
+        ∙ none_below v (first.last + 2) end rest apart.2 (upto first.first first.last e)
 
-    past : (b : Bool) → b ≡ false → (if b then front_of v first ++ (back_of v first ++ rest) else first ∷ without v rest) ≡ first ∷ without v rest
+    past : (b : Bool) → b ≡ false → (if b then front_of v first ++ (back_of v first ++ rest) else first ∷ without v rest)
+        ≡ first ∷ without v rest
     past false e = refl
     past true e = absurd (cc)
 
@@ -204,7 +210,8 @@ front_left : (v : ℕ) (gap : Gap) (rest : List Gap) → gap.first < v → gap.l
 front_left v gap rest h k = rw (front_some v gap h, back_none v gap k) refl
 
 both_left : (v : ℕ) (gap : Gap) (rest : List Gap) → gap.first < v → v < gap.last
-    → record { first = gap.first; last = v - 1 } ∷ record { first = v + 1; last = gap.last } ∷ rest ≡ front_of v gap ++ (back_of v gap ++ rest)
+    → record { first = gap.first; last = v - 1 } ∷ record { first = v + 1; last = gap.last } ∷ rest
+    ≡ front_of v gap ++ (back_of v gap ++ rest)
 both_left v gap rest h k = rw (front_some v gap h, back_some v gap k) refl
 
 pub out_whole : (v low end place : ℕ) (gap : Gap) (gaps : List Gap) → AreApart low end gaps → IsAt v place gap gaps → gap.first ≡ gap.last
@@ -231,13 +238,16 @@ out_last v low end place gap gaps h at ne e =
     at_place (λ xs k. set xs k (record { first = gap.first; last = v - 1 })) v low end place gap gaps own (λ first rest k. refl)
     (λ rest. front_left v gap rest (omega (arith, b.0, ne)) (omega (arith, e))) h at.lt at.is
 
-pub out_middle : (v low end place : ℕ) (gap : Gap) (gaps : List Gap) → AreApart low end gaps → IsAt v place gap gaps → gap.first ≢ v → gap.last ≢ v
-    → set (take (suc place) gaps ++ record { first = v + 1; last = gap.last } ∷ drop (suc place) gaps) place (record { first = gap.first; last = v - 1 })
+pub out_middle : (v low end place : ℕ) (gap : Gap) (gaps : List Gap) → AreApart low end gaps → IsAt v place gap gaps → gap.first ≢ v
+    → gap.last ≢ v
+    → set (take (suc place) gaps ++ record { first = v + 1; last = gap.last } ∷ drop (suc place) gaps) place
+    (record { first = gap.first; last = v - 1 })
     ≡ without v gaps
 out_middle v low end place gap gaps h at ne nl =
     let own = its_own v place gap gaps at in
     let b = bounds v gap.first gap.last own in
-    at_place (λ xs k. set (take (suc k) xs ++ record { first = v + 1; last = gap.last } ∷ drop (suc k) xs) k (record { first = gap.first; last = v - 1 }))
+    at_place (λ xs k. set (take (suc k) xs ++ record { first = v + 1; last = gap.last } ∷ drop (suc k) xs) k
+    (record { first = gap.first; last = v - 1 }))
     v low end place gap gaps own (λ first rest k. refl)
     (λ rest. both_left v gap rest (omega (arith, b.0, ne)) (omega (arith, b.1, nl))) h at.lt at.is
 
@@ -263,4 +273,5 @@ pub found : (r : Option ℕ) (v : ℕ) (gaps : List Gap) → IfSome r (λ place.
 found None v gaps lt h = sym h
 found (Some place) v gaps lt h =
     let gap : Gap = get_or gaps place (record { first = 0; last = 0 }) in
-    sym (there_missing v place gap gaps (h (record { first = 0; last = 0 })) lt (get_or_default gaps place (record { first = 0; last = 0 }) gap lt))
+    sym (there_missing v place gap gaps (h (record { first = 0; last = 0 })) lt
+    (get_or_default gaps place (record { first = 0; last = 0 }) gap lt))

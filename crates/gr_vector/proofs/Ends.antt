@@ -6,7 +6,8 @@ use Rattle.gr_vector.specs.declared.gap.TheConstants.{END}
 use Rattle.gr_vector.specs.Gaps.{is_missing, AreApart, AreGaps, last_start, greatest, holds, holds_upto, ends_upto}
 use Rattle.gr_vector.proofs.Apart.{none_below, start_above, start_below, before_last, holds_within}
 
-pub last_start-is : (s : ℕ) (gap : Gap) (rest : List Gap) (d : Gap) → last_start s (gap ∷ rest) ≡ (get_or (gap ∷ rest) (length rest) d).first
+pub last_start-is : (s : ℕ) (gap : Gap) (rest : List Gap) (d : Gap) → last_start s (gap ∷ rest)
+    ≡ (get_or (gap ∷ rest) (length rest) d).first
 last_start-is s gap [] d = refl
 last_start-is s gap (next ∷ rest) d = last_start-is gap.first next rest d
 
@@ -52,7 +53,8 @@ ended-suc n low end (gap ∷ rest) h =
 
 ended_none : (low end : ℕ) (gaps : List Gap) → 1 ≤ low → AreApart low end gaps → ended 0 gaps ≡ 0
 ended_none low end [] k h = refl
-ended_none low end (gap ∷ rest) k h = none_here gap.last (ended 0 rest) (omega (arith, h.0, h.1)) (ended_none (gap.last + 2) end rest (omega arith) h.2)
+ended_none low end (gap ∷ rest) k h = none_here gap.last (ended 0 rest) (omega (arith, h.0, h.1))
+    (ended_none (gap.last + 2) end rest (omega arith) h.2)
   where
     none_here : (b e : ℕ) → 1 ≤ b → e ≡ 0 → (if leb b 0 then 1 else 0) + e ≡ 0
     none_here b e h k = grind (arith, nat_tests)
@@ -60,7 +62,8 @@ ended_none low end (gap ∷ rest) k h = none_here gap.last (ended 0 rest) (omega
 pub ends_upto-is : (n : ℕ) (gaps : List Gap) → AreGaps gaps → n < END → ends_upto n gaps ≡ ended n gaps
 ends_upto-is zero gaps h lt = sym (ended_none 1 END gaps (omega arith) h.0)
 ends_upto-is (suc n) gaps h lt =
-    step (ends_upto n gaps) (ended n gaps) (holds (suc n) gaps) (holds (suc (suc n)) gaps) (is_missing (suc n) gaps) (is_missing (suc (suc n)) gaps)
+    step (ends_upto n gaps) (ended n gaps) (holds (suc n) gaps) (holds (suc (suc n)) gaps) (is_missing (suc n) gaps)
+    (is_missing (suc (suc n)) gaps)
     (ends_upto-is n gaps h (omega arith))
     (holds_within (suc n) gaps h (omega arith) (omega arith)) (holds_within (suc (suc n)) gaps h (omega arith) (omega arith))
     ∙ sym (ended-suc n 1 END gaps h.0)
@@ -77,7 +80,8 @@ ended_all v low end s gap [] h e = not_yet gap.first gap.last v e h.1
     not_yet a b v e h = grind (arith, nat_tests)
 ended_all v low end s gap (next ∷ rest) h e =
     let a = start_above (next.last + 2) end (gap.last + 2) next.first rest h.2.2 h.2.0 (omega (arith, h.2.0, h.2.1)) in
-    one_more gap.last v (ended v (next ∷ rest)) (length rest) (omega (arith, a, e)) (ended_all v (gap.last + 2) end gap.first next rest h.2 e)
+    one_more gap.last v (ended v (next ∷ rest)) (length rest) (omega (arith, a, e))
+    (ended_all v (gap.last + 2) end gap.first next rest h.2 e)
   where
     one_more : (b v e n : ℕ) → b ≤ v → e ≡ n → (if leb b v then 1 else 0) + e ≡ suc n
     one_more b v e n h k = grind (arith, nat_tests)
@@ -94,7 +98,8 @@ ends (gap ∷ rest) h =
     let all = ended_all (greatest (gap ∷ rest)) 1 END 1 gap rest h.0 (omega (arith, a)) in
     omega (arith, n, all)
 
-pub covers_is : (n : ℕ) (gap : Gap) (gaps : List Gap) → AreGaps gaps → n < END → gap ≡ get_or gaps 0 gap → ltb n gap.first ≡ holds_upto n gaps
+pub covers_is : (n : ℕ) (gap : Gap) (gaps : List Gap) → AreGaps gaps → n < END → gap ≡ get_or gaps 0 gap → ltb n gap.first
+    ≡ holds_upto n gaps
 covers_is n gap [] h lt is = absurd (no h.1)
   where
     no : false ≡ true → ⊥
@@ -109,7 +114,8 @@ last_is last gap (first ∷ rest) h e is =
     let length_is : length rest ≡ last = omega (arith, e) in
     last_start-is 1 first rest gap ∙ ap (λ n. (get_or (first ∷ rest) n gap).first) length_is ∙ sym (ap (λ g. g.first) is)
 
-pub last_some : (last : ℕ) (gap : Gap) (gaps : List Gap) → AreGaps gaps → last + 1 ≡ length gaps → gap ≡ get_or gaps last gap → 1 ≤ gap.first
+pub last_some : (last : ℕ) (gap : Gap) (gaps : List Gap) → AreGaps gaps → last + 1 ≡ length gaps → gap ≡ get_or gaps last gap
+    → 1 ≤ gap.first
 last_some last gap gaps h e is =
     let a = start_above 1 END 1 1 gaps h.0 (omega arith) (omega arith) in omega (arith, a, last_is last gap gaps h e is)
 

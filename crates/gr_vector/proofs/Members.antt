@@ -5,7 +5,8 @@ use Rattle.std.proofs.lemmas.List.{take_more, get_or_default}
 use Rattle.gr_vector.specs.Gaps.{Missing, holds}
 use Rattle.gr_vector.specs.Views.{is_held}
 
-held_pushed : (k v : ℕ) (m : Missing) (xs : List Missing) → is_held k v (xs ++ m ∷ []) ≡ (if k == length xs then holds v m.gaps else is_held k v xs)
+held_pushed : (k v : ℕ) (m : Missing) (xs : List Missing) → is_held k v (xs ++ m ∷ [])
+    ≡ (if k == length xs then holds v m.gaps else is_held k v xs)
 held_pushed zero v m [] = refl
 held_pushed (suc k) v m [] = ap (λ b. if b then holds v m.gaps else holds v []) (none k)
   where
@@ -20,7 +21,8 @@ held_pushed (suc k) v m (first ∷ xs) = held_pushed k v m xs ∙ ap (λ b. if b
     same : (a b : ℕ) → (a == b) ≡ (suc a == suc b)
     same a b = grind (arith, nat_tests)
 
-pub pushed_same : (n : ℕ) (xs ys : List Missing) (m o : Missing) → length xs ≡ n → length ys ≡ n → ((k v : ℕ) → is_held k v xs ≡ is_held k v ys)
+pub pushed_same : (n : ℕ) (xs ys : List Missing) (m o : Missing) → length xs ≡ n → length ys ≡ n
+    → ((k v : ℕ) → is_held k v xs ≡ is_held k v ys)
     → ((v : ℕ) → holds v m.gaps ≡ holds v o.gaps) → (k v : ℕ) → is_held k v (xs ++ m ∷ []) ≡ is_held k v (ys ++ o ∷ [])
 pushed_same n xs ys m o xs_is ys_is same here k v =
     held_pushed k v m xs ∙ ap (λ n. if k == n then holds v m.gaps else is_held k v xs) xs_is
@@ -94,7 +96,8 @@ same_at place old m o lt is same k v = at_place (k == place) refl
     at_place true e = subst (λ z. is_held z v (set old place m) ≡ is_held z v old) (sym (equal k place e)) here
     at_place false e = ap (λ x. holds v x.gaps) (get_or-set_other old place k m nothing (other k place e))
 
-pub both_taken : (k v i : ℕ) (ours theirs : List Missing) (m o : Missing) → i < length ours → i < length theirs → m ≡ get_or ours i m → o ≡ get_or theirs i o
+pub both_taken : (k v i : ℕ) (ours theirs : List Missing) (m o : Missing) → i < length ours → i < length theirs → m ≡ get_or ours i m
+    → o ≡ get_or theirs i o
     → (is_held k v (take (i + 1) ours) || is_held k v (take (i + 1) theirs))
     ≡ (is_held k v (take i ours ++ m ∷ []) || is_held k v (take i theirs ++ o ∷ []))
 both_taken k v i ours theirs m o lt their_lt is their_is =

@@ -30,8 +30,10 @@ has_with x id (first ∷ rest) = at_test (is_same_id first id) refl (is_before i
     swapped a b c = grind arith
 
     at_test : (a : Bool) → is_same_id first id ≡ a → (b : Bool) → has_id x (with_id id rest) ≡ (is_same_id id x || has_id x rest)
-        → has_id x (if a then first ∷ rest else if b then id ∷ first ∷ rest else first ∷ with_id id rest) ≡ (is_same_id id x || has_id x (first ∷ rest))
-    at_test true e b next = subst (λ z. (is_same_id first x || has_id x rest) ≡ (is_same_id z x || (is_same_id first x || has_id x rest))) (same_id_same first id e)
+        → has_id x (if a then first ∷ rest else if b then id ∷ first ∷ rest else first ∷ with_id id rest)
+        ≡ (is_same_id id x || has_id x (first ∷ rest))
+    at_test true e b next = subst (λ z. (is_same_id first x || has_id x rest)
+        ≡ (is_same_id z x || (is_same_id first x || has_id x rest))) (same_id_same first id e)
         (absorbed (is_same_id first x) (has_id x rest))
     at_test false e true next = refl
     at_test false e false next = ap (λ b. is_same_id first x || b) next ∙ swapped (is_same_id first x) (is_same_id id x) (has_id x rest)
@@ -100,7 +102,8 @@ one_first a b xs ys after_a after_b there here = at_test (is_same_id b a) refl
     found x [] c all h = absurd (no (sym h))
     found x (first ∷ rest) c all h = at_first (is_same_id first x) refl h (found x rest c all.1)
       where
-        at_first : (b : Bool) → is_same_id first x ≡ b → (b || has_id x rest) ≡ true → (has_id x rest ≡ true → is_before c x ≡ true) → is_before c x ≡ true
+        at_first : (b : Bool) → is_same_id first x ≡ b → (b || has_id x rest) ≡ true → (has_id x rest ≡ true → is_before c x ≡ true)
+            → is_before c x ≡ true
         at_first true e h next = subst (λ z. is_before c z ≡ true) (same_id_same first x e) all.0
         at_first false e h next = next h
 
@@ -109,7 +112,8 @@ one_first a b xs ys after_a after_b there here = at_test (is_same_id b a) refl
 
     at_test : (same : Bool) → is_same_id b a ≡ same → a ≡ b
     at_test true e = sym (same_id_same b a e)
-    at_test false e = absurd (circle (found b xs a after_a (in_rest (is_same_id a b) (has_id b xs) (other a b e) here)) (found a ys b after_b (in_rest (is_same_id b a) (has_id a ys) e there)))
+    at_test false e = absurd (circle (found b xs a after_a (in_rest (is_same_id a b) (has_id b xs) (other a b e) here))
+        (found a ys b after_b (in_rest (is_same_id b a) (has_id a ys) e there)))
       where
         other : (a b : Id) → is_same_id b a ≡ false → is_same_id a b ≡ false
         other a b h = grind (arith, nat_tests)
@@ -132,8 +136,10 @@ one_vector (a ∷ xs) (b ∷ ys) h k same =
     first = one_first a b xs ys h.0 k.0 (sym (same a) ∙ has_first a xs) (same b ∙ has_first b ys)
 
     in_rest : (id : Id) (here : Bool) → is_same_id a id ≡ here → has_id id xs ≡ has_id id ys
-    in_rest id true e = subst (λ z. has_id z xs ≡ has_id z ys) (same_id_same a id e) (not_there a xs h.0 ∙ sym (not_there a ys (subst (λ z. AllAfter z ys) (sym first) k.0)))
-    in_rest id false e = rests (is_same_id a id) (has_id id xs) (has_id id ys) e (same id ∙ ap (λ z. is_same_id z id || has_id id ys) (sym first))
+    in_rest id true e = subst (λ z. has_id z xs ≡ has_id z ys) (same_id_same a id e)
+        (not_there a xs h.0 ∙ sym (not_there a ys (subst (λ z. AllAfter z ys) (sym first) k.0)))
+    in_rest id false e = rests (is_same_id a id) (has_id id xs) (has_id id ys) e
+        (same id ∙ ap (λ z. is_same_id z id || has_id id ys) (sym first))
       where
         rests : (a b c : Bool) → a ≡ false → (a || b) ≡ (a || c) → b ≡ c
         rests a b c e h = grind arith

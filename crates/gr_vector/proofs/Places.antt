@@ -23,18 +23,21 @@ are_parted v gaps h = IsPartitionedBy-ltb (λ gap. gap.last) gaps v
     (λ k d lt. subst (λ z. (get_or gaps k d).last ≤ (get_or gaps z d).last) (sym (add-one k))
     (rising 1 END gaps h.0 k d (subst (λ z. z < length gaps) (add-one k) lt))))
 
-not_all : (v end : ℕ) (gaps : List Gap) → is_missing end gaps ≡ true → ((k : ℕ) (d : Gap) → k < length gaps → (get_or gaps k d).last < v) → v ≤ end → ⊥
+not_all : (v end : ℕ) (gaps : List Gap) → is_missing end gaps ≡ true
+    → ((k : ℕ) (d : Gap) → k < length gaps → (get_or gaps k d).last < v) → v ≤ end → ⊥
 not_all v end [] e h le = no e
   where
     no : false ≡ true → ⊥
     no e = cc
 not_all v end (gap ∷ rest) e h le =
-    not_all v end rest (later gap.first gap.last (is_missing end rest) (h 0 gap (omega arith)) e) (λ k d lt. h (suc k) d (omega (arith, lt))) le
+    not_all v end rest (later gap.first gap.last (is_missing end rest) (h 0 gap (omega arith)) e)
+    (λ k d lt. h (suc k) d (omega (arith, lt))) le
   where
     later : (a b : ℕ) (m : Bool) → b < v → ((leb a end && leb end b) || m) ≡ true → m ≡ true
     later a b m k e = grind (arith, nat_tests)
 
-is_at : (v low end place : ℕ) (gaps : List Gap) (d : Gap) → AreApart low end gaps → ((k : ℕ) (d : Gap) → k < place → (get_or gaps k d).last < v)
+is_at : (v low end place : ℕ) (gaps : List Gap) (d : Gap) → AreApart low end gaps
+    → ((k : ℕ) (d : Gap) → k < place → (get_or gaps k d).last < v)
     → place < length gaps → v ≤ (get_or gaps place d).last → is_missing v gaps ≡ leb (get_or gaps place d).first v
 is_at v low end place [] d h before lt le = absurd (omega (arith, lt))
 is_at v low end zero (gap ∷ rest) d h before lt le =
@@ -53,13 +56,15 @@ is_at v low end (suc place) (gap ∷ rest) d h before lt le =
 abbrev pub IsPoint : ℕ → List Gap → ℕ → Type 0
 IsPoint v gaps place = IsPartitionPoint (λ gap. ltb gap.last v ≡ true) (λ gap. ltb gap.last v ≡ false) gaps place
 
-pub point_within : (v place : ℕ) (gaps : List Gap) → AreGaps gaps → v < END → IsPoint v gaps place → place ≤ length gaps → place < length gaps
+pub point_within : (v place : ℕ) (gaps : List Gap) → AreGaps gaps → v < END → IsPoint v gaps place → place ≤ length gaps
+    → place < length gaps
 point_within v place gaps h lt point le = at_place (ltb place (length gaps)) refl
   where
     at_place : (b : Bool) → ltb place (length gaps) ≡ b → place < length gaps
     at_place true e = ltb-true place (length gaps) e
     at_place false e = absurd (not_all v END gaps h.1
-        (λ k d lt. ltb-true (get_or gaps k d).last v (point.0 k d (omega arith) (omega (arith, lt, ltb-false place (length gaps) e)))) (omega (arith, lt)))
+        (λ k d lt. ltb-true (get_or gaps k d).last v (point.0 k d (omega arith) (omega (arith, lt, ltb-false place (length gaps) e))))
+        (omega (arith, lt)))
 
 pub point_is : (v place : ℕ) (gaps : List Gap) (d : Gap) → AreGaps gaps → v < END → IsPoint v gaps place → place ≤ length gaps
     → is_missing v gaps ≡ leb (get_or gaps place d).first v
@@ -93,7 +98,8 @@ last_ends low end gap [] d h e = ended gap.first gap.last e
     ended a b e = grind (arith, nat_tests)
 last_ends low end gap (next ∷ rest) d h e =
     let k = low_rest h.2.2 in
-    last_ends (gap.last + 2) end next rest d h.2 (later gap.first gap.last (is_missing end (next ∷ rest)) (omega (arith, h.2.0, h.2.1, k)) e)
+    last_ends (gap.last + 2) end next rest d h.2
+    (later gap.first gap.last (is_missing end (next ∷ rest)) (omega (arith, h.2.0, h.2.1, k)) e)
   where
     low_rest : AreApart (next.last + 2) end rest → next.last + 2 ≤ end + 2
     low_rest h = apart_low (next.last + 2) end rest h

@@ -16,7 +16,8 @@ same_top member one two same =
     let b = top_below member two one (λ id. sym (same id)) in
     omega (arith, a, b)
 
-pub same_covers : (member upto : ℕ) (one two : List Id) → ((id : Id) → has_id id one ≡ has_id id two) → covers member upto one ≡ covers member upto two
+pub same_covers : (member upto : ℕ) (one two : List Id) → ((id : Id) → has_id id one ≡ has_id id two) → covers member upto one
+    ≡ covers member upto two
 same_covers member zero one two same = refl
 same_covers member (suc n) one two same = rw (same (record { member = member; rv = suc n }), same_covers member n one two same) refl
 

@@ -12,9 +12,11 @@ has-top member rv [] h = absurd (no h)
   where
     no : false ≡ true → ⊥
     no e = cc
-has-top member rv (first ∷ rest) h = at_first (has_id (record { member = member; rv = rv }) rest) (top member rest) (has-top member rv rest) refl
+has-top member rv (first ∷ rest) h = at_first (has_id (record { member = member; rv = rv }) rest) (top member rest)
+    (has-top member rv rest) refl
   where
-    at_first : (b : Bool) (t : ℕ) → (has_id (record { member = member; rv = rv }) rest ≡ true → rv ≤ t) → has_id (record { member = member; rv = rv }) rest ≡ b
+    at_first : (b : Bool) (t : ℕ) → (has_id (record { member = member; rv = rv }) rest ≡ true → rv ≤ t)
+        → has_id (record { member = member; rv = rv }) rest ≡ b
         → rv ≤ (if first.member == member then max first.rv t else t)
     at_first b t next e = grind (arith, nat_tests, h)
 
@@ -33,15 +35,18 @@ top-has member (first ∷ rest) = at_member (first.member == member) refl (top-h
         → (max first.rv t ≡ t) ⊎ (max first.rv t ≡ first.rv)
         → (max first.rv t ≡ 0) ⊎ (has_id (record { member = member; rv = max first.rv t }) (first ∷ rest) ≡ true)
     at_greater t e (inl none) (inl is) = inl (is ∙ none)
-    at_greater t e (inr has) (inl is) = inr (or_right (is_same_id first (record { member = member; rv = max first.rv t })) (has_id (record { member = member; rv = max first.rv t }) rest)
+    at_greater t e (inr has) (inl is) = inr (or_right (is_same_id first (record { member = member; rv = max first.rv t }))
+        (has_id (record { member = member; rv = max first.rv t }) rest)
         (subst (λ k. has_id (record { member = member; rv = k }) rest ≡ true) (sym is) has))
-    at_greater t e h (inr is) = inr (or_left (is_same_id first (record { member = member; rv = max first.rv t })) (has_id (record { member = member; rv = max first.rv t }) rest)
+    at_greater t e h (inr is) = inr (or_left (is_same_id first (record { member = member; rv = max first.rv t }))
+        (has_id (record { member = member; rv = max first.rv t }) rest)
         (subst (λ k. is_same_id first (record { member = member; rv = k }) ≡ true) (sym is) same))
       where
         same : is_same_id first (record { member = member; rv = first.rv }) ≡ true
         same = grind (arith, nat_tests)
 
-    at_member : (b : Bool) → (first.member == member) ≡ b → (top member rest ≡ 0) ⊎ (has_id (record { member = member; rv = top member rest }) rest ≡ true)
+    at_member : (b : Bool) → (first.member == member) ≡ b → (top member rest ≡ 0)
+        ⊎ (has_id (record { member = member; rv = top member rest }) rest ≡ true)
         → ((if b then max first.rv (top member rest) else top member rest) ≡ 0)
         ⊎ (has_id (record { member = member; rv = if b then max first.rv (top member rest) else top member rest }) (first ∷ rest) ≡ true)
     at_member true e h = at_greater (top member rest) e h (one_of first.rv (top member rest))
@@ -54,7 +59,8 @@ top-has member (first ∷ rest) = at_member (first.member == member) refl (top-h
 -- the ids of a member are its numbers
 pub has_member : (member v : ℕ) (members : List Missing) → 1 ≤ member
     → has_id (record { member = member; rv = v }) (ids_from 1 members) ≡ is_held (member - 1) v members
-has_member member v members some = has_ids (record { member = member; rv = v }) members ∙ there member (is_held (member - 1) v members) some
+has_member member v members some = has_ids (record { member = member; rv = v }) members
+    ∙ there member (is_held (member - 1) v members) some
   where
     there : (a : ℕ) (b : Bool) → 1 ≤ a → (ltb 0 a && b) ≡ b
     there a b h = grind (arith, nat_tests)
@@ -84,14 +90,16 @@ top_ids member members some held =
     both : (a b : ℕ) → a ≤ b → (1 ≤ b → b ≤ a) → a ≡ b
     both a b h k = grind arith
 
-pub covers_ids : (member n : ℕ) (members : List Missing) → 1 ≤ member → covers member n (ids_from 1 members) ≡ holds_upto n (at (member - 1) members).gaps
+pub covers_ids : (member n : ℕ) (members : List Missing) → 1 ≤ member → covers member n (ids_from 1 members)
+    ≡ holds_upto n (at (member - 1) members).gaps
 covers_ids member zero members some = refl
 covers_ids member (suc n) members some = both (has_member member (suc n) members some) (covers_ids member n members some)
   where
     both : {a b c d : Bool} → a ≡ b → c ≡ d → (a && c) ≡ (b && d)
     both h k = cc
 
-pub gaps_ids : (member n : ℕ) (members : List Missing) → 1 ≤ member → gaps_upto member n (ids_from 1 members) ≡ ends_upto n (at (member - 1) members).gaps
+pub gaps_ids : (member n : ℕ) (members : List Missing) → 1 ≤ member → gaps_upto member n (ids_from 1 members)
+    ≡ ends_upto n (at (member - 1) members).gaps
 gaps_ids member zero members some = refl
 gaps_ids member (suc n) members some =
     step (gaps_ids member n members some) (has_member member (suc n) members some) (has_member member (suc (suc n)) members some)

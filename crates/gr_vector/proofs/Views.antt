@@ -10,7 +10,8 @@ use Rattle.gr_vector.proofs.Order.{has_with, has_united, with_sorted, united_sor
 
 has_append : (id : Id) (xs ys : List Id) → has_id id (xs ++ ys) ≡ (has_id id xs || has_id id ys)
 has_append id [] ys = refl
-has_append id (first ∷ xs) ys = ap (λ b. is_same_id first id || b) (has_append id xs ys) ∙ regroup (is_same_id first id) (has_id id xs) (has_id id ys)
+has_append id (first ∷ xs) ys = ap (λ b. is_same_id first id || b) (has_append id xs ys)
+    ∙ regroup (is_same_id first id) (has_id id xs) (has_id id ys)
   where
     regroup : (a b c : Bool) → (a || (b || c)) ≡ ((a || b) || c)
     regroup a b c = grind arith
@@ -32,45 +33,56 @@ has_numbers id member (suc n) gaps = at_test (is_missing (suc n) gaps) refl (has
     there a v m r h e = grind (arith, nat_tests)
 
     at_test : (b : Bool) → is_missing (suc n) gaps ≡ b
-        → has_id id (ids_of member (numbers n gaps)) ≡ (member == id.member && (ltb 0 id.rv && (leb id.rv n && not (is_missing id.rv gaps))))
+        → has_id id (ids_of member (numbers n gaps))
+        ≡ (member == id.member && (ltb 0 id.rv && (leb id.rv n && not (is_missing id.rv gaps))))
         → has_id id (ids_of member (if b then numbers n gaps else suc n ∷ numbers n gaps))
         ≡ (member == id.member && (ltb 0 id.rv && (leb id.rv (suc n) && not (is_missing id.rv gaps))))
-    at_test true e next = next ∙ gone (member == id.member) id.rv (is_missing id.rv gaps) (λ is. subst (λ z. is_missing z gaps ≡ true) (sym is) e)
+    at_test true e next = next ∙ gone (member == id.member) id.rv (is_missing id.rv gaps)
+        (λ is. subst (λ z. is_missing z gaps ≡ true) (sym is) e)
     at_test false e next = there (member == id.member) id.rv (is_missing id.rv gaps) (has_id id (ids_of member (numbers n gaps)))
         (λ is. subst (λ z. is_missing z gaps ≡ false) (sym is) e) next
 
-has_own : (id : Id) (member : ℕ) (gaps : List Gap) → has_id id (ids_of member (numbers (greatest gaps) gaps)) ≡ (member == id.member && holds id.rv gaps)
+has_own : (id : Id) (member : ℕ) (gaps : List Gap) → has_id id (ids_of member (numbers (greatest gaps) gaps))
+    ≡ (member == id.member && holds id.rv gaps)
 has_own id member gaps = has_numbers id member (greatest gaps) gaps
 
 none_of : (id : Id) (from : ℕ) (members : List Missing) → id.member < from → has_id id (ids_from from members) ≡ false
 none_of id from [] lt = refl
 none_of id from (missing ∷ rest) lt =
     has_append id (ids_of from (numbers (greatest missing.gaps) missing.gaps)) (ids_from (suc from) rest)
-    ∙ neither from id.member (holds id.rv missing.gaps) (has_id id (ids_of from (numbers (greatest missing.gaps) missing.gaps))) (has_id id (ids_from (suc from) rest))
+    ∙ neither from id.member (holds id.rv missing.gaps) (has_id id (ids_of from (numbers (greatest missing.gaps) missing.gaps)))
+    (has_id id (ids_from (suc from) rest))
     lt (has_own id from missing.gaps) (none_of id (suc from) rest (omega (arith, lt)))
   where
     neither : (a b : ℕ) (h x y : Bool) → b < a → x ≡ (a == b && h) → y ≡ false → (x || y) ≡ false
     neither a b h x y lt e f = grind (arith, nat_tests)
 
-has_place : (k v from : ℕ) (members : List Missing) → has_id (record { member = from + k; rv = v }) (ids_from from members) ≡ is_held k v members
+has_place : (k v from : ℕ) (members : List Missing) → has_id (record { member = from + k; rv = v }) (ids_from from members)
+    ≡ is_held k v members
 has_place k v from [] = none v
   where
     none : (v : ℕ) → false ≡ (ltb 0 v && (leb v 0 && true))
     none v = grind (arith, nat_tests)
 has_place zero v from (missing ∷ rest) =
-    has_append (record { member = from + 0; rv = v }) (ids_of from (numbers (greatest missing.gaps) missing.gaps)) (ids_from (suc from) rest)
-    ∙ own from (holds v missing.gaps) (has_id (record { member = from + 0; rv = v }) (ids_of from (numbers (greatest missing.gaps) missing.gaps)))
+    has_append (record { member = from + 0; rv = v }) (ids_of from (numbers (greatest missing.gaps) missing.gaps))
+    (ids_from (suc from) rest)
+    ∙ own from (holds v missing.gaps) (has_id (record { member = from + 0; rv = v })
+    (ids_of from (numbers (greatest missing.gaps) missing.gaps)))
     (has_id (record { member = from + 0; rv = v }) (ids_from (suc from) rest))
-    (has_own (record { member = from + 0; rv = v }) from missing.gaps) (none_of (record { member = from + 0; rv = v }) (suc from) rest (omega arith))
+    (has_own (record { member = from + 0; rv = v }) from missing.gaps)
+    (none_of (record { member = from + 0; rv = v }) (suc from) rest (omega arith))
   where
     own : (a : ℕ) (h x y : Bool) → x ≡ (a == (a + 0) && h) → y ≡ false → (x || y) ≡ h
     own a h x y e f = grind (arith, nat_tests)
 has_place (suc k) v from (missing ∷ rest) =
-    has_append (record { member = from + suc k; rv = v }) (ids_of from (numbers (greatest missing.gaps) missing.gaps)) (ids_from (suc from) rest)
-    ∙ other from (holds v missing.gaps) (has_id (record { member = from + suc k; rv = v }) (ids_of from (numbers (greatest missing.gaps) missing.gaps)))
+    has_append (record { member = from + suc k; rv = v }) (ids_of from (numbers (greatest missing.gaps) missing.gaps))
+    (ids_from (suc from) rest)
+    ∙ other from (holds v missing.gaps) (has_id (record { member = from + suc k; rv = v })
+    (ids_of from (numbers (greatest missing.gaps) missing.gaps)))
     (has_id (record { member = from + suc k; rv = v }) (ids_from (suc from) rest)) (is_held k v rest)
     (has_own (record { member = from + suc k; rv = v }) from missing.gaps)
-    (subst (λ m. has_id (record { member = m; rv = v }) (ids_from (suc from) rest) ≡ is_held k v rest) (moved from k) (has_place k v (suc from) rest))
+    (subst (λ m. has_id (record { member = m; rv = v }) (ids_from (suc from) rest) ≡ is_held k v rest) (moved from k)
+    (has_place k v (suc from) rest))
   where
     moved : (a k : ℕ) → suc a + k ≡ a + suc k
     moved a k = omega arith
@@ -79,7 +91,8 @@ has_place (suc k) v from (missing ∷ rest) =
     other a h x y z e f = grind (arith, nat_tests)
 
 -- an id is there exactly where its member has its number
-pub has_ids : (id : Id) (members : List Missing) → has_id id (ids_from 1 members) ≡ (ltb 0 id.member && is_held (id.member - 1) id.rv members)
+pub has_ids : (id : Id) (members : List Missing) → has_id id (ids_from 1 members)
+    ≡ (ltb 0 id.member && is_held (id.member - 1) id.rv members)
 has_ids id members = at_member (ltb 0 id.member) refl
   where
     nobody : (a : ℕ) → ltb 0 a ≡ false → a < 1
@@ -93,7 +106,8 @@ has_ids id members = at_member (ltb 0 id.member) refl
     at_member true e = subst (λ m. has_id (record { member = m; rv = id.rv }) (ids_from 1 members) ≡ is_held (id.member - 1) id.rv members)
         (somebody id.member e) (has_place (id.member - 1) id.rv 1 members)
 
-later_after : (member v from : ℕ) (members : List Missing) → member < from → AllAfter (record { member = member; rv = v }) (ids_from from members)
+later_after : (member v from : ℕ) (members : List Missing) → member < from
+    → AllAfter (record { member = member; rv = v }) (ids_from from members)
 later_after member v from [] lt = tt
 later_after member v from (missing ∷ rest) lt =
     along (numbers (greatest missing.gaps) missing.gaps) (later_after member v (suc from) rest (omega (arith, lt)))
@@ -119,7 +133,8 @@ lower_after member v (suc n) gaps rest lt h = at_test (is_missing (suc n) gaps) 
     at_test true next = next
     at_test false next = (before member (suc n) v lt, next)
 
-own_sorted : (member n : ℕ) (gaps : List Gap) (rest : List Id) → IsSorted rest → ((v : ℕ) → AllAfter (record { member = member; rv = v }) rest)
+own_sorted : (member n : ℕ) (gaps : List Gap) (rest : List Id) → IsSorted rest
+    → ((v : ℕ) → AllAfter (record { member = member; rv = v }) rest)
     → IsSorted (ids_of member (numbers n gaps) ++ rest)
 own_sorted member zero gaps rest h after = h
 own_sorted member (suc n) gaps rest h after = at_test (is_missing (suc n) gaps) (own_sorted member n gaps rest h after)
@@ -131,7 +146,8 @@ own_sorted member (suc n) gaps rest h after = at_test (is_missing (suc n) gaps) 
 
 pub ids_sorted : (from : ℕ) (members : List Missing) → IsSorted (ids_from from members)
 ids_sorted from [] = tt
-ids_sorted from (missing ∷ rest) = own_sorted from (greatest missing.gaps) missing.gaps (ids_from (suc from) rest) (ids_sorted (suc from) rest)
+ids_sorted from (missing ∷ rest) = own_sorted from (greatest missing.gaps) missing.gaps (ids_from (suc from) rest)
+    (ids_sorted (suc from) rest)
     (λ v. later_after from v (suc from) rest (omega arith))
 
 both_held : (a x y : Bool) → x ≡ y → (a && x) ≡ (a && y)
@@ -140,7 +156,8 @@ both_held a x y e = ap (λ b. a && b) e
 -- members that have the same numbers have the same ids
 pub same_ids : (new old : List Missing) → ((k v : ℕ) → is_held k v new ≡ is_held k v old) → ids_from 1 new ≡ ids_from 1 old
 same_ids new old same = one_vector (ids_from 1 new) (ids_from 1 old) (ids_sorted 1 new) (ids_sorted 1 old)
-    (λ id. has_ids id new ∙ both_held (ltb 0 id.member) (is_held (id.member - 1) id.rv new) (is_held (id.member - 1) id.rv old) (same (id.member - 1) id.rv)
+    (λ id. has_ids id new ∙ both_held (ltb 0 id.member) (is_held (id.member - 1) id.rv new) (is_held (id.member - 1) id.rv old)
+    (same (id.member - 1) id.rv)
     ∙ sym (has_ids id old))
 
 pub no_ids : (members : List Missing) → ((k v : ℕ) → is_held k v members ≡ false) → ids_from 1 members ≡ []
@@ -173,7 +190,8 @@ united_ids new ours theirs both =
     one_vector (ids_from 1 new) (united (ids_from 1 ours) (ids_from 1 theirs)) (ids_sorted 1 new)
     (united_sorted (ids_from 1 ours) (ids_from 1 theirs) (ids_sorted 1 ours))
     (λ id. has_ids id new
-    ∙ joined (ltb 0 id.member) (is_held (id.member - 1) id.rv new) (is_held (id.member - 1) id.rv ours) (is_held (id.member - 1) id.rv theirs)
+    ∙ joined (ltb 0 id.member) (is_held (id.member - 1) id.rv new) (is_held (id.member - 1) id.rv ours)
+    (is_held (id.member - 1) id.rv theirs)
     (has_id id (ids_from 1 ours)) (has_id id (ids_from 1 theirs)) (both (id.member - 1) id.rv) (has_ids id ours) (has_ids id theirs)
     ∙ sym (has_united id (ids_from 1 ours) (ids_from 1 theirs)))
   where

@@ -27,12 +27,15 @@ abbrev pub covers : ℕ → ℕ → List Id → Bool
 covers member zero ids = true
 covers member (suc n) ids = has_id (record { member = member; rv = suc n }) ids && covers member n ids
 
--- the numbers, of those from 1 to a number, that are missing while the next is there
+-- whether a number is missing while the next is there
+abbrev pub ends_gap : ℕ → ℕ → List Id → Bool
+ends_gap member n ids = not (has_id (record { member = member; rv = n }) ids) && has_id (record { member = member; rv = suc n }) ids
+
+-- how many numbers from 1 to a number end a run of missing ones
 abbrev pub gaps_upto : ℕ → ℕ → List Id → ℕ
 gaps_upto member zero ids = 0
-gaps_upto member (suc n) ids = gaps_upto member n ids
-    + (if not (has_id (record { member = member; rv = suc n }) ids) && has_id (record { member = member; rv = suc (suc n) }) ids then 1 else 0)
+gaps_upto member (suc n) ids = gaps_upto member n ids + (if ends_gap member (suc n) ids then 1 else 0)
 
--- how many runs of missing numbers lie below a member's greatest: each ends where the next number is there
+-- how many runs of missing numbers lie below a member's greatest
 abbrev pub exceptions : ℕ → List Id → ℕ
 exceptions member ids = gaps_upto member (top member ids) ids

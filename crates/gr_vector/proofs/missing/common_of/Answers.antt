@@ -22,7 +22,8 @@ loop-our-preserved c =
 pub returns : goal.returns
 returns c = elim c.loop-our-test.branch [
   | then-loop-our-test+else-their-theirs w ↦ walk_done c.loop-our.both.items _ _
-      (ap (common (drop c.loop-our.our c.args.ours.now)) (drop_all c.loop-our.their c.args.theirs.now (omega arith)) ∙ common_none (drop c.loop-our.our c.args.ours.now))
+      (ap (common (drop c.loop-our.our c.args.ours.now)) (drop_all c.loop-our.their c.args.theirs.now (omega arith))
+      ∙ common_none (drop c.loop-our.our c.args.ours.now))
       c.loop-our.invariant
   | else-loop-our-test w ↦ walk_done c.loop-our.both.items _ _
       (ap (λ xs. common xs (drop c.loop-our.their c.args.theirs.now)) (drop_all c.loop-our.our c.args.ours.now (omega arith)))

@@ -10,7 +10,8 @@ returns-then-gap-clause-ok c =
       lt = c.requires.within;
       has = c.requires.place c.index-gap.result.now;
     } in
-    c.remove.ensures.items ∙ out_whole c.args.number 1 END c.args.place c.index-gap.result.now c.args.gaps.now.items c.requires.gaps.0 at c.if-gap.true
+    c.remove.ensures.items ∙ out_whole c.args.number 1 END c.args.place c.index-gap.result.now c.args.gaps.now.items
+    c.requires.gaps.0 at c.if-gap.true
 
 pub returns-then-gap-number-clause-ok : goal.returns-then-gap-number-clause-ok
 returns-then-gap-number-clause-ok c =
@@ -19,7 +20,8 @@ returns-then-gap-number-clause-ok c =
       lt = c.requires.within;
       has = c.requires.place c.index-gap.result.now;
     } in
-    out_first c.args.number 1 END c.args.place c.index-gap.result.now c.args.gaps.now.items c.requires.gaps.0 at c.if-gap.false c.if-gap-number.true
+    out_first c.args.number 1 END c.args.place c.index-gap.result.now c.args.gaps.now.items c.requires.gaps.0 at c.if-gap.false
+    c.if-gap-number.true
 
 pub returns-then-gap-number-2-clause-ok : goal.returns-then-gap-number-2-clause-ok
 returns-then-gap-number-2-clause-ok c =
@@ -28,7 +30,8 @@ returns-then-gap-number-2-clause-ok c =
       lt = c.requires.within;
       has = c.requires.place c.index-gap.result.now;
     } in
-    out_last c.args.number 1 END c.args.place c.index-gap.result.now c.args.gaps.now.items c.requires.gaps.0 at c.if-gap-number.false c.if-gap-number-2.true
+    out_last c.args.number 1 END c.args.place c.index-gap.result.now c.args.gaps.now.items c.requires.gaps.0 at c.if-gap-number.false
+    c.if-gap-number-2.true
 
 pub returns-in_ok-insert-clause-ok : goal.returns-in_ok-insert-clause-ok
 returns-in_ok-insert-clause-ok c =
@@ -38,6 +41,8 @@ returns-in_ok-insert-clause-ok c =
       has = c.requires.place c.index-gap.result.now;
     } in
     ap (λ xs. set xs c.args.place (record { first = c.index-gap.result.now.first; last = c.args.number - 1 })) c.in_ok-insert.ensures.items
-    ∙ ap (λ n. set (take n c.args.gaps.now.items ++ record { first = c.args.number + 1; last = c.index-gap.result.now.last } ∷ drop n c.args.gaps.now.items)
+    ∙ ap (λ n. set (take n c.args.gaps.now.items ++ record { first = c.args.number + 1; last = c.index-gap.result.now.last } ∷ drop n
+    c.args.gaps.now.items)
     c.args.place (record { first = c.index-gap.result.now.first; last = c.args.number - 1 })) (add-one c.args.place)
-    ∙ out_middle c.args.number 1 END c.args.place c.index-gap.result.now c.args.gaps.now.items c.requires.gaps.0 at c.if-gap-number.false c.if-gap-number-2.false
+    ∙ out_middle c.args.number 1 END c.args.place c.index-gap.result.now c.args.gaps.now.items c.requires.gaps.0 at
+    c.if-gap-number.false c.if-gap-number-2.false

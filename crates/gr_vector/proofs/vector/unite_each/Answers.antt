@@ -8,7 +8,8 @@ loop-place-preserved c = record {
   count = search rules;
   held = λ k v.
       ap (is_held k v) c.in_ok-push.ensures.items
-      ∙ pushed_both c.loop-place.place c.loop-place.both.items (take c.loop-place.place c.args.ours.now) (take c.loop-place.place c.args.theirs.now)
+      ∙ pushed_both c.loop-place.place c.loop-place.both.items (take c.loop-place.place c.args.ours.now)
+      (take c.loop-place.place c.args.theirs.now)
       c.in_ok-united.field-0 c.index-ours-place.result c.index-theirs-place.result
       c.loop-place.invariant.count
       (length-take-le c.loop-place.place c.args.ours.now (omega (arith, c.loop-place-test.true)))

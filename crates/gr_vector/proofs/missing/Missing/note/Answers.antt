@@ -14,12 +14,15 @@ invariant_of-self-in-Some c =
 pub returns-in-None-clause-fresh : goal.returns-in-None-clause-fresh
 returns-in-None-clause-fresh c =
     let none : is_missing c.args.number c.self.inside.gaps.items ≡ false = rw (← c.deref.ensures.value) c.in-None.ensures.place in
-    rw (← c.self.view_is) (ap not (sym (holds_within c.args.number c.self.inside.gaps.items c.self.invariant c.requires.some (omega (arith, c.requires.most)) ∙ ap not none)))
+    rw (← c.self.view_is) (ap not (sym (holds_within c.args.number c.self.inside.gaps.items c.self.invariant c.requires.some
+    (omega (arith, c.requires.most)) ∙ ap not none)))
 
 pub returns-in-None-clause-ok : goal.returns-in-None-clause-ok
 returns-in-None-clause-ok c = λ v.
     let none : is_missing c.args.number c.self.inside.gaps.items ≡ false = rw (← c.deref.ensures.value) c.in-None.ensures.place in
-    let held : holds c.args.number c.self.inside.gaps.items ≡ true = holds_within c.args.number c.self.inside.gaps.items c.self.invariant c.requires.some (omega (arith, c.requires.most)) ∙ ap not none in
+    let held : holds c.args.number c.self.inside.gaps.items ≡ true =
+    holds_within c.args.number c.self.inside.gaps.items c.self.invariant c.requires.some (omega (arith, c.requires.most))
+    ∙ ap not none in
     rw (← c.self.view_is) (same v c.args.number (λ q. holds q c.self.inside.gaps.items) held)
   where
     same : (v n : ℕ) (f : ℕ → Bool) → f n ≡ true → f v ≡ (v == n || f v)
@@ -34,11 +37,16 @@ returns-in-None-clause-ok c = λ v.
 
 pub returns-in_ok-take_out-in-Some-clause-fresh : goal.returns-in_ok-take_out-in-Some-clause-fresh
 returns-in_ok-take_out-in-Some-clause-fresh c =
-    let there : is_missing c.args.number c.self.inside.gaps.items ≡ true = sym (rw (← c.deref.ensures.value) (found c.find.result c.args.number c.deref.result.now c.find.ensures.within c.find.ensures.place)) ∙ ap is_some c.in-Some.is in
-    rw (← c.self.view_is) (ap not (sym (holds_within c.args.number c.self.inside.gaps.items c.self.invariant c.requires.some (omega (arith, c.requires.most)) ∙ ap not there)))
+    let there : is_missing c.args.number c.self.inside.gaps.items ≡ true =
+    sym (rw (← c.deref.ensures.value) (found c.find.result c.args.number c.deref.result.now c.find.ensures.within
+    c.find.ensures.place)) ∙ ap is_some c.in-Some.is in
+    rw (← c.self.view_is) (ap not (sym (holds_within c.args.number c.self.inside.gaps.items c.self.invariant c.requires.some
+    (omega (arith, c.requires.most)) ∙ ap not there)))
 
 pub returns-in_ok-take_out-in-Some-clause-ok : goal.returns-in_ok-take_out-in-Some-clause-ok
 returns-in_ok-take_out-in-Some-clause-ok c = λ v.
-    let there : is_missing c.args.number c.self.inside.gaps.items ≡ true = sym (rw (← c.deref.ensures.value) (found c.find.result c.args.number c.deref.result.now c.find.ensures.within c.find.ensures.place)) ∙ ap is_some c.in-Some.is in
+    let there : is_missing c.args.number c.self.inside.gaps.items ≡ true =
+    sym (rw (← c.deref.ensures.value) (found c.find.result c.args.number c.deref.result.now c.find.ensures.within
+    c.find.ensures.place)) ∙ ap is_some c.in-Some.is in
     rw (← c.self.view_is) (ap (λ gaps. holds v gaps) c.in_ok-take_out-in-Some.ensures.ok
     ∙ without_holds v c.args.number c.self.inside.gaps.items c.self.invariant c.requires.some c.requires.most there)

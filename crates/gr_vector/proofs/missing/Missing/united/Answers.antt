@@ -17,6 +17,7 @@ invariant_of-result c =
 pub returns : goal.returns
 returns c = λ v.
     rw (← c.self.view_is, ← c.other.view_is)
-    (sym (ap (holds v) (both_are c.deref.result.now c.deref-2.result.now c.self.inside.gaps.items c.other.inside.gaps.items c.in_ok-gaps.gaps.items
+    (sym (ap (holds v) (both_are c.deref.result.now c.deref-2.result.now c.self.inside.gaps.items c.other.inside.gaps.items
+    c.in_ok-gaps.gaps.items
     c.deref.ensures.value c.deref-2.ensures.value c.in_ok-gaps.ensures))
     ∙ common_holds v c.self.inside.gaps.items c.other.inside.gaps.items c.self.invariant c.other.invariant)

@@ -11,7 +11,8 @@ pub returns-clause-fresh : goal.returns-clause-fresh
 returns-clause-fresh c =
     let is : c.index_mut-missing.result.now ≡ at (c.args.member - 1) c.self.inside.members.items =
     element_is (c.args.member - 1) c.index_mut-missing.result.now c.self.inside.members.items
-    (subst (λ n. c.index_mut-missing.result.now ≡ get_or c.self.inside.members.items (n - 1) c.index_mut-missing.result.now) c.from.ensures c.index_mut-missing.ensures.value)
+    (subst (λ n. c.index_mut-missing.result.now ≡ get_or c.self.inside.members.items (n - 1) c.index_mut-missing.result.now)
+    c.from.ensures c.index_mut-missing.ensures.value)
     (omega (arith, c.self.invariant.eight)) in
     rw (← c.self.view_is) (c.in_ok-fresh.ensures.fresh ∙ ap (λ m. not (holds c.args.rv m.gaps)) is
     ∙ ap not (sym (has_member c.args.member c.args.rv c.self.inside.members.items c.requires.a_member)))

@@ -14,7 +14,9 @@ lent n new old same is =
 
 pub returns-in_ok-reserve_each-clause-room : goal.returns-in_ok-reserve_each-clause-room
 returns-in_ok-reserve_each-clause-room c =
-    rw (← c.self.view_is) (ap (λ xs. view_of xs 1) (lent c.self.inside.members.len c.reserve_each.new.members c.self.inside.members.items (omega (arith, c.reserve_each.auto.members, ap length c.deref_mut.ensures.value)) c.self.inside.members.ok.0)
+    rw (← c.self.view_is) (ap (λ xs. view_of xs 1)
+    (lent c.self.inside.members.len c.reserve_each.new.members c.self.inside.members.items
+    (omega (arith, c.reserve_each.auto.members, ap length c.deref_mut.ensures.value)) c.self.inside.members.ok.0)
     ∙ ap (λ ids. record { ids = ids; spare = 1 })
     (same_ids c.reserve_each.new.members c.self.inside.members.items
     (λ k v. c.reserve_each.ensures.held k v ∙ ap (λ xs. is_held k v xs) c.deref_mut.ensures.value)))
@@ -22,7 +24,9 @@ returns-in_ok-reserve_each-clause-room c =
 pub returns-in_err-reserve_each-clause-err : goal.returns-in_err-reserve_each-clause-err
 returns-in_err-reserve_each-clause-err c =
     let p = err_from_is_err_and c.from_residual.result c.from_residual.ensures.1 in
-    rw p.1 (ap (λ xs. view_of xs c.self.inside.spare) (lent c.self.inside.members.len c.reserve_each.new.members c.self.inside.members.items (omega (arith, c.reserve_each.auto.members, ap length c.deref_mut.ensures.value)) c.self.inside.members.ok.0)
+    rw p.1 (ap (λ xs. view_of xs c.self.inside.spare)
+    (lent c.self.inside.members.len c.reserve_each.new.members c.self.inside.members.items
+    (omega (arith, c.reserve_each.auto.members, ap length c.deref_mut.ensures.value)) c.self.inside.members.ok.0)
     ∙ ap (λ ids. record { ids = ids; spare = c.self.inside.spare })
     (same_ids c.reserve_each.new.members c.self.inside.members.items
     (λ k v. c.reserve_each.ensures.held k v ∙ ap (λ xs. is_held k v xs) c.deref_mut.ensures.value))
