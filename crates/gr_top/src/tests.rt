@@ -3,6 +3,7 @@ use std::env::{Env, FillError};
 use std::test::Fail;
 
 /// A process with these arguments.
+#[derive(Drop)]
 struct Given {
     arguments: [&'static [u8]; 4],
 }
