@@ -10,8 +10,8 @@ use Rattle.gr_oql.specs.declared.keyword.Keyword.{Keyword}
 use Rattle.gr_oql.specs.declared.keyword.Keyword.TheVariants as word
 use Rattle.gr_oql.specs.declared.condition.Operand.TheVariants as operand
 use Rattle.gr_oql.specs.declared.fault.Part.TheVariants as part
-use Rattle.gr_oql.specs.declared.stop.Wrong.{Wrong}
-use Rattle.gr_oql.specs.declared.stop.Wrong.TheVariants.{Expected, NotACq, TooDeep}
+use Rattle.gr_oql.specs.declared.halt.Wrong.{Wrong}
+use Rattle.gr_oql.specs.declared.halt.Wrong.TheVariants.{Expected, NotACq, TooDeep}
 use Rattle.gr_oql.specs.Words.{letters}
 use Rattle.gr_oql.specs.Terminals.{Terminal, keyword, name, number, quoted, symbol, begins, front, rest, is_symbol, is_keyword, as_name, as_word, as_number, as_quoted}
 use Rattle.gr_oql.specs.Reader.Reading.{Reading, ◌>>=◌, symbol_at, keyword_at, word_by, member_at, field_of_name, field_by, field_at, negative_by, negative_at, plain_by, missing, literal_at, operand_by, operand_at, more_at, separated_at}

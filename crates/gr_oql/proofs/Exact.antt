@@ -8,13 +8,13 @@ use Rattle.gr_lex.specs.Layout.{IsLaidOut}
 use Rattle.gr_lex.specs.Faults as lexical
 use Rattle.gr_oql.specs.declared.fault.OqlFault.{OqlFault}
 use Rattle.gr_oql.specs.declared.fault.OqlFault.TheVariants as fault
-use Rattle.gr_oql.specs.Question.{Question}
+use Rattle.gr_oql.specs.Question.{Asked, Question}
 use Rattle.gr_oql.specs.Terminals.{Terminal, terminals_of}
 use Rattle.gr_oql.specs.Reader.Reading.{Reading, query_at}
 use Rattle.gr_oql.specs.Reader.Answers.{answer, answer_of_tokens, Answers}
-use Rattle.gr_oql.specs.Reader.Sources.{asked, question}
-use Rattle.gr_oql.specs.declared.clauses.Source.{Source}
-use Rattle.gr_oql.specs.Grammar.{asked_by, Spells, Asked, most_depth}
+use Rattle.gr_oql.specs.Reader.Asking.{asked, question}
+use Rattle.gr_oql.specs.declared.clauses.Clauses.{Clauses}
+use Rattle.gr_oql.specs.Grammar.{Spells, most_depth}
 use Rattle.gr_oql.specs.FirstFault.{IsFault}
 use Rattle.gr_oql.proofs.SoundQuery.{query_sound}
 use Rattle.gr_oql.proofs.CompleteQuery.{query_complete}
@@ -30,8 +30,8 @@ answer_spelled text tokens (Ok x) q laid is read =
 answer_spelled text tokens (Err e) q laid is read = absurd (cc)
 
 -- what the code keeps of what it read
-pub source_spelled : (text : List ℕ) (tokens : List Token) (s : Source) (left : List Terminal) → IsLaidOut text 0 tokens → query_at (terminals_of text tokens) ≡ Ok (asked s, left) → Spells text (question text s)
-source_spelled text tokens s left laid read = (tokens, laid, refl, (query_sound most_depth (terminals_of text tokens) (asked s) left read).1)
+pub clauses_spelled : (text : List ℕ) (tokens : List Token) (s : Clauses) (left : List Terminal) → IsLaidOut text 0 tokens → query_at (terminals_of text tokens) ≡ Ok (asked s, left) → Spells text (question text s)
+clauses_spelled text tokens s left laid read = (tokens, laid, refl, (query_sound most_depth (terminals_of text tokens) (asked s) left read).1)
 
 -- An answer that is what is read, where that is known, or want of memory.
 answers_known : (result read known : Result Question OqlFault) → Answers result read → read ≡ known → (result ≡ known) ⊎ (result ≡ Err fault.Memory)
@@ -68,8 +68,8 @@ module _ (text : List ℕ) (lexed : Result (List Token) LexFault) (result : Resu
   -- what is spelled so is read
   pub only : ((ts : List Token) → IsLaidOut text 0 ts → (lexed ≡ Ok ts) ⊎ (lexed ≡ Err lex.Memory)) → (q : Question) → Spells text q → (result ≡ Ok q) ⊎ (result ≡ Err fault.Memory)
   only lexes q is =
-      let read = query_complete most_depth (terminals_of text is.0) (asked_by q) is.3 in
-      let there : answer text is.0 (query_at (terminals_of text is.0)) ≡ Ok q = rw read (ap (λ (l : List ℕ). Ok (record { text = l; region = q.region; alias = q.alias; condition = q.condition })) (sym is.2)) in
+      let read = query_complete most_depth (terminals_of text is.0) q.asked is.3 in
+      let there : answer text is.0 (query_at (terminals_of text is.0)) ≡ Ok q = rw read (ap (λ (l : List ℕ). Ok (record { text = l; asked = q.asked })) (sym is.2)) in
       known (Ok is.0) (Ok q) there (lexes is.0 is.1)
 
   -- a text with such a fault has that answer

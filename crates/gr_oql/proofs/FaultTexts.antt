@@ -6,12 +6,13 @@ use Rattle.gr_lex.specs.declared.token.Token.{Token}
 use Rattle.gr_lex.specs.Layout.{IsLaidOut}
 use Rattle.gr_oql.specs.declared.fault.Part.TheVariants as part
 use Rattle.gr_oql.specs.declared.fault.OqlFault.{OqlFault}
-use Rattle.gr_oql.specs.declared.stop.Wrong.{Wrong}
-use Rattle.gr_oql.specs.declared.stop.Wrong.TheVariants.{Expected, NotACq, TooDeep}
+use Rattle.gr_oql.specs.declared.halt.Wrong.{Wrong}
+use Rattle.gr_oql.specs.declared.halt.Wrong.TheVariants.{Expected, NotACq, TooDeep}
 use Rattle.gr_oql.specs.Terminals.{Terminal, front, rest, as_number, terminal_of, terminals_of}
 use Rattle.gr_oql.specs.Reader.Reading.{Reading, query_at}
 use Rattle.gr_oql.specs.Reader.Answers.{fault_of, answer}
-use Rattle.gr_oql.specs.Grammar.{IsQuery, Asked, most_depth}
+use Rattle.gr_oql.specs.Grammar.{IsQuery, most_depth}
+use Rattle.gr_oql.specs.Question.{Asked}
 use Rattle.gr_oql.specs.FirstFault.{IsStart, IsOver, rank, Ceases, fault_at, IsFault, place_of, fault_by}
 use Rattle.gr_oql.proofs.SoundQuery.{query_sound}
 use Rattle.gr_oql.proofs.Spelled.{AreSpelled, both_spelled, front_spelled, back_spelled, laid_spelled}

@@ -5,8 +5,8 @@ use Rattle.gr_lex.specs.Bytes.{greatest_number}
 use Rattle.gr_oql.specs.Grammar.{has_backslash, most_depth}
 use Rattle.gr_oql.specs.declared.keyword.Keyword.TheVariants as word
 use Rattle.gr_oql.specs.declared.fault.Part.TheVariants as part
-use Rattle.gr_oql.specs.declared.stop.Wrong.{Wrong}
-use Rattle.gr_oql.specs.declared.stop.Wrong.TheVariants.{Expected, NotACq, TooDeep}
+use Rattle.gr_oql.specs.declared.halt.Wrong.{Wrong}
+use Rattle.gr_oql.specs.declared.halt.Wrong.TheVariants.{Expected, NotACq, TooDeep}
 use Rattle.gr_oql.specs.Terminals.{Terminal, keyword, name, number, quoted, symbol, front, is_symbol, is_keyword, as_number, as_quoted}
 use Rattle.gr_oql.specs.Reader.Reading.{Reading, negative_by, plain_by, literal_at, pattern_by, part_at, query_within, query_at}
 use Rattle.gr_oql.specs.FirstFault.{IsStart, IsOver}

@@ -1,6 +1,6 @@
 -- How a reading went, and how it stopped.
 use Rattle.std.proofs.Common.{◌≡◌, ◌⊎◌, List, Ok, Err, Bool, cond, true, false, inl, inr, refl, ap}
-use Rattle.gr_oql.specs.declared.stop.Wrong.{Wrong}
+use Rattle.gr_oql.specs.declared.halt.Wrong.{Wrong}
 use Rattle.gr_oql.specs.Terminals.{Terminal}
 use Rattle.gr_oql.specs.Reader.Reading.{Reading, ◌>>=◌, read_as}
 

@@ -10,8 +10,8 @@ use Rattle.gr_oql.specs.declared.keyword.Keyword.{Keyword}
 use Rattle.gr_oql.specs.declared.keyword.Keyword.TheVariants as word
 use Rattle.gr_oql.specs.declared.condition.Operand.TheVariants as operand
 use Rattle.gr_oql.specs.declared.fault.Part.TheVariants as part
-use Rattle.gr_oql.specs.declared.stop.Wrong.{Wrong}
-use Rattle.gr_oql.specs.declared.stop.Wrong.TheVariants.{Expected, NotACq, TooDeep}
+use Rattle.gr_oql.specs.declared.halt.Wrong.{Wrong}
+use Rattle.gr_oql.specs.declared.halt.Wrong.TheVariants.{Expected, NotACq, TooDeep}
 use Rattle.gr_oql.specs.Terminals.{Terminal, symbol_eq, is_symbol, is_keyword, begins, front, rest, as_name, as_word, as_number, as_quoted}
 use Rattle.gr_oql.specs.Reader.Reading.{Reading, ◌>>=◌, read_as, stop, symbol_at, keyword_at, word_by, name_at, member_at, field_of_name, field_by, field_at, negative_by, negative_at, missing, plain_by, literal_at, operand_by, operand_at, pattern_by, part_at}
 use Rattle.gr_oql.proofs.Readings.{bound, value_is, left_is, place_is, stopped}

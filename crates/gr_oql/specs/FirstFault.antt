@@ -12,10 +12,11 @@ use Rattle.gr_oql.specs.declared.keyword.Keyword.TheVariants as word
 use Rattle.gr_oql.specs.declared.fault.Part.TheVariants as part
 use Rattle.gr_oql.specs.declared.fault.OqlFault.{OqlFault}
 use Rattle.gr_oql.specs.declared.fault.OqlFault.TheVariants as fault
-use Rattle.gr_oql.specs.declared.stop.Wrong.{Wrong}
-use Rattle.gr_oql.specs.declared.stop.Wrong.TheVariants.{Expected, NotACq, TooDeep}
+use Rattle.gr_oql.specs.declared.halt.Wrong.{Wrong}
+use Rattle.gr_oql.specs.declared.halt.Wrong.TheVariants.{Expected, NotACq, TooDeep}
 use Rattle.gr_oql.specs.Terminals.{Terminal, symbol, quoted, is_symbol, is_keyword, begins, front, as_number, is_tail, terminal_of, terminals_of}
-use Rattle.gr_oql.specs.Grammar.{most_depth, has_backslash, Asked, One, IsQueryWithin, IsQuery}
+use Rattle.gr_oql.specs.Grammar.{most_depth, has_backslash, One, IsQueryWithin, IsQuery}
+use Rattle.gr_oql.specs.Question.{Asked}
 
 -- a terminal that a token of some text is
 abbrev pub IsSpelled : Terminal → Type 0

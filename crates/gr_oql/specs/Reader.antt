@@ -3,6 +3,6 @@ pub mod Lexemes
 pub mod Names
 pub mod Reading
 pub mod Gives
-pub mod Sources
+pub mod Asking
 pub mod Answers
 pub mod Walk

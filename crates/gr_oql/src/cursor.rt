@@ -11,11 +11,11 @@ use std::marker::Model;
 
 /// What is left of a query's tokens. Contracts see it as their list.
 #[derive(Drop)]
-pub(crate) struct Cursor<'a> {
+pub(crate) struct TokenCursor<'a> {
     left: &'a [Lexeme<'a>],
 }
 
-impl<'a> Model for Cursor<'a> {
+impl<'a> Model for TokenCursor<'a> {
     ghost use Rattle.std.specs.Prelude.{List};
     ghost use Rattle.gr_oql.specs.Terminals.{Terminal};
     ghost use Rattle.gr_oql.specs.Reader.Lexemes.{terminals};
@@ -34,12 +34,12 @@ fn same_symbol(one: Symbol, other: Symbol) -> bool
     one == other
 }
 
-impl<'a> Cursor<'a> {
-    pub(crate) fn new(left: &'a [Lexeme<'a>]) -> Cursor<'a>
+impl<'a> TokenCursor<'a> {
+    pub(crate) fn new(left: &'a [Lexeme<'a>]) -> TokenCursor<'a>
         requires { AreNamed (terminals left.now) }
         ensures { result ≡ terminals left.now }
     {
-        Cursor { left }
+        TokenCursor { left }
     }
 
     /// How many tokens are left.

@@ -8,12 +8,12 @@ mod conditions;
 mod cursor;
 mod event;
 mod fault;
+mod halt;
 mod keyword;
 mod lexeme;
 mod like;
 mod matching;
 mod query;
-mod stop;
 mod terms;
 #[cfg(test)]
 mod tests;

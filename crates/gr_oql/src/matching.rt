@@ -99,7 +99,7 @@ impl Query {
     pub fn matches(&self, value: &Value) -> Truth
         ensures { result ≡ matches self.now value.now }
     {
-        match &self.parts.source.condition {
+        match &self.parts.clauses.condition {
             None => Truth::Holds,
             Some(condition) => condition.truth(value),
         }

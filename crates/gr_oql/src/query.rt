@@ -7,13 +7,13 @@ ghost use Rattle.gr_lex.specs.Layout.{IsToken, IsLaidOut};
 ghost use Rattle.gr_oql.specs.Grammar.{Spells};
 ghost use Rattle.gr_oql.specs.FirstFault.{IsFault, place_of, named, is_greatest};
 ghost use Rattle.gr_oql.specs.Question.{Question};
-ghost use Rattle.gr_oql.specs.Reader.Sources.{question};
+ghost use Rattle.gr_oql.specs.Reader.Asking.{question};
 ghost use Rattle.gr_oql.specs.declared.fault.OqlFault.TheVariants as oql_fault;
 
-use crate::clauses::{Source, query};
-use crate::cursor::Cursor;
+use crate::clauses::{Clauses, query};
+use crate::cursor::TokenCursor;
 use crate::lexeme::lexemes;
-use crate::stop::{Stop, Wrong};
+use crate::halt::{Halt, Wrong};
 use crate::OqlFault;
 use gr_lex::{LexFault, Token, TokenList, tokens};
 use gr_value::{Copied, Key, Memory, Text};
@@ -30,22 +30,22 @@ pub struct Query {
 #[derive(Drop)]
 pub(crate) struct Parts {
     pub(crate) text: Text,
-    pub(crate) source: Source,
+    pub(crate) clauses: Clauses,
 }
 
 impl Model for Query {
     ghost use Rattle.gr_oql.specs.Question.{Question, question_code};
     ghost use Rattle.gr_oql.specs.Grammar.{Spells};
-    ghost use Rattle.gr_oql.specs.Reader.Sources.{question};
+    ghost use Rattle.gr_oql.specs.Reader.Asking.{question};
 
     ghost Value = { Question };
 
     ghost coded = { question_code };
 
-    ghost view = { λ q. question q.parts.value.text q.parts.value.source };
+    ghost view = { λ q. question q.parts.value.text q.parts.value.clauses };
 
     // The text spells what the query asks.
-    ghost invariant = { λ q. Spells q.parts.value.text (question q.parts.value.text q.parts.value.source) };
+    ghost invariant = { λ q. Spells q.parts.value.text (question q.parts.value.text q.parts.value.clauses) };
 }
 
 /// The first byte of the first of the tokens, or the end of the text.
@@ -78,7 +78,7 @@ fn is_greatest(number: Option<u64>) -> bool
 }
 
 /// The fault of a text whose tokens cease to begin a query where the cursor stands.
-fn fault_of(text: &str, tokens: &[Token], left: &Cursor, wrong: Wrong) -> OqlFault
+fn fault_of(text: &str, tokens: &[Token], left: &TokenCursor, wrong: Wrong) -> OqlFault
     requires { length left.now ≤ length tokens.now }
     ensures { result ≡ fault_of text.now tokens.now wrong left.now }
 {
@@ -90,14 +90,14 @@ fn fault_of(text: &str, tokens: &[Token], left: &Cursor, wrong: Wrong) -> OqlFau
     }
 }
 
-fn query_of(alloc: Global, text: &str, source: Source) -> Result<Query, OqlFault>
-    requires { Spells text.now (question text.now source) }
-    ensures ok { IfOk result (λ q. q ≡ question text.now source) }
+fn query_of(alloc: Global, text: &str, clauses: Clauses) -> Result<Query, OqlFault>
+    requires { Spells text.now (question text.now clauses) }
+    ensures ok { IfOk result (λ q. q ≡ question text.now clauses) }
     ensures err { IfErr result (λ fault. fault ≡ oql_fault.Memory) }
 {
     let parts = Parts {
         text: Text::new(alloc, text)?,
-        source,
+        clauses,
     };
     Ok(Query {
         parts: Arc::new(alloc, parts)?,
@@ -111,11 +111,11 @@ fn asked_by(alloc: Global, text: &str, tokens: &[Token]) -> Result<Query, OqlFau
     ensures { Answers result (answer text.now tokens.now (query_at (terminals_of text.now tokens.now))) }
 {
     let lexemes = lexemes(alloc, text, tokens)?;
-    let mut cursor = Cursor::new(&lexemes);
+    let mut cursor = TokenCursor::new(&lexemes);
     match query(&mut cursor, alloc) {
-        Ok(source) => query_of(alloc, text, source),
-        Err(Stop::Memory) => Err(OqlFault::Memory),
-        Err(Stop::Wrong(wrong)) => Err(fault_of(text, tokens, &cursor, wrong)),
+        Ok(clauses) => query_of(alloc, text, clauses),
+        Err(Halt::Memory) => Err(OqlFault::Memory),
+        Err(Halt::Wrong(wrong)) => Err(fault_of(text, tokens, &cursor, wrong)),
     }
 }
 
@@ -151,9 +151,9 @@ impl Query {
 
     /// The region's name, with a slash before it.
     pub fn region(&self) -> &Key
-        ensures { result.now ≡ self.now.region }
+        ensures { result.now ≡ self.now.asked.region }
     {
-        &self.parts.source.region
+        &self.parts.clauses.region
     }
 
     /// The text that was read. Read again it gives this query.

@@ -5,10 +5,9 @@ use Rattle.gr_lex.specs.declared.fault.LexFault.{LexFault}
 use Rattle.gr_lex.specs.declared.fault.LexFault.TheVariants as lex
 use Rattle.gr_oql.specs.declared.fault.OqlFault.{OqlFault}
 use Rattle.gr_oql.specs.declared.fault.OqlFault.TheVariants as fault
-use Rattle.gr_oql.specs.declared.stop.Wrong.{Wrong}
-use Rattle.gr_oql.specs.Question.{Question}
+use Rattle.gr_oql.specs.declared.halt.Wrong.{Wrong}
+use Rattle.gr_oql.specs.Question.{Asked, Question}
 use Rattle.gr_oql.specs.Terminals.{Terminal, terminals_of, front, as_number}
-use Rattle.gr_oql.specs.Grammar.{Asked}
 use Rattle.gr_oql.specs.FirstFault.{place_of, fault_by}
 use Rattle.gr_oql.specs.Reader.Reading.{Reading, query_at}
 
@@ -17,7 +16,7 @@ abbrev pub fault_of : List ℕ → List Token → Wrong → List Terminal → Oq
 fault_of text tokens w left = fault_by (place_of text (drop (length tokens - length left) tokens)) (front as_number left) w
 
 abbrev pub answer : List ℕ → List Token → Reading Asked → Result Question OqlFault
-answer text tokens (Ok x) = Ok (record { text = text; region = x.0.region; alias = x.0.alias; condition = x.0.condition })
+answer text tokens (Ok x) = Ok (record { text = text; asked = x.0 })
 answer text tokens (Err e) = Err (fault_of text tokens e.0 e.1)
 
 abbrev pub answer_of_tokens : List ℕ → Result (List Token) LexFault → Result Question OqlFault

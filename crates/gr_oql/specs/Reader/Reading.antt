@@ -14,11 +14,12 @@ use Rattle.gr_oql.specs.declared.condition.Operand.TheVariants as operand
 use Rattle.gr_oql.specs.declared.condition.Test.{Test}
 use Rattle.gr_oql.specs.declared.condition.Test.TheVariants as tests
 use Rattle.gr_oql.specs.declared.fault.Part.TheVariants as part
-use Rattle.gr_oql.specs.declared.stop.Wrong.{Wrong}
-use Rattle.gr_oql.specs.declared.stop.Wrong.TheVariants.{Expected, NotACq, TooDeep}
+use Rattle.gr_oql.specs.declared.halt.Wrong.{Wrong}
+use Rattle.gr_oql.specs.declared.halt.Wrong.TheVariants.{Expected, NotACq, TooDeep}
 use Rattle.gr_lex.specs.declared.token.Symbol.{Symbol}
 use Rattle.gr_lex.specs.Bytes.{greatest_number}
-use Rattle.gr_oql.specs.Grammar.{is_alias, has_backslash, most_depth, Asked}
+use Rattle.gr_oql.specs.Grammar.{is_alias, has_backslash, most_depth}
+use Rattle.gr_oql.specs.Question.{Asked}
 use Rattle.gr_oql.specs.Tree.{Tree, any, all, negation, test}
 use Rattle.gr_oql.specs.View.{in_order}
 use Rattle.gr_oql.specs.Terminals.{Terminal, is_symbol, is_keyword, begins, front, rest, as_name, as_word, as_number, as_quoted, is_tail}
