@@ -1,5 +1,5 @@
 use crate::files::lines_of;
-use crate::row::no_memory;
+use crate::running::no_memory;
 use gr_lex::LexFault;
 use gr_oql::{OqlFault, Part, Query, Truth};
 use gr_value::Value;
