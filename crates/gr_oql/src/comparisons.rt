@@ -11,8 +11,8 @@ ghost use Rattle.gr_lex.specs.declared.token.Symbol.TheVariants as symbols;
 use crate::Part;
 use crate::condition::{Operand, Relation, Test};
 use crate::cursor::TokenCursor;
-use crate::keyword::Keyword;
 use crate::halt::{Halt, Wrong};
+use crate::keyword::Keyword;
 use crate::terms::{field, keyword_due, literal, operand, symbol_due, unquoted};
 use gr_lex::Symbol;
 use gr_value::{ItemList, Scalar, Text};
@@ -173,7 +173,11 @@ fn bracketed(cursor: &mut TokenCursor, alloc: Global, alias: Option<&str>) -> Re
     Ok(field)
 }
 
-pub(crate) fn test(cursor: &mut TokenCursor, alloc: Global, alias: Option<&str>) -> Result<Test, Halt>
+pub(crate) fn test(
+    cursor: &mut TokenCursor,
+    alloc: Global,
+    alias: Option<&str>,
+) -> Result<Test, Halt>
     ensures exact { Gives (λ x. x) result cursor.new (test_at (alias_of alias.entry) cursor.old) }
     ensures within { length cursor.new ≤ length cursor.old }
 {

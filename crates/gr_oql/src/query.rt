@@ -10,11 +10,11 @@ ghost use Rattle.gr_oql.specs.Question.{Question};
 ghost use Rattle.gr_oql.specs.Reader.Asking.{question};
 ghost use Rattle.gr_oql.specs.declared.fault.OqlFault.TheVariants as oql_fault;
 
+use crate::OqlFault;
 use crate::clauses::{Clauses, query};
 use crate::cursor::TokenCursor;
-use crate::lexeme::lexemes;
 use crate::halt::{Halt, Wrong};
-use crate::OqlFault;
+use crate::lexeme::lexemes;
 use gr_lex::{LexFault, Token, TokenList, tokens};
 use gr_value::{Copied, Key, Memory, Text};
 use std::alloc::Global;

@@ -10,8 +10,8 @@ ghost use Rattle.gr_oql.specs.Terminals.{undoubled, front, as_number, as_quoted,
 use crate::Part;
 use crate::condition::Operand;
 use crate::cursor::TokenCursor;
-use crate::keyword::Keyword;
 use crate::halt::{Halt, Wrong};
+use crate::keyword::Keyword;
 use gr_lex::{Symbol, Token};
 use gr_value::{Memory, Scalar, Text};
 use std::alloc::Global;
