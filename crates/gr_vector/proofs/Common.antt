@@ -113,14 +113,16 @@ begins_after a b c d h = grind (arith, nat_tests)
 pub overlaps_past : (low end : ℕ) (one : Gap) (theirs : List Gap) → AreApart low end theirs → one.last < low → overlaps one theirs ≡ []
 overlaps_past low end one [] h lt = refl
 overlaps_past low end one (two ∷ rest) h lt =
-    rw (no_overlap one two (ends_before one.first one.last two.first two.last (omega (arith, h.0)))) (overlaps_past (two.last + 2) end one rest h.2 (omega (arith, h.0, h.1)))
+    rw (no_overlap one two (ends_before one.first one.last two.first two.last (omega (arith, h.0))))
+    (overlaps_past (two.last + 2) end one rest h.2 (omega (arith, h.0, h.1)))
 
 -- none of those behind a range has something with it
 pub common_past : (low end : ℕ) (two : Gap) (ours rest : List Gap) → AreApart low end ours → two.last < low → common ours (two ∷ rest)
     ≡ common ours rest
 common_past low end two [] rest h lt = refl
 common_past low end two (one ∷ ours) rest h lt =
-    ap (λ xs. (xs ++ overlaps one rest) ++ common ours (two ∷ rest)) (no_overlap one two (begins_after one.first one.last two.first two.last (omega (arith, h.0))))
+    ap (λ xs. (xs ++ overlaps one rest) ++ common ours (two ∷ rest))
+    (no_overlap one two (begins_after one.first one.last two.first two.last (omega (arith, h.0))))
     ∙ ap (λ xs. overlaps one rest ++ xs) (common_past (one.last + 2) end two ours rest h.2 (omega (arith, h.0, h.1)))
 
 pub common_none : (ours : List Gap) → common ours [] ≡ []

@@ -9,7 +9,8 @@ use Rattle.gr_vector.proofs.vector.Vector.note.Goals as goal
 
 pub returns-clause-fresh : goal.returns-clause-fresh
 returns-clause-fresh c =
-    let is = member_is c.from.result c.args.member c.index_mut-missing.result.now c.self.inside.members.items c.from.ensures c.index_mut-missing.ensures.value
+    let is = member_is c.from.result c.args.member c.index_mut-missing.result.now c.self.inside.members.items c.from.ensures
+    c.index_mut-missing.ensures.value
     c.requires.a_member c.requires.of_eight c.self.invariant.eight in
     rw (← c.self.view_is) (c.in_ok-fresh.ensures.fresh ∙ ap (λ m. not (holds c.args.rv m.gaps)) is
     ∙ ap not (sym (has_member c.args.member c.args.rv c.self.inside.members.items c.requires.a_member)))
