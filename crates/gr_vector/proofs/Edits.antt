@@ -158,7 +158,7 @@ one_if : (b : Bool) (gap : Gap) → b ≡ true → (if b then gap ∷ [] else []
 one_if true gap e = refl
 one_if false gap e = absurd (cc)
 
-none_if : (b : Bool) (gap : Gap) → b ≡ false → (if b then gap ∷ [] else []) ≡ []
+pub none_if : (b : Bool) (gap : Gap) → b ≡ false → (if b then gap ∷ [] else []) ≡ []
 none_if false gap e = refl
 none_if true gap e = absurd (cc)
 
