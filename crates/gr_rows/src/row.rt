@@ -9,7 +9,7 @@ pub struct Moves {
 }
 
 impl Moves {
-    /// All bytes in one call, and no call fails.
+    // All bytes in one call, and no call fails.
     fn whole(alloc: Global) -> Moves {
         Moves {
             piece: usize::MAX,

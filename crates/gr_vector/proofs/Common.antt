@@ -1,5 +1,6 @@
 -- What two lists of ranges have in common.
-use Rattle.std.proofs.Common.{◌≡◌, ℕ, zero, suc, ◌+◌, ◌<◌, ◌≤◌, List, [], ◌∷◌, ◌++◌, length, get_or, drop, Bool, true, false, not, ◌&&◌, ◌||◌, ltb, leb, max, min, refl, sym, ◌∙◌, subst, ap, arith, if◌then◌else◌, append_assoc, add-one, drop-cons}
+use Rattle.std.proofs.Common.{◌≡◌, ℕ, zero, suc, ◌+◌, ◌<◌, ◌≤◌, List, [], ◌∷◌, ◌++◌, length, get_or, drop, Bool, true, false, not, ◌&&◌}
+use Rattle.std.proofs.Common.{◌||◌, ltb, leb, max, min, refl, sym, ◌∙◌, subst, ap, arith, if◌then◌else◌, append_assoc, add-one, drop-cons}
 use Rattle.std.proofs.lemmas.Bool.Decides.{nat_tests}
 use Rattle.std.proofs.lemmas.List.{append-nil}
 use Rattle.gr_vector.specs.declared.gap.Gap.{Gap}

@@ -1,5 +1,7 @@
 -- Taking a number out of its range.
-use Rattle.std.proofs.Common.{◌≡◌, ℕ, zero, suc, ◌+◌, ◌-◌, ◌<◌, ◌≤◌, List, [], ◌∷◌, ◌++◌, length, get_or, take, drop, set, ◌≢◌, Option, None, Some, Bool, true, false, not, ◌&&◌, ◌||◌, ◌==◌, ltb, leb, refl, sym, ◌∙◌, subst, ap, arith, if◌then◌else◌}
+use Rattle.std.proofs.Common.{◌≡◌, ℕ, zero, suc, ◌+◌, ◌-◌, ◌<◌, ◌≤◌, List, [], ◌∷◌, ◌++◌, length, get_or, take, drop, set, ◌≢◌, Option}
+use Rattle.std.proofs.Common.{None, Some, Bool, true, false, not, ◌&&◌, ◌||◌, ◌==◌, ltb, leb, refl, sym, ◌∙◌, subst, ap, arith}
+use Rattle.std.proofs.Common.{if◌then◌else◌}
 use Rattle.std.proofs.lemmas.Bool.Decides.{nat_tests}
 use Rattle.gr_vector.specs.declared.gap.Gap.{Gap}
 use Rattle.std.proofs.lemmas.List.{get_or_default}

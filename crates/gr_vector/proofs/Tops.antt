@@ -1,5 +1,6 @@
 -- The greatest number of a member, what is covered, and how many ranges are missing, by its ids.
-use Rattle.std.proofs.Common.{◌≡◌, ◌⊎◌, ℕ, zero, suc, ◌+◌, ◌-◌, ◌<◌, ◌≤◌, List, [], ◌∷◌, get_or, length, Bool, true, false, not, ◌&&◌, ◌||◌, ◌==◌, ltb, leb, max, refl, sym, ◌∙◌, subst, ap, inl, inr, ⊎_elim, arith, if◌then◌else◌}
+use Rattle.std.proofs.Common.{◌≡◌, ◌⊎◌, ℕ, zero, suc, ◌+◌, ◌-◌, ◌<◌, ◌≤◌, List, [], ◌∷◌, get_or, length, Bool, true, false, not, ◌&&◌}
+use Rattle.std.proofs.Common.{◌||◌, ◌==◌, ltb, leb, max, refl, sym, ◌∙◌, subst, ap, inl, inr, ⊎_elim, arith, if◌then◌else◌}
 use Rattle.std.proofs.lemmas.Bool.Decides.{nat_tests}
 use Rattle.std.proofs.lemmas.List.{get_or_default}
 use Rattle.gr_vector.specs.Gaps.{Missing, is_missing, greatest, holds, holds_upto, ends_upto}
