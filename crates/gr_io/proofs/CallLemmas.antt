@@ -23,6 +23,8 @@ is_ok-searched xs x (Ok i) found sorted =
     let at = searched xs x (Ok i) found (rises xs sorted) in
     (λ _. (i, at.0, get_or_default xs i x 0 at.0 ∙ at.1), λ _. refl)
 is_ok-searched xs x (Err i) missed sorted =
-    let at = searched xs x (Err i) missed (rises xs sorted) in
-    (λ no. absurd (neither no), λ has.
-        absurd (nowhere xs x i has.0 (at.1 has.0) (at.2 has.0) has.1 (get_or_default xs has.0 0 x has.1 ∙ has.2)))
+    let at = searched xs x (Err i) missed (rises xs sorted) in (
+      λ no. absurd (neither no),
+      λ has.
+          absurd (nowhere xs x i has.0 (at.1 has.0) (at.2 has.0) has.1 (get_or_default xs has.0 0 x has.1 ∙ has.2)),
+    )

@@ -8,6 +8,6 @@ pub moved : (all old copied : List ℕ) (at n : ℕ) → n ≤ length (drop at a
 moved all old copied at n fits is =
     let left = drop at all in
     let front : take n (copied ++ drop n old) ≡ take n left = take_at copied (drop n old) n (ap length is ∙ length-take-le n left fits)
-        ∙ is in
+    ∙ is in
     sym (take-append-drop n left) ∙ ap (λ l. l ++ drop n left) (sym front)
-        ∙ ap (λ l. take n (copied ++ drop n old) ++ l) (drop-drop n at all)
+    ∙ ap (λ l. take n (copied ++ drop n old) ++ l) (drop-drop n at all)

@@ -30,7 +30,7 @@ letter_from : (b : ℕ) → is_letter b ≡ true → 65 ≤ b
 letter_from b is =
     ⊎_elim
     (λ alphabetic. ⊎_elim (range_from 65 90 b) (λ lower. omega (arith, range_from 97 122 b lower))
-        (or_cases (is_in_range 65 90 b) (is_in_range 97 122 b) alphabetic))
+    (or_cases (is_in_range 65 90 b) (is_in_range 97 122 b) alphabetic))
     (λ underscore. omega (arith, eqb-true b 0x5F underscore))
     (or_cases (is_ascii_alphabetic b) (eqb b 0x5F) is)
 
@@ -72,7 +72,7 @@ quoted_len_front (b ∷ bs) rest stops =
     (λ yes. rw yes (ap (option_map (λ n. suc (suc n))) (quoted_len_front bs rest stops)))
     (λ no.
     subst (λ (inner : List ℕ). quoted_len ((inner ++ quote ∷ []) ++ rest) ≡ Some (length (inner ++ quote ∷ [])))
-        (sym (cond-false (eqb b quote) (quote ∷ quote ∷ doubled bs) (b ∷ doubled bs) no))
+    (sym (cond-false (eqb b quote) (quote ∷ quote ∷ doubled bs) (b ∷ doubled bs) no))
     (cond-false (eqb b quote) _ _ no ∙ ap (option_map suc) (quoted_len_front bs rest stops)))
     (cases_Bool (eqb b quote))
 
@@ -96,7 +96,7 @@ module _ (place : ℕ) (rest : List ℕ) where
       let digit : is_ascii_digit b ≡ true = (and_parts (is_ascii_digit b) (list_all is_ascii_digit bs) all).0 in
       let digits : take_while is_ascii_digit (b ∷ (bs ++ rest)) ≡ b ∷ bs = take_while_front is_ascii_digit (b ∷ bs) rest all stops in
       cond-false (is_letter b) _ _ (digit_no_letter b digit) ∙ cond-true (is_ascii_digit b) _ _ digit ∙ ap (number_at place) digits
-          ∙ read_number place (b ∷ bs) number same within
+      ∙ read_number place (b ∷ bs) number same within
 
   quoted_front : (text : List ℕ) → first_fails (λ b. eqb b quote) rest ≡ true
       → token_at place (quoted text ++ rest) ≡ Ok (spanning kind.Quoted place (length (quoted text)))

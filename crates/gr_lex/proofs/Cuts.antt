@@ -92,15 +92,24 @@ module _ (text : List ℕ) (t : Token) (is : IsToken text t) where
   first_byte : get_or text t.start 0 < 128
   first_byte =
       let none : t.start + 0 ≡ t.start = omega arith in
-      omega (arith, byte_at 0 (omega (arith, is.some)), ap (λ (i : ℕ). get_or text i 0) none,
-          first_ascii t.kind (bytes_of text t) is.of_kind)
+      omega (
+        arith,
+        byte_at 0 (omega (arith, is.some)),
+        ap (λ (i : ℕ). get_or text i 0) none,
+        first_ascii t.kind (bytes_of text t) is.of_kind,
+      )
 
   last_byte : get_or text (t.end - 1) 0 < 128
   last_byte =
       let place : t.start + (t.end - t.start - 1) ≡ t.end - 1 = omega (arith, is.some) in
       let last : length (bytes_of text t) - 1 ≡ t.end - t.start - 1 = omega (arith, length_is) in
-      omega (arith, byte_at (t.end - t.start - 1) (omega (arith, is.some)), ap (λ (i : ℕ). get_or text i 0) place,
-          ap (λ (i : ℕ). get_or (bytes_of text t) i 0) last, last_ascii t.kind (bytes_of text t) is.of_kind)
+      omega (
+        arith,
+        byte_at (t.end - t.start - 1) (omega (arith, is.some)),
+        ap (λ (i : ℕ). get_or text i 0) place,
+        ap (λ (i : ℕ). get_or (bytes_of text t) i 0) last,
+        last_ascii t.kind (bytes_of text t) is.of_kind,
+      )
 
   pub start_boundary : IsCharBoundary text t.start
   start_boundary = IsCharBoundary-before_ascii text t.start (omega (arith, is.some, is.within)) first_byte
@@ -135,8 +144,8 @@ module _ (text : List ℕ) (t : Token) (is : IsToken text t) where
       let long : length (doubled q.0) ≡ m - 2 = omega (arith, length_is, ap length q.1, length-append (doubled q.0) (quote ∷ [])) in
       let tail : take (m - 1) (drop (t.start + 1) text) ≡ doubled q.0 ++ quote ∷ [] =
       sym (ap (take (m - 1)) (drop-drop 1 t.start text)) ∙ sym (drop-take 1 (m - 1) (drop t.start text))
-          ∙ ap (λ (n : ℕ). drop 1 (take n (drop t.start text))) more ∙ ap (drop 1) q.1 in
+      ∙ ap (λ (n : ℕ). drop 1 (take n (drop t.start text))) more ∙ ap (drop 1) q.1 in
       let inner : inside ≡ doubled q.0 =
       cut ∙ ap (λ (n : ℕ). take n (drop (t.start + 1) text)) less ∙ sym (take-take (m - 2) (m - 1) (drop (t.start + 1) text) (omega arith))
-          ∙ ap (take (m - 2)) tail ∙ take_at (doubled q.0) (quote ∷ []) (m - 2) long in
+      ∙ ap (take (m - 2)) tail ∙ take_at (doubled q.0) (quote ∷ []) (m - 2) long in
       q.1 ∙ ap (λ (l : List ℕ). quote ∷ (l ++ quote ∷ [])) (sym inner)

@@ -114,7 +114,7 @@ mutual
         stops = rest.stops;
       }))
       (λ h. subst (λ (m : ℕ). Closes (b ∷ c ∷ bs) m) (same_some h.1)
-          (record { text = []; body = ap (λ (x : ℕ). x ∷ []) is_quote; in_range = omega arith; stops = ap not h.0 }))
+      (record { text = []; body = ap (λ (x : ℕ). x ∷ []) is_quote; in_range = omega arith; stops = ap not h.0 }))
       (chosen (eqb c quote) _ _ _ is)
 
 -- a symbol at the front, the longest one
@@ -157,11 +157,23 @@ two b (c ∷ cs) s s' code next spelled some fails is is_next same =
 short : (b : ℕ) (bs : List ℕ) (s s' : Symbol) (code : ℕ) → spelling s' ≡ code ∷ []
     → ((c : ℕ) (cs : List ℕ) → bs ≡ c ∷ cs → goes_on s' c ≡ false) → eqb b code ≡ true → s' ≡ s → Spells b bs s
 short b [] s s' code spelled fails is same =
-    subst (Spells b []) same (record { more = 0; len_is = ap length spelled; in_range = omega arith; front =
-    ap (λ (x : ℕ). x ∷ []) (eqb-true b code is) ∙ sym spelled; stops = refl })
+    subst (Spells b []) same (record {
+      more = 0;
+      len_is = ap length spelled;
+      in_range = omega arith;
+      front =
+          ap (λ (x : ℕ). x ∷ []) (eqb-true b code is) ∙ sym spelled;
+      stops = refl;
+    })
 short b (c ∷ cs) s s' code spelled fails is same =
-    subst (Spells b (c ∷ cs)) same (record { more = 0; len_is = ap length spelled; in_range = omega arith; front =
-    ap (λ (x : ℕ). x ∷ []) (eqb-true b code is) ∙ sym spelled; stops = ap not (fails c cs refl) })
+    subst (Spells b (c ∷ cs)) same (record {
+      more = 0;
+      len_is = ap length spelled;
+      in_range = omega arith;
+      front =
+          ap (λ (x : ℕ). x ∷ []) (eqb-true b code is) ∙ sym spelled;
+      stops = ap not (fails c cs refl);
+    })
 
 -- two numbers that differ, either way round
 turned : (c next : ℕ) → eqb c next ≡ false → eqb next c ≡ false
@@ -217,9 +229,9 @@ symbol_spells b bs s read =
     ⊎_elim (one b bs s Dollar 0x24 refl (λ c. refl)) (λ r11.
     ⊎_elim (one b bs s Minus 0x2D refl (λ c. refl)) (λ r12. absurd (cc r12.1))
     (chosen _ _ _ _ r11.1)) (chosen _ _ _ _ r10.1)) (chosen _ _ _ _ r9.1)) (chosen _ _ _ _ r8.1)) (chosen _ _ _ _ r7.1))
-        (chosen _ _ _ _ r6.1))
+    (chosen _ _ _ _ r6.1))
     (chosen _ _ _ _ r5.1)) (chosen _ _ _ _ r4.1)) (chosen _ _ _ _ r3.1)) (chosen _ _ _ _ r2.1)) (chosen _ _ _ _ r1.1))
-        (chosen _ _ _ _ read)
+    (chosen _ _ _ _ read)
 
 begins_symbol : (place b : ℕ) (bs : List ℕ) (t : Token) (o : Option Symbol) → o ≡ symbol_of b (get_or bs 0 0) → symbol_at place o ≡ Ok t
     → (len : ℕ) × Begins place (b ∷ bs) t len
@@ -266,8 +278,11 @@ begins_number place b bs t digit read =
         at_start = refl;
         at_end = ap (λ (n : ℕ). place + n) (ap length whole ∙ length-take-le (suc len) (b ∷ bs) within);
         in_range = within;
-        kind_is = (subst (λ (l : List ℕ). list_all is_ascii_digit l ≡ true) whole (prefix_passes is_ascii_digit (b ∷ bs)),
-            sym (ap number_of whole), leb-true _ _ h.0);
+        kind_is = (
+          subst (λ (l : List ℕ). list_all is_ascii_digit l ≡ true) whole (prefix_passes is_ascii_digit (b ∷ bs)),
+          sym (ap number_of whole),
+          leb-true _ _ h.0,
+        );
         stops = subst (λ (n : ℕ). first_fails is_ascii_digit (drop n (b ∷ bs)) ≡ true) more (prefix_stops is_ascii_digit (b ∷ bs));
       }),
     ))

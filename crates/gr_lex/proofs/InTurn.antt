@@ -39,7 +39,7 @@ pub tokens_from_fault : (bytes : List ℕ) (at : ℕ) (fault : LexFault) → at 
 tokens_from_fault bytes at fault within other read =
     let here = drop_more bytes at 0 within in
     let read' : token_at at (get_or bytes at 0 ∷ drop (at + 1) bytes) ≡ Err fault = ap (token_at at) (sym (take_rest bytes at ∙ here))
-        ∙ read in
+    ∙ read in
     rw (here, other, read') refl
 
 pub tokens_from_token : (bytes : List ℕ) (at : ℕ) (t : Token) → at < length bytes → is_blank (get_or bytes at 0) ≡ false
@@ -50,9 +50,9 @@ tokens_from_token bytes at t within other read spans =
     let read' : token_at at (get_or bytes at 0 ∷ drop (at + 1) bytes) ≡ Ok t = ap (token_at at) (sym (take_rest bytes at ∙ here)) ∙ read in
     let place : suc at + (t.end - t.start - 1) ≡ t.end = omega (arith, spans.start, spans.some) in
     let rest : drop (t.end - t.start - 1) (drop (at + 1) bytes) ≡ drop t.end bytes = drop-drop _ _ bytes
-        ∙ ap (λ (n : ℕ). drop n bytes) (omega (arith, spans.start, spans.some)) in
+    ∙ ap (λ (n : ℕ). drop n bytes) (omega (arith, spans.start, spans.some)) in
     rw (here, other, read') (ap (with_first t) (tokens_from_taken (suc at) (t.end - t.start - 1) (drop (at + 1) bytes)
-        ∙ ap (λ (p : ℕ). tokens_from p 0 (drop (t.end - t.start - 1) (drop (at + 1) bytes))) place ∙ ap (tokens_from t.end 0) rest))
+    ∙ ap (λ (p : ℕ). tokens_from p 0 (drop (t.end - t.start - 1) (drop (at + 1) bytes))) place ∙ ap (tokens_from t.end 0) rest))
 
 pub ends_within : (bytes : List ℕ) (at : ℕ) (t : Token) → at < length bytes
     → Spans at (length (take (length bytes - at) (drop at bytes))) t → t.end ≤ length bytes

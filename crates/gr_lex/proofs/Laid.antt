@@ -28,9 +28,11 @@ blank_before : (text : List ℕ) (place stop b : ℕ) (bs : List ℕ) → b ∷ 
 blank_before text place stop b bs rest blank are =
     let longer : stop - place ≡ suc (stop - suc place) = omega (arith, are.0) in
     let blanks : list_all is_blank (take (stop - suc place) bs) ≡ true =
-        subst (λ (l : List ℕ). list_all is_blank (take (stop - suc place) l) ≡ true) (sym (past text place b bs rest)) are.1 in
-    (omega (arith, are.0), subst (λ (l : List ℕ). list_all is_blank (take (stop - place) l) ≡ true) rest
-        (rw longer (and_true blank blanks)))
+    subst (λ (l : List ℕ). list_all is_blank (take (stop - suc place) l) ≡ true) (sym (past text place b bs rest)) are.1 in (
+      omega (arith, are.0),
+      subst (λ (l : List ℕ). list_all is_blank (take (stop - place) l) ≡ true) rest
+          (rw longer (and_true blank blanks)),
+    )
 
 laid_before : (text : List ℕ) (place stop b : ℕ) (bs : List ℕ) (ts : List Token) → b ∷ bs ≡ drop place text → is_blank b ≡ true
     → IsLaidOutTo text (suc place) stop ts → IsLaidOutTo text place stop ts
@@ -49,7 +51,7 @@ token_is text place b bs t len rest front =
     let count : t.end - t.start ≡ suc len = omega (arith, front.at_start, front.at_end) in
     let from_start : drop t.start text ≡ b ∷ bs = ap (λ (n : ℕ). drop n text) front.at_start ∙ sym rest in
     let from_end : drop (suc len) (b ∷ bs) ≡ drop t.end text = ap (drop (suc len)) rest ∙ drop-drop (suc len) place text
-        ∙ ap (λ (n : ℕ). drop n text) (sym front.at_end) in
+    ∙ ap (λ (n : ℕ). drop n text) (sym front.at_end) in
     record {
       some = omega (arith, front.at_start, front.at_end);
       within = omega (arith, front.at_end, front.in_range, ap length rest, length-drop place text);
@@ -78,19 +80,22 @@ ends_with_first text place t (Err fault) blanks is ends = (t ∷ ends.0, ends.1,
 ends_followed : (text : List ℕ) (place b : ℕ) (bs : List ℕ) (front : Result Token LexFault) → b ∷ bs ≡ drop place text → is_blank b ≡ false
     → front ≡ token_at place (b ∷ bs)
     → ((taken : ℕ) → suc place + taken ≤ length text → Ends text (suc place + taken) (tokens_from (suc place) taken bs))
-        → Ends text place (followed front (λ taken. tokens_from (suc place) taken bs))
-ends_followed text place b bs (Err fault) rest other read later =
-    ([], place, none_between text place place refl,
-        subst (λ (l : List ℕ). IsFaultAt place l fault) rest (fault_at place b bs fault other (sym read)))
+    → Ends text place (followed front (λ taken. tokens_from (suc place) taken bs))
+ends_followed text place b bs (Err fault) rest other read later = (
+  [],
+  place,
+  none_between text place place refl,
+  subst (λ (l : List ℕ). IsFaultAt place l fault) rest (fault_at place b bs fault other (sym read)),
+)
 ends_followed text place b bs (Ok t) rest other read later =
     let begun = begins place b bs t (sym read) in
     let front = begun.1 in
     let is : IsToken text t = token_is text place b bs t begun.0 rest front in
     let next : suc place + (t.end - t.start - 1) ≡ t.end = omega (arith, front.at_start, front.at_end) in
     let rest_ends : Ends text (suc place + (t.end - t.start - 1)) (tokens_from (suc place) (t.end - t.start - 1) bs) =
-        later (t.end - t.start - 1) (omega (arith, next, is.within)) in
+    later (t.end - t.start - 1) (omega (arith, next, is.within)) in
     ends_with_first text place t (tokens_from (suc place) (t.end - t.start - 1) bs)
-        (none_between text place t.start (sym front.at_start)) is
+    (none_between text place t.start (sym front.at_start)) is
     (subst (λ (n : ℕ). Ends text n (tokens_from (suc place) (t.end - t.start - 1) bs)) next rest_ends)
 
 ends_chosen : (text : List ℕ) (place : ℕ) (blank : Bool) (one other : Result (List Token) LexFault) → (blank ≡ true → Ends text place one)
@@ -109,7 +114,7 @@ ends text place taken [] rest within =
 ends text place (suc taken) (b ∷ bs) rest within =
     let next : suc place + taken ≡ place + suc taken = omega arith in
     subst (λ (n : ℕ). Ends text n (tokens_from (suc place) taken bs)) next
-        (ends text (suc place) taken bs (past text place b bs rest) (omega (arith, within)))
+    (ends text (suc place) taken bs (past text place b bs rest) (omega (arith, within)))
 ends text place zero (b ∷ bs) rest within =
     let here : place ≡ place + 0 = omega arith in
     let none : suc place + 0 ≡ suc place = omega arith in
@@ -118,7 +123,7 @@ ends text place zero (b ∷ bs) rest within =
     subst (λ (n : ℕ). Ends text n (tokens_from place 0 (b ∷ bs))) here
     (ends_chosen text place (is_blank b) _ _
     (λ blank. ends_before text place b bs (tokens_from (suc place) 0 bs) rest blank
-        (subst (λ (n : ℕ). Ends text n (tokens_from (suc place) 0 bs)) none (ends text (suc place) 0 bs next (omega (arith, more)))))
+    (subst (λ (n : ℕ). Ends text n (tokens_from (suc place) 0 bs)) none (ends text (suc place) 0 bs next (omega (arith, more)))))
     (λ other. ends_followed text place b bs (token_at place (b ∷ bs)) rest other refl (λ taken. ends text (suc place) taken bs next)))
 
 whole : (text : List ℕ) (answer : Result (List Token) LexFault) → tokens_of text ≡ answer → Ends text 0 answer

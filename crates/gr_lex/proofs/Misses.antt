@@ -69,9 +69,17 @@ number_read place bytes fault read =
     (λ h. absurd (cc h.1))
     (λ h.
     let same : NumberTooLarge place ≡ fault = cc h.1 in
-    subst (IsFaultAt place bytes) same (refl,
-        (digits, behind, sym (take-append-drop (prefix_len is_ascii_digit bytes) bytes), prefix_passes is_ascii_digit bytes,
-        prefix_stops is_ascii_digit bytes, leb-false _ _ h.0)))
+    subst (IsFaultAt place bytes) same (
+      refl,
+      (
+        digits,
+        behind,
+        sym (take-append-drop (prefix_len is_ascii_digit bytes) bytes),
+        prefix_passes is_ascii_digit bytes,
+        prefix_stops is_ascii_digit bytes,
+        leb-false _ _ h.0,
+      ),
+    ))
     (chosen (leb (number_of digits) greatest_number) _ _ _ read)
 
 closed_read : (text behind bs : List ℕ) → bs ≡ (doubled text ++ quote ∷ []) ++ behind → first_fails (λ b. eqb b quote) behind ≡ true
@@ -85,8 +93,10 @@ open_read : (place : ℕ) (bs : List ℕ) (fault : LexFault) (o : Option ℕ) �
 open_read place bs fault (Some len) none read = absurd (cc)
 open_read place bs fault None none read =
     let same : OpenText place ≡ fault = cc in
-    subst (IsFaultAt place (quote ∷ bs)) same (refl,
-        ((bs, refl), λ text behind is stops. closed_read text behind bs (ap (drop 1) is) stops none))
+    subst (IsFaultAt place (quote ∷ bs)) same (
+      refl,
+      ((bs, refl), λ text behind is stops. closed_read text behind bs (ap (drop 1) is) stops none),
+    )
 
 -- why a fault is read at the front
 pub fault_at : (place b : ℕ) (bs : List ℕ) (fault : LexFault) → is_blank b ≡ false → token_at place (b ∷ bs) ≡ Err fault
@@ -114,7 +124,7 @@ unspelled place b bs None is never = refl
 unspelled place b bs (Some s) is never =
     let spells = symbol_spells b bs s is in
     absurd (never s (drop spells.more bs) (ap (λ (l : List ℕ). b ∷ l) (sym (take-append-drop spells.more bs))
-        ∙ ap (λ (l : List ℕ). l ++ drop spells.more bs) spells.front))
+    ∙ ap (λ (l : List ℕ). l ++ drop spells.more bs) spells.front))
 
 bad_character : (place : ℕ) (bytes : List ℕ) → HasBadCharacter bytes → tokens_from place 0 bytes ≡ Err (BadCharacter place)
 bad_character place [] has = absurd has
@@ -124,7 +134,7 @@ bad_character place (b ∷ bs) has =
     let letters = neither (is_blank b) (is_letter b) digits.0 in
     missed place b bs (BadCharacter place) letters.0
     (cond-false (is_letter b) _ _ letters.1 ∙ cond-false (is_ascii_digit b) _ _ digits.1 ∙ cond-false (eqb b quote) _ _ quotes.1
-        ∙ unspelled place b bs (symbol_of b (get_or bs 0 0)) refl has.1)
+    ∙ unspelled place b bs (symbol_of b (get_or bs 0 0)) refl has.1)
 
 number_too_large : (place : ℕ) (digits behind : List ℕ) → list_all is_ascii_digit digits ≡ true → first_fails is_ascii_digit behind ≡ true
     → greatest_number < number_of digits → tokens_from place 0 (digits ++ behind) ≡ Err (NumberTooLarge place)
@@ -134,7 +144,7 @@ number_too_large place (d ∷ ds) behind all stops large =
     let digits : take_while is_ascii_digit (d ∷ (ds ++ behind)) ≡ d ∷ ds = take_while_front is_ascii_digit (d ∷ ds) behind all stops in
     missed place d (ds ++ behind) (NumberTooLarge place) (digit_no_blank d digit)
     (cond-false (is_letter d) _ _ (digit_no_letter d digit) ∙ cond-true (is_ascii_digit d) _ _ digit ∙ ap (number_at place) digits
-        ∙ cond-false (leb (number_of (d ∷ ds)) greatest_number) _ _ (lt-leb _ _ large))
+    ∙ cond-false (leb (number_of (d ∷ ds)) greatest_number) _ _ (lt-leb _ _ large))
 
 unclosed : (place : ℕ) (bs : List ℕ) (o : Option ℕ) → quoted_len bs ≡ o
     → ((text behind : List ℕ) → quote ∷ bs ≡ quoted text ++ behind → first_fails (λ b. eqb b quote) behind ≡ true → ⊥)
@@ -143,14 +153,14 @@ unclosed place bs None is never = refl
 unclosed place bs (Some len) is never =
     let found = closes bs len is in
     absurd (never found.text (drop len bs)
-        (ap (λ (l : List ℕ). quote ∷ l) (sym (take-append-drop len bs) ∙ ap (λ (l : List ℕ). l ++ drop len bs) found.body)) found.stops)
+    (ap (λ (l : List ℕ). quote ∷ l) (sym (take-append-drop len bs) ∙ ap (λ (l : List ℕ). l ++ drop len bs) found.body)) found.stops)
 
 open_text : (place : ℕ) (bytes : List ℕ) → HasOpenText bytes → tokens_from place 0 bytes ≡ Err (OpenText place)
 open_text place bytes has =
     let never = subst (λ (l : List ℕ). (text behind : List ℕ) → l ≡ quoted text ++ behind → first_fails (λ b. eqb b quote) behind ≡ true
-        → ⊥) has.0.1 has.1 in
+    → ⊥) has.0.1 has.1 in
     ap (tokens_from place 0) has.0.1
-        ∙ missed place quote has.0.0 (OpenText place) refl (unclosed place has.0.0 (quoted_len has.0.0) refl never)
+    ∙ missed place quote has.0.0 (OpenText place) refl (unclosed place has.0.0 (quoted_len has.0.0) refl never)
 
 -- a fault by the grammar is read at the front
 pub fault_read : (place : ℕ) (bytes : List ℕ) (fault : LexFault) → IsFaultAt place bytes fault → tokens_from place 0 bytes ≡ Err fault
@@ -160,5 +170,5 @@ fault_read place bytes (OpenText p) is =
     subst (λ (n : ℕ). tokens_from place 0 bytes ≡ Err (OpenText n)) (sym is.0) (open_text place bytes is.1)
 fault_read place bytes (NumberTooLarge p) is =
     subst (λ (n : ℕ). tokens_from place 0 bytes ≡ Err (NumberTooLarge n)) (sym is.0) (ap (tokens_from place 0) is.1.2
-        ∙ number_too_large place is.1.0 is.1.1 is.1.3 is.1.4 is.1.5)
+    ∙ number_too_large place is.1.0 is.1.1 is.1.3 is.1.4 is.1.5)
 fault_read place bytes Memory is = absurd is

@@ -29,8 +29,8 @@ between_read : (text : List ℕ) (place stop : ℕ) → AreBlanks text place sto
 between_read text place stop are =
     let whole : place + (stop - place) ≡ stop = omega (arith, are.0) in
     blanks_read (stop - place) place (drop place text) are.1
-        ∙ ap (tokens_from (place + (stop - place)) 0) (drop-drop (stop - place) place text)
-        ∙ ap (λ (n : ℕ). tokens_from n 0 (drop n text)) whole
+    ∙ ap (tokens_from (place + (stop - place)) 0) (drop-drop (stop - place) place text)
+    ∙ ap (λ (n : ℕ). tokens_from n 0 (drop n text)) whole
 
 module _ (text : List ℕ) (t : Token) (is : IsToken text t) where
   count : length (bytes_of text t) ≡ t.end - t.start
@@ -40,22 +40,22 @@ module _ (text : List ℕ) (t : Token) (is : IsToken text t) where
   parted =
       let ends : t.start + (t.end - t.start) ≡ t.end = omega (arith, is.some) in
       sym (take-append-drop (t.end - t.start) (drop t.start text))
-          ∙ ap (λ (l : List ℕ). bytes_of text t ++ l) (drop-drop (t.end - t.start) t.start text ∙ ap (λ (n : ℕ). drop n text) ends)
+      ∙ ap (λ (l : List ℕ). bytes_of text t ++ l) (drop-drop (t.end - t.start) t.start text ∙ ap (λ (n : ℕ). drop n text) ends)
 
   there : token_at t.start (drop t.start text) ≡ Ok t
   there =
       let ends : t.start + length (bytes_of text t) ≡ t.end = omega (arith, count, is.some) in
       ap (token_at t.start) parted ∙ front_read t.kind t.start (bytes_of text t) (drop t.end text)
-          (omega (arith, count, is.some)) is.of_kind is.longest
-          ∙ ap (λ (n : ℕ). Ok (record { kind = t.kind; start = t.start; end = n })) ends
+      (omega (arith, count, is.some)) is.of_kind is.longest
+      ∙ ap (λ (n : ℕ). Ok (record { kind = t.kind; start = t.start; end = n })) ends
 
   no_blank : is_blank (get_or text t.start 0) ≡ false
   no_blank =
       let none : t.start + 0 ≡ t.start = omega arith in
       let first : get_or (bytes_of text t ++ drop t.end text) 0 0 ≡ get_or text t.start 0 = ap (λ (l : List ℕ). get_or l 0 0) (sym parted)
-          ∙ get_or-drop t.start text 0 0 ∙ ap (λ (n : ℕ). get_or text n 0) none in
+      ∙ get_or-drop t.start text 0 0 ∙ ap (λ (n : ℕ). get_or text n 0) none in
       subst (λ (b : ℕ). is_blank b ≡ false) first
-          (front_no_blank t.kind (bytes_of text t) (drop t.end text) (omega (arith, count, is.some)) is.of_kind)
+      (front_no_blank t.kind (bytes_of text t) (drop t.end text) (omega (arith, count, is.some)) is.of_kind)
 
   token_read : tokens_from t.start 0 (drop t.start text) ≡ with_first t (tokens_from t.end 0 (drop t.end text))
   token_read =
@@ -81,8 +81,8 @@ laid_read text place stop (t ∷ ts) laid = between_read text place t.start laid
 pub tokens_only : (text : List ℕ) (ts : List Token) → IsLaidOut text 0 ts → tokens_of text ≡ Ok ts
 tokens_only text ts laid =
     laid_read text 0 (length text) ts laid
-        ∙ ap (λ (l : List ℕ). behind ts (tokens_from (length text) 0 l)) (drop_all (length text) text (omega arith))
-        ∙ ap Ok (append-nil ts)
+    ∙ ap (λ (l : List ℕ). behind ts (tokens_from (length text) 0 l)) (drop_all (length text) text (omega arith))
+    ∙ ap Ok (append-nil ts)
 
 fault_there : (text : List ℕ) (place : ℕ) (fault : LexFault) → HasTokensTo text place → IsFaultAt place (drop place text) fault
     → tokens_of text ≡ Err fault

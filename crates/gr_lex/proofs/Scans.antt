@@ -21,7 +21,7 @@ pub number_of-take : (digits : List ℕ) (n : ℕ) → number_of (take n digits)
 number_of-take digits n =
     subst (λ (all : List ℕ). number_of (take n digits) ≤ number_of all) (take-append-drop n digits)
     (subst (λ (m : ℕ). number_of (take n digits) ≤ m) (sym (fold-append step 0 (take n digits) (drop n digits)))
-        (grows (number_of (take n digits)) (drop n digits)))
+    (grows (number_of (take n digits)) (drop n digits)))
 
 pub number_of_more : (digits : List ℕ) (i : ℕ) → i < length digits
     → number_of (take (i + 1) digits) ≡ number_of (take i digits) * 10 + (get_or digits i 0 - 0x30)
@@ -58,7 +58,7 @@ pub quoted_len_doubled : (bytes : List ℕ) (at : ℕ) → at + 1 < length bytes
 quoted_len_doubled bytes at within here next =
     let two : at + 1 + 1 ≡ at + 2 = omega arith in
     rw (drop_more bytes at 0 (omega arith), here, drop_more bytes (at + 1) 0 within, next, two)
-        (further_two at (quoted_len (drop (at + 2) bytes)))
+    (further_two at (quoted_len (drop (at + 2) bytes)))
 
 -- the quote that ends the text: the last byte, or followed by another byte than a quote
 pub quoted_len_last : (bytes : List ℕ) (at : ℕ) → at < length bytes → length bytes ≤ at + 1 → get_or bytes at 0 ≡ quote

@@ -34,7 +34,7 @@ IsOfKind (kind.Symbol symbol) bytes = bytes ≡ spelling symbol
 abbrev pub symbols : List Symbol
 symbols =
     Star ∷ LeftBracket ∷ RightBracket ∷ Comma ∷ Dot ∷ Equal ∷ Angles ∷ BangEqual ∷ Less ∷ LessEqual ∷ Greater ∷ GreaterEqual ∷ Slash
-        ∷ Dollar ∷ Minus ∷ []
+    ∷ Dollar ∷ Minus ∷ []
 
 -- Some symbol is spelled as this one with a byte behind it.
 abbrev pub goes_on : Symbol → ℕ → Bool

@@ -92,14 +92,29 @@ module _ (opening : List Terminal → List Terminal) where
   pub ahead_of : {A : Type 0} (Spells : A → List Terminal → Type 0) (ts : List Terminal) (w : Wrong) (left : List Terminal)
       → AheadOf opening (Something Spells) ts w left → Ahead opening Spells ts w left
   ahead_of Spells ts w left one =
-      record { start = one.start; value = one.holds.0; more = one.more; split = one.split; shown = one.shown; known = one.known; holds =
-      one.holds.1 }
+      record {
+        start = one.start;
+        value = one.holds.0;
+        more = one.more;
+        split = one.split;
+        shown = one.shown;
+        known = one.known;
+        holds =
+            one.holds.1;
+      }
 
   pub goes_on : (P Q : List Terminal → Type 0) (ts : List Terminal) (w : Wrong) (left : List Terminal) → ((l : List Terminal) → P l → Q l)
       → AheadOf opening P ts w left → AheadOf opening Q ts w left
   goes_on P Q ts w left turns one =
-      record { start = one.start; more = one.more; split = one.split; shown = one.shown; known = one.known; holds =
-      turns (one.start ++ (due opening w left ++ one.more)) one.holds }
+      record {
+        start = one.start;
+        more = one.more;
+        split = one.split;
+        shown = one.shown;
+        known = one.known;
+        holds =
+            turns (one.start ++ (due opening w left ++ one.more)) one.holds;
+      }
 
   -- what is due behind what goes on
   pub before : {A B : Type 0} (Spells : A → List Terminal → Type 0) (Later : A → B → List Terminal
@@ -138,23 +153,29 @@ module _ (opening : List Terminal → List Terminal) where
     split = one.split ∙ ap (λ (l : List Terminal). one.spelled ++ l) two.split ∙ sym (append_assoc one.spelled two.start left);
     shown = two.shown;
     known = two.known;
-    holds = (one.spelled, two.start
-        ++ (due opening w left ++ two.more), append_assoc one.spelled two.start (due opening w left ++ two.more), one.holds, two.holds);
+    holds = (
+      one.spelled,
+      two.start
+          ++ (due opening w left ++ two.more),
+      append_assoc one.spelled two.start (due opening w left ++ two.more),
+      one.holds,
+      two.holds,
+    );
   }
 
   -- one reader and then another
   pub then_ahead : {A B C D : Type 0} (Spells : A → List Terminal → Type 0) (Later : A → B → List Terminal → Type 0) (Whole : C
       → List Terminal → Type 0) (item : List Terminal → Reading A) (next : A → List Terminal → Reading D)
       → Goes Spells item → Sound Spells item → ((x : A) → Due (Something (Later x))) → ((x : A) → Goes (Later x) (next x))
-          → ((x : A) (y : B) (l : List Terminal) → (Spells x then Later x y) l → Something Whole l)
+      → ((x : A) (y : B) (l : List Terminal) → (Spells x then Later x y) l → Something Whole l)
       → Goes Whole (λ ts. item ts >>= λ x. next x.0 x.1)
   then_ahead {A} {B} Spells Later Whole item next goes sound last later turns ts w left read =
       ⊎_elim
       (λ h. goes_on _ (Something Whole) ts w left (λ l spelled. turns spelled.0 spelled.1 l spelled.2)
-          (before Spells Later ts w left last (goes ts w left h)))
+      (before Spells Later ts w left last (goes ts w left h)))
       (λ h. goes_on (Spells h.0 then Something (Later h.0)) (Something Whole) ts w left
-          (λ l s. turns h.0 s.4.0 l (s.0, s.1, s.2, s.3, s.4.1))
-          (behind (Spells h.0) (Something (Later h.0)) ts h.1 w left (sound ts h.0 h.1 h.2) (later h.0 h.1 w left h.3)))
+      (λ l s. turns h.0 s.4.0 l (s.0, s.1, s.2, s.3, s.4.1))
+      (behind (Spells h.0) (Something (Later h.0)) ts h.1 w left (sound ts h.0 h.1 h.2) (later h.0 h.1 w left h.3)))
       (stopped (item ts) _ (w, left) read)
 
   -- a stop at the front of what was there
@@ -205,11 +226,17 @@ pub some_field : (alias : Option (List ℕ)) → IsSpelledAlias alias → Due (S
 some_field None known = (name (0x78 ∷ []) ∷ [], (0x78 ∷ [], inl (refl, (name (0x78 ∷ []), refl, refl))), (name_spelled, tt))
 some_field (Some a) known =
     let dotted : (Is as_name a then One (is_symbol symbols.Dot) then Is as_word (0x78 ∷ []))
-        (name a ∷ symbol symbols.Dot ∷ name (0x78 ∷ []) ∷ []) =
-    (name a ∷ [], symbol symbols.Dot ∷ name (0x78 ∷ []) ∷ [], refl, (name a, refl, refl),
-        (symbol symbols.Dot ∷ [], name (0x78 ∷ []) ∷ [], refl, symbol_itself symbols.Dot, (name (0x78 ∷ []), refl, refl))) in
-    (name a ∷ symbol symbols.Dot ∷ name (0x78 ∷ []) ∷ [], (0x78 ∷ [], inr (a, (bytes_eq-Decides a a).1 refl, dotted)),
-        (known, (symbol_spelled symbols.Dot, (name_spelled, tt))))
+    (name a ∷ symbol symbols.Dot ∷ name (0x78 ∷ []) ∷ []) = (
+      name a ∷ [],
+      symbol symbols.Dot ∷ name (0x78 ∷ []) ∷ [],
+      refl,
+      (name a, refl, refl),
+      (symbol symbols.Dot ∷ [], name (0x78 ∷ []) ∷ [], refl, symbol_itself symbols.Dot, (name (0x78 ∷ []), refl, refl)),
+    ) in (
+      name a ∷ symbol symbols.Dot ∷ name (0x78 ∷ []) ∷ [],
+      (0x78 ∷ [], inr (a, (bytes_eq-Decides a a).1 refl, dotted)),
+      (known, (symbol_spelled symbols.Dot, (name_spelled, tt))),
+    )
 
 pub some_literal : Due (Something Literal)
 some_literal = (keyword word.Null (letters word.Null) ∷ [], (scalar.Null, keyword_itself word.Null), (keyword_spelled word.Null, tt))
@@ -221,9 +248,9 @@ module _ (opening : List Terminal → List Terminal) where
   member_ahead : Goes opening (λ (f : List ℕ). One (is_symbol symbols.Dot) then Is as_word f) member_at
   member_ahead =
       then_ahead opening (λ (u : Unit {0}). One (is_symbol symbols.Dot)) (λ u f. Is as_word f) (λ f. One (is_symbol symbols.Dot)
-          then Is as_word f) (symbol_at symbols.Dot) (λ u ts. word_by (front as_word ts) ts)
+      then Is as_word f) (symbol_at symbols.Dot) (λ u ts. word_by (front as_word ts) ts)
       (symbol_ahead opening symbols.Dot) (symbol_sound symbols.Dot) (λ u. some_word)
-          (λ u ts w left read. word_ahead opening _ _ ts w left some_word read) (λ u f l spelled. (f, spelled))
+      (λ u ts w left read. word_ahead opening _ _ ts w left some_word read) (λ u f l spelled. (f, spelled))
 
   -- what a name begins, where the name stands before these terminals
   named_ahead : (alias : Option (List ℕ)) (t : Terminal) (v : List ℕ) (ts : List Terminal) (w : Wrong) (left : List Terminal)
@@ -234,7 +261,7 @@ module _ (opening : List Terminal → List Terminal) where
       let one : Front (Is as_name v) (t ∷ ts) ts = record { spelled = t ∷ []; split = refl; holds = (t, is, refl) } in
       goes_on opening _ (Something (Field alias)) (t ∷ ts) w left (λ l s. (s.4.0, inr (v, h.0, (s.0, s.1, s.2, s.3, s.4.1))))
       (behind opening (Is as_name v) (Something (λ f. One (is_symbol symbols.Dot) then Is as_word f)) (t ∷ ts) ts w left one
-          (member_ahead ts w left h.1)))
+      (member_ahead ts w left h.1)))
       (λ h. absurd (cc h.1))
       (chosen (is_alias alias v) _ _ _ read)
 
@@ -265,7 +292,7 @@ module _ (opening : List Terminal → List Terminal) where
   minus_ahead ts w left is read =
       goes_on opening _ (Something Literal) ts w left signed
       (behind opening (One (is_symbol symbols.Minus)) (Is as_number 0) ts (rest ts) w left (one_begins (is_symbol symbols.Minus) ts is)
-          (negative_ahead (front as_number (rest ts)) (rest ts) w left read))
+      (negative_ahead (front as_number (rest ts)) (rest ts) w left read))
 
   -- where a literal is due a sign is
   missing_ahead : (b : Bool) (ts : List Terminal) → begins (is_symbol symbols.Dollar) ts ≡ b
@@ -276,11 +303,23 @@ module _ (opening : List Terminal → List Terminal) where
     split = refl;
     shown = is;
     known = (number_spelled, tt);
-    holds = signed (symbol symbols.Minus ∷ number 0 ∷ []) (symbol symbols.Minus ∷ [], number 0 ∷ [], refl, symbol_itself symbols.Minus,
-        (number 0, refl, refl));
+    holds = signed (symbol symbols.Minus ∷ number 0 ∷ []) (
+      symbol symbols.Minus ∷ [],
+      number 0 ∷ [],
+      refl,
+      symbol_itself symbols.Minus,
+      (number 0, refl, refl),
+    );
   }
-  missing_ahead false ts is = record { start = []; more = some_literal.0; split = refl; shown = tt; known = some_literal.2; holds =
-      some_literal.1 }
+  missing_ahead false ts is = record {
+    start = [];
+    more = some_literal.0;
+    split = refl;
+    shown = tt;
+    known = some_literal.2;
+    holds =
+        some_literal.1;
+  }
 
   plain_ahead : (o : Option ℕ) (p : Option (List ℕ)) (ts : List Terminal) (w : Wrong) (left : List Terminal)
       → plain_by o p ts ≡ Err (w, left) → AheadOf opening (Something Literal) ts w left
@@ -299,17 +338,17 @@ module _ (opening : List Terminal → List Terminal) where
       ⊎_elim (λ h. absurd (cc h.1)) (λ r3.
       ⊎_elim (λ h. absurd (cc h.1)) (λ r4. plain_ahead (front as_number ts) (front as_quoted ts) ts w left r4.1)
       (chosen (begins (is_keyword word.Null) ts) _ _ _ r3.1)) (chosen (begins (is_keyword word.False) ts) _ _ _ r2.1))
-          (chosen (begins (is_keyword word.True) ts) _ _ _ r1.1)) (chosen (begins (is_symbol symbols.Minus) ts) _ _ _ read)
+      (chosen (begins (is_keyword word.True) ts) _ _ _ r1.1)) (chosen (begins (is_symbol symbols.Minus) ts) _ _ _ read)
 
   operand_ahead_by : (alias : Option (List ℕ)) (o : Option (List ℕ)) (ts : List Terminal) (w : Wrong) (left : List Terminal)
       → o ≡ front as_name ts → operand_by alias o ts ≡ Err (w, left) → AheadOf opening (Something (IsOperand alias)) ts w left
   operand_ahead_by alias (Some v) [] w left is read = absurd (cc)
   operand_ahead_by alias (Some v) (t ∷ ts) w left is read =
       goes_on opening (Something (Field alias)) _ (t ∷ ts) w left (λ l s. (operand.Field s.0, s.1))
-          (named_ahead alias t v ts w left (sym is) (not_made operand.Field (field_of_name alias v ts) (w, left) read))
+      (named_ahead alias t v ts w left (sym is) (not_made operand.Field (field_of_name alias v ts) (w, left) read))
   operand_ahead_by alias None ts w left is read =
       goes_on opening (Something Literal) _ ts w left (λ l s. (operand.Literal s.0, s.1))
-          (literal_ahead ts w left (not_made operand.Literal (literal_at ts) (w, left) read))
+      (literal_ahead ts w left (not_made operand.Literal (literal_at ts) (w, left) read))
 
   pub operand_ahead : (alias : Option (List ℕ)) → Goes opening (IsOperand alias) (operand_at alias)
   operand_ahead alias ts w left read = operand_ahead_by alias _ ts w left refl read
@@ -327,9 +366,11 @@ module _ {A : Type 0} (opening : List Terminal → List Terminal) (separator : T
   longer_by first sep row x (y ∷ ys) spelled one others = (first, sep ++ row, refl, spelled, (sep, row, refl, one, others))
 
   longer : (l : List Terminal) → (One separator then Something (Row separator Spells)) l → Longer l
-  longer l s first x spelled = (x ∷ s.4.0,
-      subst (λ (k : List Terminal). Row separator Spells (x ∷ s.4.0) (first ++ k)) (sym s.2)
-      (longer_by first s.0 s.1 x s.4.0 spelled s.3 s.4.1))
+  longer l s first x spelled = (
+    x ∷ s.4.0,
+    subst (λ (k : List Terminal). Row separator Spells (x ∷ s.4.0) (first ++ k)) (sym s.2)
+        (longer_by first s.0 s.1 x s.4.0 spelled s.3 s.4.1),
+  )
 
   -- an item and what makes a row of it
   row_of : (x : A) (l : List Terminal) → (Spells x then Longer) l → Something (Row separator Spells) l
@@ -344,14 +385,14 @@ module _ {A : Type 0} (opening : List Terminal → List Terminal) (separator : T
       let others : AheadOf opening (Something (Row separator Spells)) (rest ts) w left =
       ⊎_elim
       (λ i. goes_on opening (Something Spells) (Something (Row separator Spells)) (rest ts) w left (λ l s. (s.0 ∷ [], s.1))
-          (goes (rest ts) w left i))
+      (goes (rest ts) w left i))
       (λ i.
       let later = more_ahead turns i.1 w left (not_made (λ xs. i.0 ∷ xs) (more_at separator item turns i.1) (w, left) i.3) in
       goes_on opening (Spells i.0 then Longer) (Something (Row separator Spells)) (rest ts) w left (row_of i.0)
-          (behind opening (Spells i.0) Longer (rest ts) i.1 w left (sound (rest ts) i.0 i.1 i.2) later))
+      (behind opening (Spells i.0) Longer (rest ts) i.1 w left (sound (rest ts) i.0 i.1 i.2) later))
       (stopped (item (rest ts)) _ (w, left) h.1) in
       goes_on opening (One separator then Something (Row separator Spells)) Longer ts w left longer
-          (behind opening (One separator) (Something (Row separator Spells)) ts (rest ts) w left (one_begins separator ts h.0) others))
+      (behind opening (One separator) (Something (Row separator Spells)) ts (rest ts) w left (one_begins separator ts h.0) others))
       (λ h. absurd (cc h.1))
       (chosen (begins separator ts) _ _ _ read)
 
@@ -362,5 +403,5 @@ module _ {A : Type 0} (opening : List Terminal → List Terminal) (separator : T
       (λ i.
       let later = more_ahead (length i.1) i.1 w left (not_made (λ xs. i.0 ∷ xs) (more_at separator item (length i.1) i.1) (w, left) i.3) in
       goes_on opening (Spells i.0 then Longer) (Something (Row separator Spells)) ts w left (row_of i.0)
-          (behind opening (Spells i.0) Longer ts i.1 w left (sound ts i.0 i.1 i.2) later))
+      (behind opening (Spells i.0) Longer ts i.1 w left (sound ts i.0 i.1 i.2) later))
       (stopped (item ts) _ (w, left) read)

@@ -57,7 +57,7 @@ FitsIn bare Spells start left (NotACq part.Bind) = GoesOn OfTokens (Spells most_
     × (begins (is_symbol symbols.Dollar) left ≡ true)
 FitsIn bare Spells start left (NotACq part.Escape) =
     GoesOn OfTokens (Spells most_depth) start (quoted [] ∷ [])
-        × ((pattern : List ℕ) × (behind : List Terminal) × (left ≡ quoted pattern ∷ behind) × (has_backslash pattern ≡ true))
+    × ((pattern : List ℕ) × (behind : List Terminal) × (left ≡ quoted pattern ∷ behind) × (has_backslash pattern ≡ true))
 FitsIn bare Spells start left (NotACq part.Import) = ⊥
 FitsIn bare Spells start left (NotACq part.Distinct) = ⊥
 FitsIn bare Spells start left (NotACq part.Projection) = ⊥
@@ -74,11 +74,11 @@ pub record Halts {A : Type 0} (bare : A → Type 0) (Spells : ℕ → A → List
 module _ {A B : Type 0} (bare : A → Type 0) (bare' : B → Type 0) (P : List Terminal → Type 0) (Inner : ℕ → A → List Terminal
     → Type 0) (Outer : ℕ → B → List Terminal → Type 0)
     (make : A → B) (bares : (a : A) → bare a → bare' (make a)) (joins : (depth : ℕ) (a : A) (before l : List Terminal) → P before
-        → Inner depth a l → Outer depth (make a) (before ++ l)) where
+    → Inner depth a l → Outer depth (make a) (before ++ l)) where
   goes_behind : (Allows : A → List Terminal → Type 0) (Allows' : B → List Terminal → Type 0)
       → ((a : A) (more : List Terminal) → Allows a more → Allows' (make a) more)
       → (depth : ℕ) (before start next : List Terminal) → P before → GoesOn Allows (Inner depth) start next
-          → GoesOn Allows' (Outer depth) (before ++ start) next
+      → GoesOn Allows' (Outer depth) (before ++ start) next
   goes_behind Allows Allows' allows depth before start next holds g = record {
     value = make g.value;
     more = g.more;
@@ -92,9 +92,10 @@ module _ {A B : Type 0} (bare : A → Type 0) (bare' : B → Type 0) (P : List T
   fits_behind before start left Expected holds fits = tt
   fits_behind before start left TooDeep holds fits =
       (fits.0, fits.1, fits.2, goes_behind OfTokens OfTokens (λ a more is. is) (suc most_depth) before start (fits.0 ∷ []) holds fits.3)
-  fits_behind before start left (NotACq part.Join) holds fits =
-      (goes_behind (NothingBare bare) (NothingBare bare') (λ a more is. (is.0, bares a is.1)) most_depth before start [] holds fits.0,
-      fits.1)
+  fits_behind before start left (NotACq part.Join) holds fits = (
+    goes_behind (NothingBare bare) (NothingBare bare') (λ a more is. (is.0, bares a is.1)) most_depth before start [] holds fits.0,
+    fits.1,
+  )
   fits_behind before start left (NotACq part.Tail) holds fits =
       (goes_behind Nothing Nothing (λ a more is. is) most_depth before start [] holds fits.0, fits.1)
   fits_behind before start left (NotACq part.Bind) holds fits =
@@ -174,15 +175,23 @@ one_level alias (t ∷ ts) opens = by_sort (is_keyword word.Not t) refl
             nulls ++ symbol symbols.RightBracket ∷ [],
             refl,
             (t, is ∙ opened, refl),
-            (nulls, symbol symbols.RightBracket ∷ [], refl,
-                (all_of ∷ [], refl, (test nulls_test ∷ [], refl, (nulls_test, refl, nulls_are alias))),
-                (symbol symbols.RightBracket, refl, refl)),
+            (
+              nulls,
+              symbol symbols.RightBracket ∷ [],
+              refl,
+              (all_of ∷ [], refl, (test nulls_test ∷ [], refl, (nulls_test, refl, nulls_are alias))),
+              (symbol symbols.RightBracket, refl, refl),
+            ),
           )),
         )
 
     by_sort : (b : Bool) → is_keyword word.Not t ≡ b → (c : Tree) × (more : List Terminal) × AreSpelled more × IsPart alias 1 c (t ∷ more)
-    by_sort true is = (negation (test nulls_test), nulls, nulls_spelled,
-        inr (inl (test nulls_test, refl, (t ∷ [], nulls, refl, (t, is, refl), (nulls_test, refl, nulls_are alias)))))
+    by_sort true is = (
+      negation (test nulls_test),
+      nulls,
+      nulls_spelled,
+      inr (inl (test nulls_test, refl, (t ∷ [], nulls, refl, (t, is, refl), (nulls_test, refl, nulls_are alias)))),
+    )
     by_sort false is = in_brackets (is_symbol symbols.LeftBracket t) refl
         (subst (λ (b : Bool). (b || is_symbol symbols.LeftBracket t) ≡ true) is opens)
 
@@ -245,9 +254,19 @@ module _ (alias : Option (List ℕ)) (known : IsSpelledAlias alias) where
       → Halts none_bare (Conditions alias) ts w left
   condition_halts ts w left read =
       let a = condition_ahead 0 (λ _. []) no_level alias known most_depth ts w left read in
-      record { start = a.start; split = a.split; begun =
-          record { value = a.value; more = _; allowed = both_spelled (due (λ _. []) w left) a.more (due_spelled w left) a.known; spelled =
-          a.holds }; fits = condition_fits ts w left read a }
+      record {
+        start = a.start;
+        split = a.split;
+        begun =
+            record {
+              value = a.value;
+              more = _;
+              allowed = both_spelled (due (λ _. []) w left) a.more (due_spelled w left) a.known;
+              spelled =
+                  a.holds;
+            };
+        fits = condition_fits ts w left read a;
+      }
 
 -- the end of a query
 module _ {A : Type 0} (bare : A → Type 0) (Spells : ℕ → A → List Terminal → Type 0) (a : A) where
@@ -280,8 +299,13 @@ module _ {A : Type 0} (bare : A → Type 0) (Spells : ℕ → A → List Termina
   join_halts ts middle w left f is_bare comma read =
       let is = stop_is read in
       subst (λ (l : List Terminal). Halts bare Spells ts w l) is.1 (subst (λ (u : Wrong). Halts bare Spells ts u middle) is.0
-      (record { start = f.spelled; split = f.split; begun = read_whole OfTokens tt f.spelled f.holds; fits =
-          (read_whole (NothingBare bare) (refl, is_bare) f.spelled f.holds, comma) }))
+      (record {
+        start = f.spelled;
+        split = f.split;
+        begun = read_whole OfTokens tt f.spelled f.holds;
+        fits =
+            (read_whole (NothingBare bare) (refl, is_bare) f.spelled f.holds, comma);
+      }))
 
 -- what stands behind the alias
 abbrev no_condition : Option Tree → Type 0
@@ -295,13 +319,13 @@ where_halts alias known ts w left read =
     let opens = one_begins (is_keyword word.Where) ts h.0 in
     ⊎_elim
     (λ first. halts_behind none_bare no_condition (One (is_keyword word.Where)) (Conditions alias) (λ depth. IsWhere depth alias)
-        (λ c. Some c) (λ c none. absurd none) (λ depth c before l p s. (before, l, refl, p, s)) ts (rest ts) w left opens
+    (λ c. Some c) (λ c none. absurd none) (λ depth c before l p s. (before, l, refl, p, s)) ts (rest ts) w left opens
     (condition_halts alias known (rest ts) w left first))
     (λ found.
     let spelled = joined (One (is_keyword word.Where)) (IsCondition most_depth alias found.0) ts (rest ts) found.1 opens
-        (condition_sound alias most_depth (rest ts) found.0 found.1 found.2) in
+    (condition_sound alias most_depth (rest ts) found.0 found.1 found.2) in
     end_halts no_condition (λ depth. IsWhere depth alias) (Some found.0) ts found.1 w left spelled
-        (not_made (λ _. Some found.0) (end_at found.1) (w, left) found.3))
+    (not_made (λ _. Some found.0) (end_at found.1) (w, left) found.3))
     (stopped (condition_at most_depth alias (rest ts)) _ (w, left) h.1))
     (λ h.
     let none : Front (IsWhere most_depth alias None) ts ts = record { spelled = []; split = refl; holds = refl } in
@@ -349,8 +373,13 @@ alias_halts ts w left read =
         value = (Some (0x78 ∷ []), None);
         more = some_name ∷ [];
         allowed = (name_spelled, tt);
-        spelled = (as_word.spelled ++ some_name ∷ [], [], sym (append-nil (as_word.spelled ++ some_name ∷ [])),
-            inr (as_word.spelled, some_name ∷ [], refl, as_word.holds, (some_name, refl, refl)), refl);
+        spelled = (
+          as_word.spelled ++ some_name ∷ [],
+          [],
+          sym (append-nil (as_word.spelled ++ some_name ∷ [])),
+          inr (as_word.spelled, some_name ∷ [], refl, as_word.holds, (some_name, refl, refl)),
+          refl,
+        );
       };
       fits = tt;
     }))
@@ -365,9 +394,9 @@ behind_halts ts w left known read =
     (λ found.
     let spelled = alias_sound ts found.0 found.1 found.2 in
     halts_behind no_condition bare_behind (IsAlias found.0) (λ depth. IsWhere depth found.0) IsBehind (λ c. (found.0, c)) (λ c none. none)
-        (λ depth c before l p s. (before, l, refl, p, s)) ts found.1 w left
+    (λ depth c before l p s. (before, l, refl, p, s)) ts found.1 w left
     spelled (where_halts found.0 (alias_spelled found.0 ts found.1 spelled known) found.1 w left
-        (not_made (λ c. (found.0, c)) (where_at most_depth found.0 found.1) (w, left) found.3)))
+    (not_made (λ c. (found.0, c)) (where_at most_depth found.0 found.1) (w, left) found.3)))
     (stopped (alias_at ts) _ (w, left) read)
 
 -- the region and all behind it
@@ -409,14 +438,14 @@ source_halts ts w left known read =
     (λ first.
     let due = region_due (front as_name ts) ts w left first in
     subst (λ (u : Wrong). Halts bare_query IsSource ts u left) due.0
-        (subst (Halts bare_query IsSource ts Expected) due.1
-        (halts_here bare_query IsSource least (some_name ∷ []) ts (name_spelled, tt) least_source)))
+    (subst (Halts bare_query IsSource ts Expected) due.1
+    (halts_here bare_query IsSource least (some_name ∷ []) ts (name_spelled, tt) least_source)))
     (λ found.
     let region = region_sound_by ts _ found.0 found.1 refl found.2 in
     halts_behind bare_behind bare_query (IsRegion found.0) IsBehind IsSource (of_region found.0) (λ b none. none)
-        (λ depth b before l p s. (before, l, refl, p, s)) ts found.1 w left
+    (λ depth b before l p s. (before, l, refl, p, s)) ts found.1 w left
     region (behind_halts found.1 w left (left_spelled (IsRegion found.0) ts found.1 region known)
-        (behind_of found.0 found.1 (w, left) found.3)))
+    (behind_of found.0 found.1 (w, left) found.3)))
     (stopped (region_at ts) _ (w, left) read)
 
 -- a terminal that is due, with all behind it

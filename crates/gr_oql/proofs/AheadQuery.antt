@@ -71,11 +71,11 @@ slash_halts : (ts : List Terminal) (w : Wrong) (left : List Terminal) → AreSpe
 slash_halts ts w left known read =
     ⊎_elim
     (λ first. one_halts (is_symbol symbols.Slash) (symbol symbols.Slash) refl IsSource (some_name ∷ []) least_source slash_known ts w left
-        (symbol_due symbols.Slash ts w left first))
+    (symbol_due symbols.Slash ts w left first))
     (λ found.
     let slash = symbol_sound symbols.Slash ts found.0 found.1 found.2 in
     inner_halts (is_symbol symbols.Slash) (symbol symbols.Slash) refl IsSource (some_name ∷ []) least_source ts found.1 w left slash
-        (source_halts found.1 w left (left_spelled _ ts found.1 slash known) found.3))
+    (source_halts found.1 w left (left_spelled _ ts found.1 slash known) found.3))
     (stopped (symbol_at symbols.Slash ts) _ (w, left) read)
 
 from_halts : (ts : List Terminal) (w : Wrong) (left : List Terminal) → AreSpelled ts
@@ -84,13 +84,13 @@ from_halts : (ts : List Terminal) (w : Wrong) (left : List Terminal) → AreSpel
 from_halts ts w left known read =
     ⊎_elim
     (λ first. one_halts (is_keyword word.From)
-        (keyword word.From (letters word.From)) refl OnSlash least_slash slash_spelled from_known ts w left
-        (keyword_due word.From ts w left first))
+    (keyword word.From (letters word.From)) refl OnSlash least_slash slash_spelled from_known ts w left
+    (keyword_due word.From ts w left first))
     (λ found.
     let from = keyword_sound word.From ts found.0 found.1 found.2 in
     inner_halts (is_keyword word.From)
-        (keyword word.From (letters word.From)) refl OnSlash least_slash slash_spelled ts found.1 w left from
-        (slash_halts found.1 w left (left_spelled _ ts found.1 from known) found.3))
+    (keyword word.From (letters word.From)) refl OnSlash least_slash slash_spelled ts found.1 w left from
+    (slash_halts found.1 w left (left_spelled _ ts found.1 from known) found.3))
     (stopped (keyword_at word.From ts) _ (w, left) read)
 
 -- Where the reader of a query stopped, what stands before begins a query, and the fault fits.
@@ -101,8 +101,12 @@ pub record Stopped (ts : List Terminal) (w : Wrong) (left : List Terminal) : Typ
   pub fits : Fits before left w
 
 start_of : (depth : ℕ) (start next : List Terminal) → GoesOn OfTokens (IsQueryWithin depth) start next → IsStart depth (start ++ next)
-start_of depth start next g = (g.value, g.more, g.allowed,
-    subst (IsQueryWithin depth g.value) (sym (append_assoc start next g.more)) g.spelled)
+start_of depth start next g = (
+  g.value,
+  g.more,
+  g.allowed,
+  subst (IsQueryWithin depth g.value) (sym (append_assoc start next g.more)) g.spelled,
+)
 
 whole_of : (start more : List Terminal) (q : Asked) → more ≡ [] → IsQueryWithin most_depth q (start ++ more)
     → IsQueryWithin most_depth q start
@@ -122,8 +126,13 @@ fits_of start left (NotACq part.Distinct) fits = absurd fits
 fits_of start left (NotACq part.Projection) fits = absurd fits
 
 stopped_of : (ts : List Terminal) (w : Wrong) (left : List Terminal) → Halts bare_query IsQueryWithin ts w left → Stopped ts w left
-stopped_of ts w left h = record { before = h.start; split = h.split; begun =
-    subst (IsStart most_depth) (append-nil h.start) (start_of most_depth h.start [] h.begun); fits = fits_of h.start left w h.fits }
+stopped_of ts w left h = record {
+  before = h.start;
+  split = h.split;
+  begun =
+      subst (IsStart most_depth) (append-nil h.start) (start_of most_depth h.start [] h.begun);
+  fits = fits_of h.start left w h.fits;
+}
 
 -- what is selected, behind SELECT
 abbrev behind_select_at : List Terminal → Reading Asked
@@ -142,11 +151,11 @@ module _ (ts : List Terminal) (select : Terminal) (is_select : is_keyword word.S
   not_selected : (w v : Wrong) (left : List Terminal) → (v ≡ w) × (ts ≡ left) → Fits (select ∷ []) ts v → Stopped (select ∷ ts) w left
   not_selected w v left due fits =
       subst (λ (l : List Terminal). Stopped (select ∷ ts) w l) due.1 (subst (λ (u : Wrong). Stopped (select ∷ ts) u ts) due.0 (record {
-    before = select ∷ [];
-    split = refl;
-    begun = (least, least_star, star_known, (select ∷ [], least_star, refl, (select, is_select, refl), star_spelled));
-    fits = fits;
-  }))
+        before = select ∷ [];
+        split = refl;
+        begun = (least, least_star, star_known, (select ∷ [], least_star, refl, (select, is_select, refl), star_spelled));
+        fits = fits;
+      }))
 
   star_stops : (w : Wrong) (left : List Terminal) → star_at ts ≡ Err (w, left) → Stopped (select ∷ ts) w left
   star_stops w left read = by_first ts refl read
@@ -162,10 +171,16 @@ module _ (ts : List Terminal) (select : Terminal) (is_select : is_keyword word.S
           (λ h. absurd (cc h.1))
           (λ r1.
           ⊎_elim
-          (λ h. let e = stop_is h.1 in not_selected w (NotACq part.Distinct) left (e.0, is
-              ∙ e.1) ((select, is_select, refl), ap (begins (is_keyword word.Distinct)) is ∙ h.0))
-          (λ h. let e = stop_is h.1 in not_selected w (NotACq part.Projection) left (e.0, is
-              ∙ e.1) ((select, is_select, refl), λ none. absurd (cc (sym is ∙ none))))
+          (λ h. let e = stop_is h.1 in not_selected w (NotACq part.Distinct) left (
+            e.0,
+            is
+                ∙ e.1,
+          ) ((select, is_select, refl), ap (begins (is_keyword word.Distinct)) is ∙ h.0))
+          (λ h. let e = stop_is h.1 in not_selected w (NotACq part.Projection) left (
+            e.0,
+            is
+                ∙ e.1,
+          ) ((select, is_select, refl), λ none. absurd (cc (sym is ∙ none))))
           (chosen (is_keyword word.Distinct t) _ _ _ r1.1))
           (chosen (is_symbol symbols.Star t) _ _ _ stops)
 
@@ -176,8 +191,8 @@ module _ (ts : List Terminal) (select : Terminal) (is_select : is_keyword word.S
       (λ found.
       let star = star_sound ts found.0 found.1 found.2 in
       in_query w left (inner_halts (is_symbol symbols.Star)
-          (symbol symbols.Star) refl OnFrom least_from from_spelled ts found.1 w left star
-          (from_halts found.1 w left (left_spelled _ ts found.1 star known) found.3)))
+      (symbol symbols.Star) refl OnFrom least_from from_spelled ts found.1 w left star
+      (from_halts found.1 w left (left_spelled _ ts found.1 star known) found.3)))
       (stopped (star_at ts) _ (w, left) read)
 
 -- what stands at the very front

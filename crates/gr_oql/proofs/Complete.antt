@@ -40,9 +40,16 @@ has_of part x ts left f = (f.holds.0, f.holds.1, f.split ∙ ap (λ (l : List Te
 pub parts_of : (P Q : List Terminal → Type 0) (ts left : List Terminal) → Front (P then Q) ts left → (middle : List Terminal)
     × Front P ts middle × Front Q middle left
 parts_of P Q ts left f =
-    let h = f.holds in
-    (h.1 ++ left, record { spelled = h.0; split = f.split ∙ ap (λ (l : List Terminal). l ++ left) h.2 ∙ append_assoc h.0 h.1 left; holds =
-        h.3 }, record { spelled = h.1; split = refl; holds = h.4 })
+    let h = f.holds in (
+      h.1 ++ left,
+      record {
+        spelled = h.0;
+        split = f.split ∙ ap (λ (l : List Terminal). l ++ left) h.2 ∙ append_assoc h.0 h.1 left;
+        holds =
+            h.3;
+      },
+      record { spelled = h.1; split = refl; holds = h.4 },
+    )
 
 -- What a terminal is, it alone is.
 pub name_no_symbol : (s : Symbol) (t : Terminal) (w : List ℕ) → as_name t ≡ Some w → is_symbol s t ≡ false
@@ -127,7 +134,7 @@ keyword_complete k ts left f = let h = first_of (is_keyword k) ts left f in rw (
 -- fields, literals and operands
 pub field_of_name_complete : (alias : Option (List ℕ)) (f : List ℕ) (ts left : List Terminal) → Front (Field alias f) ts left
     → (t : Terminal) × (w : List ℕ) × (more : List Terminal) × (ts ≡ t ∷ more) × (as_name t ≡ Some w)
-        × (field_of_name alias w more ≡ Ok (f, left))
+    × (field_of_name alias w more ≡ Ok (f, left))
 field_of_name_complete alias f ts left found = by_case found.holds
   where
     by_case : Field alias f found.spelled → (t : Terminal) × (w : List ℕ) × (more : List Terminal) × (ts ≡ t ∷ more) × (as_name t ≡ Some w)
@@ -137,7 +144,7 @@ field_of_name_complete alias f ts left found = by_case found.holds
         (name.0, f, left, name.2, name.1, rw h.0 refl)
     by_case (inr h) =
         let dotted = parts_of (Is as_name h.0) (One (is_symbol symbols.Dot) then Is as_word f) ts left
-            (record { spelled = found.spelled; split = found.split; holds = h.2 }) in
+        (record { spelled = found.spelled; split = found.split; holds = h.2 }) in
         let name = has_of as_name h.0 ts dotted.0 dotted.1 in
         let member = parts_of (One (is_symbol symbols.Dot)) (Is as_word f) dotted.0 left dotted.2 in
         let dot = symbol_complete symbols.Dot dotted.0 member.0 member.1 in
@@ -152,8 +159,13 @@ field_complete alias ts f left always found =
 pub literal_complete : Complete Always Literal literal_at
 literal_complete ts scalar.Null left always f =
     let h = first_of (is_keyword word.Null) ts left f in
-    rw (h.2, keyword_no_symbol word.Null symbols.Minus h.0 h.1, keyword_other word.Null word.True h.0 refl h.1,
-        keyword_other word.Null word.False h.0 refl h.1, h.1) refl
+    rw (
+      h.2,
+      keyword_no_symbol word.Null symbols.Minus h.0 h.1,
+      keyword_other word.Null word.True h.0 refl h.1,
+      keyword_other word.Null word.False h.0 refl h.1,
+      h.1,
+    ) refl
 literal_complete ts (scalar.Bool true) left always f =
     let h = first_of (is_keyword word.True) ts left f in
     rw (h.2, keyword_no_symbol word.True symbols.Minus h.0 h.1, h.1) refl
@@ -171,7 +183,7 @@ literal_complete ts (scalar.Int z) left always f = by_case f.holds
         rw (one.2, number_is one.0 h.0 one.1, lt-ltb h.0 greatest_number h.1, h.2) refl
     by_case (inr h) =
         let signed = parts_of (One (is_symbol symbols.Minus)) (Is as_number h.0) ts left
-            (record { spelled = f.spelled; split = f.split; holds = h.3 }) in
+        (record { spelled = f.spelled; split = f.split; holds = h.3 }) in
         let sign = first_of (is_symbol symbols.Minus) ts signed.0 signed.1 in
         let one = has_of as_number h.0 signed.0 left signed.2 in
         rw (sign.2, sign.1, one.2, one.1, le-leb h.0 greatest_number h.1, h.2) refl
@@ -192,7 +204,7 @@ literal_no_name ts (scalar.Int z) left f = by_case f.holds
         rw (one.2, number_is one.0 h.0 one.1) refl
     by_case (inr h) =
         let signed = parts_of (One (is_symbol symbols.Minus)) (Is as_number h.0) ts left
-            (record { spelled = f.spelled; split = f.split; holds = h.3 }) in
+        (record { spelled = f.spelled; split = f.split; holds = h.3 }) in
         let sign = first_of (is_symbol symbols.Minus) ts signed.0 signed.1 in
         rw sign.2 (symbol_no_name symbols.Minus sign.0 sign.1)
 
@@ -236,7 +248,7 @@ module _ {A : Type 0} (separator : Terminal → Bool) (item : List Terminal → 
       let sep = first_of separator row.0 next.0 next.1 in
       let read = complete parts.0 y row.0 (subst Allows (sym sep.2) (goes_on sep.0 next.0 sep.1)) row.1 in
       let later = more_complete zs z turns row.0 left
-          (omega (arith, ap length h.2, shorter (Spells y) parts.0 row.0 row.1)) ends allows row.2 in
+      (omega (arith, ap length h.2, shorter (Spells y) parts.0 row.0 row.1)) ends allows row.2 in
       rw (h.2, h.1, read, later) refl
 
   pub row_complete : (ts : List Terminal) (xs : List A) (left : List Terminal) → begins separator left ≡ false → Allows left

@@ -17,7 +17,7 @@ same key = (bytes_eq-Decides key key).1 refl
 
 there : (before after : Bool) (base : BaseOp) (key : List ℕ) (old new : Option (List Field)) (present : Present)
     → present key ≡ (if before then old else None)
-        → with_told (event_by before after base key new) present key ≡ (if after then new else None)
+    → with_told (event_by before after base key new) present key ≡ (if after then new else None)
 there false false base key old new present stood = stood
 there false true base key old new present stood = rw (same key) refl
 there true false base key old new present stood = rw (same key) refl

@@ -69,7 +69,7 @@ module _ (text : List ℕ) (lexed : Result (List Token) LexFault) (result : Resu
       ⊎_elim
       (λ same. answers_known result _ answer answers (ap (answer_of_tokens text) same ∙ is))
       (λ none. inr (no_lexed_memory result
-          (subst (λ (l : Result (List Token) LexFault). Answers result (answer_of_tokens text l)) none answers)))
+      (subst (λ (l : Result (List Token) LexFault). Answers result (answer_of_tokens text l)) none answers)))
       lexes
 
   -- what is spelled so is read
@@ -78,7 +78,7 @@ module _ (text : List ℕ) (lexed : Result (List Token) LexFault) (result : Resu
   only lexes q is =
       let read = query_complete most_depth (terminals_of text is.0) q.asked is.3 in
       let there : answer text is.0 (query_at (terminals_of text is.0)) ≡ Ok q =
-          rw read (ap (λ (l : List ℕ). Ok (record { text = l; asked = q.asked })) (sym is.2)) in
+      rw read (ap (λ (l : List ℕ). Ok (record { text = l; asked = q.asked })) (sym is.2)) in
       known (Ok is.0) (Ok q) there (lexes is.0 is.1)
 
   -- a text with such a fault has that answer

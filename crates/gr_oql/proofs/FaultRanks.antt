@@ -117,15 +117,19 @@ module _ (before left : List Terminal) (w : Wrong) (read : query_at (before ++ l
         by_left (t ∷ more) is stops =
             let no_star = keyword_no_symbol word.Distinct symbols.Star t is in
             let stop_there : query_at (s ∷ t ∷ more) ≡ Err (NotACq part.Distinct, t ∷ more) = rw (no_import, is_select, no_star, is) refl
-                in
+            in
             wrong_is (sym stop_there ∙ stops)
 
     projection_first : (left ≡ [] → ⊥) → rank w ≤ 2
     projection_first some = by_left left refl
       where
         star_start : (t : Terminal) → is_symbol symbols.Star t ≡ true → IsStart most_depth (before ++ t ∷ [])
-        star_start t star = subst (λ (l : List Terminal). IsStart most_depth (l ++ t ∷ [])) (sym one) (least, least_from, from_known,
-            (s ∷ [], t ∷ least_from, refl, (s, is_select, refl), (t ∷ [], least_from, refl, (t, star, refl), from_spelled)))
+        star_start t star = subst (λ (l : List Terminal). IsStart most_depth (l ++ t ∷ [])) (sym one) (
+          least,
+          least_from,
+          from_known,
+          (s ∷ [], t ∷ least_from, refl, (s, is_select, refl), (t ∷ [], least_from, refl, (t, star, refl), from_spelled)),
+        )
 
         by_left : (l : List Terminal) → left ≡ l → rank w ≤ 2
         by_left [] none = absurd (some none)
@@ -139,11 +143,11 @@ module _ (before left : List Terminal) (w : Wrong) (read : query_at (before ++ l
                 (subst (λ (l : List Terminal). IsOver before l) is (over before left w read) (star_start t star))
             by_star false true no_star distinct =
                 let stop_there : query_at (s ∷ t ∷ more) ≡ Err (NotACq part.Distinct, t ∷ more) =
-                    rw (no_import, is_select, no_star, distinct) refl in
+                rw (no_import, is_select, no_star, distinct) refl in
                 subst (λ (u : Wrong). rank u ≤ 2) (wrong_is (sym stop_there ∙ stops)) (omega arith)
             by_star false false no_star no_distinct =
                 let stop_there : query_at (s ∷ t ∷ more) ≡ Err (NotACq part.Projection, t ∷ more) =
-                    rw (no_import, is_select, no_star, no_distinct) refl in
+                rw (no_import, is_select, no_star, no_distinct) refl in
                 subst (λ (u : Wrong). rank u ≤ 2) (wrong_is (sym stop_there ∙ stops)) (omega arith)
 
 -- a number that isn't above another
@@ -155,21 +159,21 @@ module _ (before : List Terminal) (t : Terminal) (m : List Terminal) (w : Wrong)
   bind_first : is_symbol symbols.Dollar t ≡ true → IsStart most_depth (before ++ symbol symbols.Minus ∷ []) → rank w ≤ 5
   bind_first dollar start = unless (rank w) 5 (λ above.
       no_start t (symbol symbols.Minus) m (λ u. u ≡ NotACq part.Bind
-          → ⊥) 0 (λ m'. no_dollar t m m' dollar) (sym (symbol_no_keyword symbols.Dollar word.Import t dollar)) before w
-          (λ same. omega (arith, above, ap rank same)) read start)
+      → ⊥) 0 (λ m'. no_dollar t m m' dollar) (sym (symbol_no_keyword symbols.Dollar word.Import t dollar)) before w
+      (λ same. omega (arith, above, ap rank same)) read start)
 
   escape_first : (pattern : List ℕ) → t ≡ quoted pattern → has_backslash pattern ≡ true → IsStart most_depth (before ++ quoted [] ∷ [])
       → rank w ≤ 6
   escape_first pattern quotes escaped start = unless (rank w) 6 (λ above.
       no_start (quoted pattern) (quoted []) m (λ u. u ≡ NotACq part.Escape
-          → ⊥) 0 (λ m'. no_escape pattern m m' escaped) refl before w (λ same. omega (arith, above, ap rank same))
-          (subst (λ (u : Terminal). query_at (before ++ u ∷ m) ≡ Err (w, u ∷ m)) quotes read) start)
+      → ⊥) 0 (λ m'. no_escape pattern m m' escaped) refl before w (λ same. omega (arith, above, ap rank same))
+      (subst (λ (u : Terminal). query_at (before ++ u ∷ m) ≡ Err (w, u ∷ m)) quotes read) start)
 
   deep_first : IsStart (suc most_depth) (before ++ t ∷ []) → rank w ≤ 7
   deep_first start = unless (rank w) 7 (λ above.
       no_start t t m (λ u. u ≡ TooDeep
-          → ⊥) 1 (itself_alike t m (λ u. u ≡ TooDeep → ⊥) 1 (λ alias m' ordinary opens. absurd (ordinary refl))) refl before w
-          (λ same. omega (arith, above, ap rank same)) read start)
+      → ⊥) 1 (itself_alike t m (λ u. u ≡ TooDeep → ⊥) 1 (λ alias m' ordinary opens. absurd (ordinary refl))) refl before w
+      (λ same. omega (arith, above, ap rank same)) read start)
 
 -- each fault that fits comes no earlier than the one with which the reader stopped
 first : (before left : List Terminal) (w : Wrong) → query_at (before ++ left) ≡ Err (w, left) → (other : Wrong) → Fits before left other
@@ -191,7 +195,7 @@ first before [] w read (NotACq part.Bind) fits = absurd (cc fits.1)
 first before (t ∷ m) w read (NotACq part.Bind) fits = bind_first before t m w read fits.1 fits.0
 first before left w read (NotACq part.Escape) fits =
     escape_first before (quoted fits.1.0) fits.1.1 w
-        (subst (λ (l : List Terminal). query_at (before ++ l) ≡ Err (w, l)) fits.1.2 read) fits.1.0 refl fits.1.3 fits.0
+    (subst (λ (l : List Terminal). query_at (before ++ l) ≡ Err (w, l)) fits.1.2 read) fits.1.0 refl fits.1.3 fits.0
 
 -- Where the reader of a query stops, the terminals cease to begin a query, for that fault.
 pub query_ceases : (ts : List Terminal) (w : Wrong) (left : List Terminal) → AreSpelled ts → query_at ts ≡ Err (w, left)

@@ -27,9 +27,14 @@ tokens_split text tokens [] left is = ([], tokens, refl, refl, is)
 tokens_split text [] (b ∷ before) left is = absurd (cc)
 tokens_split text (t ∷ tokens) (b ∷ before) left is =
     let h = tokens_split text tokens before left (ap rest is) in
-    let first : terminal_of text t ≡ b = cc in
-    (t ∷ h.0, h.1, ap (λ (l : List Token). t ∷ l) h.2, ap (λ (x : Terminal). x ∷ terminals_of text h.0) first
-        ∙ ap (λ (l : List Terminal). b ∷ l) h.3, h.4)
+    let first : terminal_of text t ≡ b = cc in (
+      t ∷ h.0,
+      h.1,
+      ap (λ (l : List Token). t ∷ l) h.2,
+      ap (λ (x : Terminal). x ∷ terminals_of text h.0) first
+          ∙ ap (λ (l : List Terminal). b ∷ l) h.3,
+      h.4,
+    )
 
 -- the fault at the tokens that are left
 fault_at_left : (text : List ℕ) (before left : List Token) (w : Wrong)
@@ -54,7 +59,7 @@ answered text tokens (Err e) f laid is read =
     let behind_is = parts.4 in
     let ceases : Ceases (terminals_of text parts.0) (terminals_of text parts.1) e.0 = rw (front_is, behind_is) stops.2 in
     let found : fault_of text tokens e.0 e.1 ≡ fault_at text parts.1 e.0 = ap (λ (l : List Token). fault_of text l e.0 e.1) parts.2
-        ∙ ap (fault_of text (parts.0 ++ parts.1) e.0) (sym behind_is) ∙ fault_at_left text parts.0 parts.1 e.0 in
+    ∙ ap (fault_of text (parts.0 ++ parts.1) e.0) (sym behind_is) ∙ fault_at_left text parts.0 parts.1 e.0 in
     let given : fault_of text tokens e.0 e.1 ≡ f = cc in
     inr (parts.0, parts.1, e.0, subst (IsLaidOut text 0) parts.2 laid, ceases, sym given ∙ found)
 
@@ -66,9 +71,9 @@ start_before before left known start =
 -- one of two lists stands at the front of the other
 split_twice : (before left before' left' : List Terminal) → before ++ left ≡ before' ++ left'
     → ((before ≡ before') × (left ≡ left'))
-        ⊎ ((t : Terminal) × (more : List Terminal)
-        × (((before' ≡ before ++ t ∷ more) × (left ≡ t ∷ (more ++ left')))
-        ⊎ ((before ≡ before' ++ t ∷ more) × (left' ≡ t ∷ (more ++ left)))))
+    ⊎ ((t : Terminal) × (more : List Terminal)
+    × (((before' ≡ before ++ t ∷ more) × (left ≡ t ∷ (more ++ left')))
+    ⊎ ((before ≡ before' ++ t ∷ more) × (left' ≡ t ∷ (more ++ left)))))
 split_twice [] left [] left' same = inl (refl, same)
 split_twice [] left (t ∷ before') left' same = inr (t, before', inl (refl, same))
 split_twice (t ∷ before) left [] left' same = inr (t, before, inr (refl, sym same))
@@ -82,9 +87,9 @@ split_twice (s ∷ before) left (t ∷ before') left' same = by_rest (split_twic
         × (((before' ≡ before ++ u ∷ more) × (left ≡ u ∷ (more ++ left')))
         ⊎ ((before ≡ before' ++ u ∷ more) × (left' ≡ u ∷ (more ++ left)))))
         → ((s ∷ before ≡ t ∷ before') × (left ≡ left'))
-            ⊎ ((u : Terminal) × (more : List Terminal)
-            × (((t ∷ before' ≡ s ∷ before ++ u ∷ more) × (left ≡ u ∷ (more ++ left')))
-            ⊎ ((s ∷ before ≡ t ∷ before' ++ u ∷ more) × (left' ≡ u ∷ (more ++ left)))))
+        ⊎ ((u : Terminal) × (more : List Terminal)
+        × (((t ∷ before' ≡ s ∷ before ++ u ∷ more) × (left ≡ u ∷ (more ++ left')))
+        ⊎ ((s ∷ before ≡ t ∷ before' ++ u ∷ more) × (left' ≡ u ∷ (more ++ left)))))
     by_rest (inl h) = inl (ap (λ (l : List Terminal). s ∷ l) h.0 ∙ ap (λ (x : Terminal). x ∷ before') first, h.1)
     by_rest (inr (u, more, inl h)) =
         inr (u, more, inl (ap (λ (l : List Terminal). t ∷ l) h.0 ∙ ap (λ (x : Terminal). x ∷ (before ++ u ∷ more)) (sym first), h.1))
@@ -96,8 +101,8 @@ not_over : (before left longer : List Terminal) (t : Terminal) (more behind : Li
     ++ t ∷ more → left ≡ t ∷ behind → IsStart most_depth longer → IsOver before left → ⊥
 not_over before left longer t more behind known longer_is left_is start over =
     subst (IsOver before) left_is over
-        (start_before (before ++ t ∷ []) more known
-        (subst (IsStart most_depth) (longer_is ∙ sym (append_assoc before (t ∷ []) more)) start))
+    (start_before (before ++ t ∷ []) more known
+    (subst (IsStart most_depth) (longer_is ∙ sym (append_assoc before (t ∷ []) more)) start))
 
 -- what two places have between them
 inner_spelled : (before left : List Terminal) (t : Terminal) (more behind : List Terminal) → left ≡ t ∷ (more ++ behind)
@@ -162,18 +167,18 @@ module _ (text : List ℕ) (before left : List Token) (w : Wrong) (laid : IsLaid
   stops_there (Ok x) is =
       let sound = query_sound most_depth (terminals_of text (before ++ left)) x.0 x.1 is in
       absurd (no_query (terminals_of text before) (terminals_of text left) w x.0 (subst AreSpelled parted known) ceases
-          (subst (IsQuery x.0) parted sound.1))
+      (subst (IsQuery x.0) parted sound.1))
   stops_there (Err e) is =
       let stops = query_ceases (terminals_of text (before ++ left)) e.0 e.1 known is in
       let place = one_place (terminals_of text before) (terminals_of text left) stops.0 e.1 w e.0 (subst AreSpelled parted known)
-          (sym parted ∙ stops.1) ceases stops.2 in
+      (sym parted ∙ stops.1) ceases stops.2 in
       let here : Ceases (terminals_of text before) (terminals_of text left) e.0 =
-          subst (λ (l : List Terminal). Ceases (terminals_of text before) l e.0) (sym place.1)
-          (subst (λ (l : List Terminal). Ceases l e.1 e.0) (sym place.0) stops.2) in
+      subst (λ (l : List Terminal). Ceases (terminals_of text before) l e.0) (sym place.1)
+      (subst (λ (l : List Terminal). Ceases l e.1 e.0) (sym place.0) stops.2) in
       let same : e.0 ≡ w = one_wrong (terminals_of text before) (terminals_of text left) e.0 w here ceases in
       ap (λ (l : List Terminal). Err (fault_of text (before ++ left) e.0 l)) (sym place.1)
-          ∙ ap (λ (v : Wrong). Err (fault_of text (before ++ left) v (terminals_of text left))) same
-          ∙ ap (λ (f : OqlFault). Err f) (fault_at_left text before left w)
+      ∙ ap (λ (v : Wrong). Err (fault_of text (before ++ left) v (terminals_of text left))) same
+      ∙ ap (λ (f : OqlFault). Err f) (fault_at_left text before left w)
 
 -- Where tokens cease to begin a query, that fault is answered.
 pub fault_there : (text : List ℕ) (f : OqlFault) (h : (before : List Token) × (left : List Token) × (w : Wrong)

@@ -26,7 +26,7 @@ not_both (Err d) x e reads stops = absurd (cc)
 pub no_start : (t t' : Terminal) (m : List Terminal) (Ordinary : Wrong → Type 0) (bottom : ℕ)
     → ((m' : List Terminal) → Alike t t' m m' Ordinary bottom) → is_keyword word.Import t' ≡ is_keyword word.Import t
     → (before : List Terminal) (w : Wrong) → Ordinary w → query_at (before ++ t ∷ m) ≡ Err (w, t ∷ m)
-        → IsStart (raised bottom most_depth) (before ++ t' ∷ []) → ⊥
+    → IsStart (raised bottom most_depth) (before ++ t' ∷ []) → ⊥
 no_start t t' m Ordinary bottom alike imports before w ordinary read start =
     let m' = start.1 in
     let stays = query_stays (alike m') imports most_depth in
@@ -82,8 +82,8 @@ module _ (t : Terminal) (m m' : List Terminal) (w : Wrong) where
 
 pub itself_alike : (t : Terminal) (m : List Terminal) (Ordinary : Wrong → Type 0) (bottom : ℕ)
     → ((alias : Option (List ℕ)) (m' : List Terminal) → Ordinary TooDeep
-        → (is_keyword word.Not t || is_symbol symbols.LeftBracket t) ≡ true → (w' : Wrong)
-        × (part_at alias bottom (t ∷ m') ≡ Err (w', t ∷ m')))
+    → (is_keyword word.Not t || is_symbol symbols.LeftBracket t) ≡ true → (w' : Wrong)
+    × (part_at alias bottom (t ∷ m') ≡ Err (w', t ∷ m')))
     → (m' : List Terminal) → Alike t t m m' Ordinary bottom
 itself_alike t m Ordinary bottom deep m' = record {
   no_symbol = λ s other none. none;

@@ -41,7 +41,7 @@ token_named (kind.Symbol s) bytes is = tt
 pub tokens_named : (text : List ℕ) (tokens : List Token) → All (IsToken text) tokens → AreNamed (terminals_of text tokens)
 tokens_named text tokens are =
     All-map (λ (t : Terminal). IfSome (as_name t) HasWordBytes) (terminal_of text) tokens
-        (λ k d below. token_named _ _ (are k d below).of_kind)
+    (λ k d below. token_named _ _ (are k d below).of_kind)
 
 behind_first : (lexemes : List Lexeme) → AreNamed (terminals lexemes) → AreNamed (terminals (drop 1 lexemes))
 behind_first [] are = are

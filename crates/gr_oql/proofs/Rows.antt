@@ -65,7 +65,7 @@ module _ {A : Type 0} (separator : Terminal → Bool) (item : List Terminal → 
         same = same ∙ ap (read_as (λ more. found ++ more)) (more_after turns left after x goes_on read)
             ∙ read_as_twice (λ xs. x ∷ xs) (λ more. found ++ more) (more_at separator item turns after)
             ∙ read_as_same (λ xs. found ++ x ∷ xs) (λ more. longer ++ more) (λ xs. sym (append_assoc found (x ∷ []) xs)
-                ∙ ap (λ (l : List A). l ++ xs) (sym is)) (more_at separator item turns after);
+            ∙ ap (λ (l : List A). l ++ xs) (sym is)) (more_at separator item turns after);
       }
 
   no_more : (turns : ℕ) (left : List Terminal) → begins separator left ≡ false → more_at separator item turns left ≡ Ok ([], left)
@@ -76,7 +76,7 @@ module _ {A : Type 0} (separator : Terminal → Bool) (item : List Terminal → 
       → separated_at separator item start ≡ Ok (found, left)
   finished start left found so_far ends =
       so_far.same ∙ ap (read_as (λ more. found ++ more)) (no_more so_far.turns left ends)
-          ∙ ap (λ (l : List A). Ok (l, left)) (append-nil found)
+      ∙ ap (λ (l : List A). Ok (l, left)) (append-nil found)
 
   pub broken : (start left : List Terminal) (found : List A) (e : Wrong × List Terminal) → SoFar start found left
       → begins separator left ≡ true → item (rest left) ≡ Err e → separated_at separator item start ≡ Err e

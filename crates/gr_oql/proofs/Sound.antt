@@ -68,7 +68,7 @@ word_sound : (part : Terminal → Option (List ℕ)) (ts : List Terminal) (o : O
 word_sound part ts None w left is read = absurd (cc)
 word_sound part ts (Some v) w left is read =
     subst (λ (u : List ℕ). Front (Is part u) ts left) (value_is read)
-        (subst (Front (Is part v) ts) (left_is read) (one_has part v ts (sym is)))
+    (subst (Front (Is part v) ts) (left_is read) (one_has part v ts (sym is)))
 
 pub name_sound : Sound (Is as_name) name_at
 name_sound ts w left read = word_sound as_name ts _ w left refl read
@@ -87,7 +87,7 @@ module _ (alias : Option (List ℕ)) where
       let name : Front (Is as_name w) (t ∷ ts) ts = record { spelled = t ∷ []; split = refl; holds = (t, is, refl) } in
       weaker _ (Field alias f) (t ∷ ts) left (λ l spelled. inr (w, h.0, spelled))
       (joined (Is as_name w) (One (is_symbol symbols.Dot) then Is as_word f) (t ∷ ts) ts left name
-          (joined (One (is_symbol symbols.Dot)) (Is as_word f) ts dot.1 left dotted member)))
+      (joined (One (is_symbol symbols.Dot)) (Is as_word f) ts dot.1 left dotted member)))
       (λ h.
       let same : w ≡ f = value_is h.1 in
       record {
@@ -115,7 +115,7 @@ negative_sound minus sign ts (Some n) x left is read =
     (λ h.
     let number = one_has as_number n ts (sym is) in
     let signed : Front (One (is_symbol symbols.Minus)) (minus ∷ ts) ts =
-        record { spelled = minus ∷ []; split = refl; holds = (minus, sign, refl) } in
+    record { spelled = minus ∷ []; split = refl; holds = (minus, sign, refl) } in
     subst (λ (y : Scalar). Front (Literal y) (minus ∷ ts) left) (value_is h.1)
     (subst (Front (Literal (scalar.Int (neg_ℤ (pos n)))) (minus ∷ ts)) (left_is h.1)
     (weaker _ (Literal (scalar.Int (neg_ℤ (pos n)))) (minus ∷ ts) (rest ts) (λ l spelled. inr (n, leb-true n _ h.0, refl, spelled))
@@ -131,12 +131,12 @@ plain_sound ts (Some n) p x left is quoted_is read =
     subst (λ (y : Scalar). Front (Literal y) ts left) (value_is h.1)
     (subst (Front (Literal (scalar.Int (pos n))) ts) (left_is h.1)
     (weaker _ (Literal (scalar.Int (pos n))) ts (rest ts) (λ l spelled. inl (n, ltb-true n _ h.0, refl, spelled))
-        (one_has as_number n ts (sym is)))))
+    (one_has as_number n ts (sym is)))))
     (λ h. absurd (cc h.1))
     (chosen (ltb n greatest_number) _ _ _ read)
 plain_sound ts None (Some text) x left is quoted_is read =
     subst (λ (y : Scalar). Front (Literal y) ts left) (value_is read)
-        (subst (Front (Literal (scalar.Text text)) ts) (left_is read) (one_has as_quoted text ts (sym quoted_is)))
+    (subst (Front (Literal (scalar.Text text)) ts) (left_is read) (one_has as_quoted text ts (sym quoted_is)))
 plain_sound ts None None x left is quoted_is read = absurd (cc)
 
 -- a terminal that stands for a value
@@ -145,7 +145,7 @@ pub fixed_sound : {A : Type 0} (Spells : A → List Terminal → Type 0) (passes
     → Front (Spells x) ts left
 fixed_sound {A} Spells passes v x ts left is turns read =
     subst (λ (y : A). Front (Spells y) ts left) (value_is read)
-        (subst (Front (Spells v) ts) (left_is read) (weaker (One passes) (Spells v) ts (rest ts) turns (one_begins passes ts is)))
+    (subst (Front (Spells v) ts) (left_is read) (weaker (One passes) (Spells v) ts (rest ts) turns (one_begins passes ts is)))
 
 minus_sound : (ts : List Terminal) (x : Scalar) (left : List Terminal) → begins (is_symbol symbols.Minus) ts ≡ true
     → negative_at (rest ts) ≡ Ok (x, left) → Front (Literal x) ts left
@@ -158,9 +158,9 @@ literal_sound ts x left read =
     ⊎_elim (λ h. fixed_sound Literal (is_keyword word.True) (scalar.Bool true) x ts left h.0 (λ l is. is) h.1) (λ r2.
     ⊎_elim (λ h. fixed_sound Literal (is_keyword word.False) (scalar.Bool false) x ts left h.0 (λ l is. is) h.1) (λ r3.
     ⊎_elim (λ h. fixed_sound Literal (is_keyword word.Null) scalar.Null x ts left h.0 (λ l is. is) h.1)
-        (λ r4. plain_sound ts _ _ x left refl refl r4.1)
+    (λ r4. plain_sound ts _ _ x left refl refl r4.1)
     (chosen (begins (is_keyword word.Null) ts) _ _ _ r3.1)) (chosen (begins (is_keyword word.False) ts) _ _ _ r2.1))
-        (chosen (begins (is_keyword word.True) ts) _ _ _ r1.1)) (chosen (begins (is_symbol symbols.Minus) ts) _ _ _ read)
+    (chosen (begins (is_keyword word.True) ts) _ _ _ r1.1)) (chosen (begins (is_symbol symbols.Minus) ts) _ _ _ read)
 
 module _ (alias : Option (List ℕ)) where
   operand_sound_by : (ts : List Terminal) (o : Option (List ℕ)) (x : Operand) (left : List Terminal) → o ≡ front as_name ts
@@ -187,8 +187,11 @@ module _ {A : Type 0} (separator : Terminal → Bool) (item : List Terminal → 
   more_sound : (turns : ℕ) (x : A) (ts : List Terminal) (xs : List A) (left : List Terminal)
       → more_at separator item turns ts ≡ Ok (xs, left) → Behind x xs ts left
   more_sound zero x ts xs left read =
-      subst (λ (l : List A). Behind x l ts left) (value_is read) ([], left_is read,
-          λ first holds. subst (Spells x) (sym (append-nil first)) holds)
+      subst (λ (l : List A). Behind x l ts left) (value_is read) (
+        [],
+        left_is read,
+        λ first holds. subst (Spells x) (sym (append-nil first)) holds,
+      )
   more_sound (suc turns) x ts xs left read =
       ⊎_elim
       (λ h.
@@ -202,11 +205,20 @@ module _ {A : Type 0} (separator : Terminal → Bool) (item : List Terminal → 
         one.spelled ++ (found.spelled ++ later.0),
         one.split ∙ ap (λ (l : List Terminal). one.spelled ++ l) (found.split ∙ ap (λ (l : List Terminal). found.spelled ++ l) later.1
             ∙ sym (append_assoc found.spelled later.0 left)) ∙ sym (append_assoc one.spelled (found.spelled ++ later.0) left),
-        λ first holds. (first, one.spelled
-            ++ (found.spelled ++ later.0), refl, holds, (one.spelled, found.spelled ++ later.0, refl, one.holds, row)),
+        λ first holds. (
+          first,
+          one.spelled
+              ++ (found.spelled ++ later.0),
+          refl,
+          holds,
+          (one.spelled, found.spelled ++ later.0, refl, one.holds, row),
+        ),
       ))
-      (λ h. subst (λ (l : List A). Behind x l ts left) (value_is h.1) ([], left_is h.1,
-          λ first holds. subst (Spells x) (sym (append-nil first)) holds))
+      (λ h. subst (λ (l : List A). Behind x l ts left) (value_is h.1) (
+        [],
+        left_is h.1,
+        λ first holds. subst (Spells x) (sym (append-nil first)) holds,
+      ))
       (chosen (begins separator ts) _ _ _ read)
 
   pub row_sound : Sound (Row separator Spells) (separated_at separator item)

@@ -32,11 +32,11 @@ relation_sound ts x left read =
     ⊎_elim (λ h. fixed_sound IsRelation (is_symbol symbols.LessEqual) relation.LessOrEqual x ts left h.0 (λ l is. is) h.1) (λ r5.
     ⊎_elim (λ h. fixed_sound IsRelation (is_symbol symbols.Greater) relation.Greater x ts left h.0 (λ l is. is) h.1) (λ r6.
     ⊎_elim (λ h. fixed_sound IsRelation (is_symbol symbols.GreaterEqual) relation.GreaterOrEqual x ts left h.0 (λ l is. is) h.1)
-        (λ r7. absurd (cc r7.1))
+    (λ r7. absurd (cc r7.1))
     (chosen (begins (is_symbol symbols.GreaterEqual) ts) _ _ _ r6.1)) (chosen (begins (is_symbol symbols.Greater) ts) _ _ _ r5.1))
-        (chosen (begins (is_symbol symbols.LessEqual) ts) _ _ _ r4.1))
+    (chosen (begins (is_symbol symbols.LessEqual) ts) _ _ _ r4.1))
     (chosen (begins (is_symbol symbols.Less) ts) _ _ _ r3.1)) (chosen (begins (is_symbol symbols.BangEqual) ts) _ _ _ r2.1))
-        (chosen (begins (is_symbol symbols.Angles) ts) _ _ _ r1.1)) (chosen (begins (is_symbol symbols.Equal) ts) _ _ _ read)
+    (chosen (begins (is_symbol symbols.Angles) ts) _ _ _ r1.1)) (chosen (begins (is_symbol symbols.Equal) ts) _ _ _ read)
 
 pattern_sound : (ts : List Terminal) (o : Option (List ℕ)) (p : List ℕ) (left : List Terminal) → o ≡ front as_quoted ts
     → pattern_by o ts ≡ Ok (p, left) → (has_backslash p ≡ false) × Front (Is as_quoted p) ts left
@@ -47,8 +47,10 @@ pattern_sound ts (Some text) p left is read =
     (λ h.
     let same : text ≡ p = value_is h.1 in
     subst (λ (u : List ℕ). (has_backslash u ≡ false)
-        × Front (Is as_quoted u) ts left) same (h.0,
-        subst (Front (Is as_quoted text) ts) (left_is h.1) (one_has as_quoted text ts (sym is))))
+    × Front (Is as_quoted u) ts left) same (
+      h.0,
+      subst (Front (Is as_quoted text) ts) (left_is h.1) (one_has as_quoted text ts (sym is)),
+    ))
     (chosen (has_backslash text) _ _ _ read)
 
 -- something in brackets
@@ -56,7 +58,7 @@ in_brackets : (P : List Terminal → Type 0) (ts inner behind left : List Termin
     → Front P inner behind → symbol_at symbols.RightBracket behind ≡ Ok (tt, left) → Front (Bracketed P) ts left
 in_brackets P ts inner behind left opens found closes =
     joined (One (is_symbol symbols.LeftBracket)) (P then One (is_symbol symbols.RightBracket)) ts inner left
-        (symbol_sound symbols.LeftBracket ts tt inner opens)
+    (symbol_sound symbols.LeftBracket ts tt inner opens)
     (joined P (One (is_symbol symbols.RightBracket)) inner behind left found (symbol_sound symbols.RightBracket behind tt left closes))
 
 module _ (alias : Option (List ℕ)) where
@@ -67,7 +69,7 @@ module _ (alias : Option (List ℕ)) where
       let field = bound (field_at alias opens.1) _ f left opens.3 in
       let closes = made_of (λ _. field.0) (symbol_at symbols.RightBracket field.1) f left field.3 in
       subst (λ (g : List ℕ). Front (Bracketed (Field alias g)) ts left) closes.2
-          (in_brackets (Field alias field.0) ts opens.1 field.1 left opens.2 (field_sound alias opens.1 field.0 field.1 field.2) closes.1)
+      (in_brackets (Field alias field.0) ts opens.1 field.1 left opens.2 (field_sound alias opens.1 field.0 field.1 field.2) closes.1)
 
   -- what stands behind an operand that was spelled
   among_sound : (o : Operand) (start ts set left : List Terminal) (x : Test) → Front (IsOperand alias o) start ts
@@ -92,7 +94,7 @@ module _ (alias : Option (List ℕ)) where
       subst (λ (y : Test). Front (IsTest alias y) start left) right.2
       (joined (IsOperand alias o) _ start ts left operand
       (joined (IsRelation r.0) (IsOperand alias right.0) ts r.1 left (relation_sound ts r.0 r.1 r.2)
-          (operand_sound alias r.1 right.0 left right.1)))
+      (operand_sound alias r.1 right.0 left right.1)))
 
   behind_sound : (o : Operand) (start ts left : List Terminal) (x : Test) → Front (IsOperand alias o) start ts
       → behind_operand alias o ts ≡ Ok (x, left) → Front (IsTest alias x) start left
@@ -123,15 +125,15 @@ module _ (alias : Option (List ℕ)) where
       (λ h.
       let m = made_of tests.Defined (bracketed_at alias (rest ts)) x left h.1 in
       subst (λ (y : Test). Front (IsTest alias y) ts left) m.2
-          (joined (One (is_keyword word.IsDefined)) (Bracketed (Field alias m.0)) ts (rest ts) left
-          (one_begins (is_keyword word.IsDefined) ts h.0) (bracketed_sound (rest ts) m.0 left m.1)))
+      (joined (One (is_keyword word.IsDefined)) (Bracketed (Field alias m.0)) ts (rest ts) left
+      (one_begins (is_keyword word.IsDefined) ts h.0) (bracketed_sound (rest ts) m.0 left m.1)))
       (λ r1.
       ⊎_elim
       (λ h.
       let m = made_of tests.Undefined (bracketed_at alias (rest ts)) x left h.1 in
       subst (λ (y : Test). Front (IsTest alias y) ts left) m.2
-          (joined (One (is_keyword word.IsUndefined)) (Bracketed (Field alias m.0)) ts (rest ts) left
-          (one_begins (is_keyword word.IsUndefined) ts h.0) (bracketed_sound (rest ts) m.0 left m.1)))
+      (joined (One (is_keyword word.IsUndefined)) (Bracketed (Field alias m.0)) ts (rest ts) left
+      (one_begins (is_keyword word.IsUndefined) ts h.0) (bracketed_sound (rest ts) m.0 left m.1)))
       (λ r2.
       let o = bound (operand_at alias ts) _ x left r2.1 in
       first_sound o.0 ts o.1 left x (operand_sound alias ts o.0 o.1 o.2) o.3)
@@ -144,13 +146,13 @@ module _ (within : List Terminal → Reading Tree) (Part : Tree → List Termina
   all_sound ts c left read =
       let m = made_of (λ parts. all (in_order parts)) (separated_at (is_keyword word.And) within ts) c left read in
       weaker (Row (is_keyword word.And) Part m.0) (IsAll Part c) ts left (λ l row. (m.0, sym m.2, row))
-          (row_sound (is_keyword word.And) within Part sound ts m.0 left m.1)
+      (row_sound (is_keyword word.And) within Part sound ts m.0 left m.1)
 
   pub any_sound : Sound (IsAny Part) (any_at within)
   any_sound ts c left read =
       let m = made_of (λ parts. any (in_order parts)) (separated_at (is_keyword word.Or) (all_at within) ts) c left read in
       weaker (Row (is_keyword word.Or) (IsAll Part) m.0) (IsAny Part c) ts left (λ l row. (m.0, sym m.2, row))
-          (row_sound (is_keyword word.Or) (all_at within) (IsAll Part) all_sound ts m.0 left m.1)
+      (row_sound (is_keyword word.Or) (all_at within) (IsAll Part) all_sound ts m.0 left m.1)
 
   pub bracket_sound : (ts : List Terminal) (c : Tree) (left : List Terminal) → begins (is_symbol symbols.LeftBracket) ts ≡ true
       → bracket_at within (rest ts) ≡ Ok (c, left) → Front (Bracketed (IsAny Part c)) ts left
@@ -160,7 +162,7 @@ module _ (within : List Terminal → Reading Tree) (Part : Tree → List Termina
       subst (λ (d : Tree). Front (Bracketed (IsAny Part d)) ts left) closes.2
       (joined (One (is_symbol symbols.LeftBracket)) _ ts (rest ts) left (one_begins (is_symbol symbols.LeftBracket) ts is)
       (joined (IsAny Part inner.0) (One (is_symbol symbols.RightBracket)) (rest ts) inner.1 left
-          (any_sound (rest ts) inner.0 inner.1 inner.2) (symbol_sound symbols.RightBracket inner.1 closes.0 left closes.1)))
+      (any_sound (rest ts) inner.0 inner.1 inner.2) (symbol_sound symbols.RightBracket inner.1 closes.0 left closes.1)))
 
 module _ (alias : Option (List ℕ)) where
   tested_sound : (ts : List Terminal) (c : Tree) (left : List Terminal) → read_as test (test_at alias ts) ≡ Ok (c, left)
@@ -168,7 +170,7 @@ module _ (alias : Option (List ℕ)) where
   tested_sound ts c left read =
       let m = made_of test (test_at alias ts) c left read in
       weaker (IsTest alias m.0) (λ l. (t : Test) × (c ≡ test t)
-          × IsTest alias t l) ts left (λ l spelled. (m.0, sym m.2, spelled)) (test_sound alias ts m.0 left m.1)
+      × IsTest alias t l) ts left (λ l spelled. (m.0, sym m.2, spelled)) (test_sound alias ts m.0 left m.1)
 
   pub part_sound : (depth : ℕ) → Sound (IsPart alias depth) (part_at alias depth)
   part_sound zero ts c left read =
@@ -181,12 +183,12 @@ module _ (alias : Option (List ℕ)) where
       (λ h.
       let m = made_of negation (part_at alias depth (rest ts)) c left h.1 in
       let spelled = joined (One (is_keyword word.Not)) (IsPart alias depth m.0) ts (rest ts) left (one_begins (is_keyword word.Not) ts h.0)
-          (part_sound depth (rest ts) m.0 left m.1) in
+      (part_sound depth (rest ts) m.0 left m.1) in
       weaker _ (IsPart alias (suc depth) c) ts left (λ l is. inr (inl (m.0, sym m.2, is))) spelled)
       (λ r1.
       ⊎_elim
       (λ h. weaker _ (IsPart alias (suc depth) c) ts left (λ l is. inr (inr is))
-          (bracket_sound (part_at alias depth) (IsPart alias depth) (part_sound depth) ts c left h.0 h.1))
+      (bracket_sound (part_at alias depth) (IsPart alias depth) (part_sound depth) ts c left h.0 h.1))
       (λ h. weaker _ (IsPart alias (suc depth) c) ts left (λ l is. inl is) (tested_sound ts c left h.1))
       (chosen (begins (is_symbol symbols.LeftBracket) ts) _ _ _ r1.1))
       (chosen (begins (is_keyword word.Not) ts) _ _ _ read)
@@ -211,7 +213,7 @@ region_sound_by ts None r left is read = absurd (cc)
 region_sound_by ts (Some w) r left is read =
     ⊎_elim
     (λ h. weaker (Is as_name w) (IsRegion r) ts left (λ l spelled. (w, leb-true _ _ h.0, sym (value_is h.1), spelled))
-        (subst (Front (Is as_name w) ts) (left_is h.1) (one_has as_name w ts (sym is))))
+    (subst (Front (Is as_name w) ts) (left_is h.1) (one_has as_name w ts (sym is))))
     (λ h. absurd (cc h.1))
     (chosen (leb (length w) 254) _ _ _ read)
 
@@ -219,11 +221,11 @@ alias_sound_by : (ts : List Terminal) (o a : Option (List ℕ)) (left : List Ter
     → Front (IsAlias a) ts left
 alias_sound_by ts None a left is read =
     subst (λ (b : Option (List ℕ)). Front (IsAlias b) ts left) (value_is read)
-        (record { spelled = []; split = left_is read; holds = refl })
+    (record { spelled = []; split = left_is read; holds = refl })
 alias_sound_by ts (Some w) a left is read =
     subst (λ (b : Option (List ℕ)). Front (IsAlias b) ts left) (value_is read)
-        (weaker (Is as_name w) (IsAlias (Some w)) ts left (λ l spelled. inl spelled)
-        (subst (Front (Is as_name w) ts) (left_is read) (one_has as_name w ts (sym is))))
+    (weaker (Is as_name w) (IsAlias (Some w)) ts left (λ l spelled. inl spelled)
+    (subst (Front (Is as_name w) ts) (left_is read) (one_has as_name w ts (sym is))))
 
 pub alias_sound : Sound IsAlias alias_at
 alias_sound ts a left read =
@@ -232,8 +234,8 @@ alias_sound ts a left read =
     let m = made_of (λ w. Some w) (name_at (rest ts)) a left h.1 in
     subst (λ (b : Option (List ℕ)). Front (IsAlias b) ts left) m.2
     (weaker _ (IsAlias (Some m.0)) ts left (λ l spelled. inr spelled)
-        (joined (One (is_keyword word.As)) (Is as_name m.0) ts (rest ts) left (one_begins (is_keyword word.As) ts h.0)
-        (name_sound (rest ts) m.0 left m.1))))
+    (joined (One (is_keyword word.As)) (Is as_name m.0) ts (rest ts) left (one_begins (is_keyword word.As) ts h.0)
+    (name_sound (rest ts) m.0 left m.1))))
     (λ h. alias_sound_by ts _ a left refl h.1)
     (chosen (begins (is_keyword word.As) ts) _ _ _ read)
 
@@ -255,11 +257,13 @@ where_sound depth alias ts c left read =
     let m = made_of (λ _. Some condition.0) (end_at condition.1) c left condition.3 in
     let end = end_is condition.1 m.0 left m.1 in
     let spelled = joined (One (is_keyword word.Where)) (IsCondition depth alias condition.0) ts (rest ts) condition.1
-        (one_begins (is_keyword word.Where) ts h.0) (condition_sound alias depth (rest ts) condition.0 condition.1 condition.2) in
+    (one_begins (is_keyword word.Where) ts h.0) (condition_sound alias depth (rest ts) condition.0 condition.1 condition.2) in
     let whole : ts ≡ spelled.spelled = spelled.split ∙ ap (λ (l : List Terminal). spelled.spelled ++ l) end.0 ∙ append-nil spelled.spelled
-        in
-    (end.1, subst (λ (d : Option Tree). IsWhere depth alias d ts) m.2
-        (subst (One (is_keyword word.Where) then IsCondition depth alias condition.0) (sym whole) spelled.holds)))
+    in (
+      end.1,
+      subst (λ (d : Option Tree). IsWhere depth alias d ts) m.2
+          (subst (One (is_keyword word.Where) then IsCondition depth alias condition.0) (sym whole) spelled.holds),
+    ))
     (λ h.
     let m = made_of (λ _. None) (bare_end_at ts) c left h.1 in
     let end = bare_end_is ts m.0 left m.1 in
@@ -278,7 +282,7 @@ source_sound depth ts q left read =
     let m = made_of (λ c. record { region = region.0; alias = alias.0; condition = c }) (where_at depth alias.0 alias.1) q left alias.3 in
     let condition = where_sound depth alias.0 alias.1 m.0 left m.1 in
     let behind = joined (IsAlias alias.0) (IsWhere depth alias.0 m.0) region.1 alias.1 left (alias_sound region.1 alias.0 alias.1 alias.2)
-        (whole_of (IsWhere depth alias.0 m.0) alias.1 left condition.0 condition.1) in (
+    (whole_of (IsWhere depth alias.0 m.0) alias.1 left condition.0 condition.1) in (
       condition.0,
       subst (λ (p : Asked). Front (IsRegion p.region then IsAlias p.alias then IsWhere depth p.alias p.condition) ts left) m.2
           (joined (IsRegion region.0) _ ts region.1 left (region_sound_by ts _ region.0 region.1 refl region.2) behind),
@@ -300,8 +304,8 @@ query_sound depth ts q left read =
     (joined (One (is_symbol symbols.Star)) _ select.1 star.1 left (star_sound select.1 star.0 star.1 star.2)
     (joined (One (is_keyword word.From)) _ star.1 from.1 left (keyword_sound word.From star.1 from.0 from.1 from.2)
     (joined (One (is_symbol symbols.Slash)) _ from.1 slash.1 left (symbol_sound symbols.Slash from.1 slash.0 slash.1 slash.2) source.1)))
-        in
+    in
     let whole : ts ≡ spelled.spelled = spelled.split ∙ ap (λ (l : List Terminal). spelled.spelled ++ l) source.0
-        ∙ append-nil spelled.spelled in
+    ∙ append-nil spelled.spelled in
     (source.0, subst (IsQueryWithin depth q) (sym whole) spelled.holds))
     (chosen (begins (is_keyword word.Import) ts) _ _ _ read)

@@ -140,8 +140,11 @@ module _ {t t' : Terminal} {m m' : List Terminal} {Ordinary : Wrong → Type 0} 
       → Follows {A = A} t t' m m' Ordinary (stop v (same ++ t ∷ m)) (stop v' (same ++ t' ∷ m'))
   stop_follows {A} v v' same = record {
     reads = λ x more is. absurd (cc);
-    stops = λ w ordinary is. (v', ap (λ (l : List Terminal). stop {A = A} v' (l ++ t' ∷ m'))
-        (append_cancel_right same [] (t ∷ m) (place_is is)));
+    stops = λ w ordinary is. (
+      v',
+      ap (λ (l : List Terminal). stop {A = A} v' (l ++ t' ∷ m'))
+          (append_cancel_right same [] (t ∷ m) (place_is is)),
+    );
   }
 
   -- what stops before `t` neither leaves it nor stops at it
@@ -171,8 +174,8 @@ module _ {t t' : Terminal} {m m' : List Terminal} {Ordinary : Wrong → Type 0} 
   pub bind_follows : {A B : Type 0} {one one' : Reading A} (f f' : A × List Terminal → Reading B) → Follows t t' m m' Ordinary one one'
       → ((x : A) (middle : List Terminal) → Leaves middle (f (x, middle)))
       → ((x : A) (same : List Terminal) → one ≡ Ok (x, same ++ t ∷ m)
-          → Follows t t' m m' Ordinary (f (x, same ++ t ∷ m)) (f' (x, same ++ t' ∷ m')))
-          → Follows t t' m m' Ordinary (one >>= f) (one' >>= f')
+      → Follows t t' m m' Ordinary (f (x, same ++ t ∷ m)) (f' (x, same ++ t' ∷ m')))
+      → Follows t t' m m' Ordinary (one >>= f) (one' >>= f')
   bind_follows {A} {B} {one = one} {one' = one'} f f' first leaves second = record {
     reads = λ y same is.
         let b = bound one f y (same ++ t ∷ m) is in
@@ -218,7 +221,7 @@ module _ {t t' : Terminal} {m m' : List Terminal} {Ordinary : Wrong → Type 0} 
     back_of_err = λ ts. (leaves ts).of_err;
     reads = λ ts ts' left left' x start end is.
         ap read' start.2 ∙ (follows start.0).reads x end.0 (ap read (sym start.1) ∙ is ∙ ap (λ (l : List Terminal). Ok (x, l)) end.1)
-            ∙ ap (λ (l : List Terminal). Ok (x, l)) (sym end.2);
+        ∙ ap (λ (l : List Terminal). Ok (x, l)) (sym end.2);
     stops = λ ts ts' w start ordinary is.
         let found = (follows start.0).stops w ordinary (ap read (sym start.1) ∙ is) in
         (found.0, ap read' start.2 ∙ found.1);
@@ -257,7 +260,7 @@ module _ {t t' : Terminal} {m m' : List Terminal} {Ordinary : Wrong → Type 0} 
       stays_by
       (λ ts. bind_leaves (one ts) (λ x. two x.0 x.1) (leaves_of first ts) (λ x middle. leaves_of (second x) middle))
       (λ same. bind_follows (λ x. two x.0 x.1) (λ x. two' x.0 x.1) (follows_of first same) (λ x middle. leaves_of (second x) middle)
-          (λ x more is. follows_of (second x) more))
+      (λ x more is. follows_of (second x) more))
 
   pub as_stays : {A B : Type 0} {read read' : List Terminal → Reading A} (make : A → B) → Stays t t' m m' Ordinary read read'
       → Stays t t' m m' Ordinary (λ ts. read_as make (read ts)) (λ ts. read_as make (read' ts))
@@ -266,10 +269,10 @@ module _ {t t' : Terminal} {m m' : List Terminal} {Ordinary : Wrong → Type 0} 
   pub if_stays : {A : Type 0} {one one' two two' : List Terminal → Reading A} (test : Terminal → Bool) → (test t ≡ false → test t' ≡ false)
       → Stays t t' m m' Ordinary one one' → Stays t t' m m' Ordinary two two'
       → Stays t t' m m' Ordinary (λ ts. cond (begins test ts) (one (rest ts)) (two ts))
-          (λ ts. cond (begins test ts) (one' (rest ts)) (two' ts))
+      (λ ts. cond (begins test ts) (one' (rest ts)) (two' ts))
   if_stays {A} {one = one} {one' = one'} {two = two} {two' = two'} test turns first second =
       stays_by (λ ts. choice_leaves (begins test ts) (behind_leaves (back_rest ts) (leaves_of first (rest ts)))
-          (leaves_of second ts)) by_front
+      (leaves_of second ts)) by_front
     where
       by_front : (same : List Terminal)
           → Follows t t' m m' Ordinary (cond (begins test (same ++ t ∷ m)) (one (rest (same ++ t ∷ m))) (two (same ++ t ∷ m)))
@@ -287,7 +290,7 @@ module _ {t t' : Terminal} {m m' : List Terminal} {Ordinary : Wrong → Type 0} 
   pub front_stays : {A X : Type 0} {one : X → List Terminal → Reading A} (by : Option X → List Terminal → Reading A) (part : Terminal
       → Option X) → (part t' ≡ part t) ⊎ (part t' ≡ None)
       → ((w : X) (ts : List Terminal) → by (Some w) ts ≡ one w (rest ts)) → ((w : X) → Stays t t' m m' Ordinary (one w) (one w))
-          → Stays t t' m m' Ordinary (by None) (by None)
+      → Stays t t' m m' Ordinary (by None) (by None)
       → Stays t t' m m' Ordinary (λ ts. by (front part ts) ts) (λ ts. by (front part ts) ts)
   front_stays {A} {X} {one = one} by part alike is first second = stays_by (λ ts. leaves (front part ts) ts) by_front
     where

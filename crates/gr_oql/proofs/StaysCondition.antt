@@ -59,17 +59,17 @@ module _ {t t' : Terminal} {m m' : List Terminal} {Ordinary : Wrong → Type 0} 
   more_follows (suc turns) zero same enough enough' = absurd (no_turns same t' m' enough')
   more_follows (suc turns) (suc turns') [] enough enough' =
       turn_follows (item' m' >>= λ x. read_as (λ xs. x.0 ∷ xs) (more_at separator item' turns' x.1)) (separator t) (separator t') turns_off
-          (next_leaves (more_at separator item turns) (more_leaves turns) m) (ok_follows [] [])
+      (next_leaves (more_at separator item turns) (more_leaves turns) m) (ok_follows [] [])
   more_follows (suc turns) (suc turns') (s ∷ same) enough enough' =
       choice_follows (separator s)
       (bind_follows (λ x. read_as (λ xs. x.0 ∷ xs) (more_at separator item turns x.1))
-          (λ x. read_as (λ xs. x.0 ∷ xs) (more_at separator item' turns' x.1)) (follows_of stays same)
+      (λ x. read_as (λ xs. x.0 ∷ xs) (more_at separator item' turns' x.1)) (follows_of stays same)
       (λ x middle. bind_leaves (more_at separator item turns middle) (λ xs. Ok (x ∷ xs.0, xs.1)) (more_leaves turns middle)
-          (λ xs left. ok_leaves (x ∷ xs) left))
+      (λ xs left. ok_leaves (x ∷ xs) left))
       (λ x more is.
       let left = fewer t t' m m' same more turns turns' ((leaves_of stays (same ++ t ∷ m)).of_ok x (more ++ t ∷ m) is) enough enough' in
       bind_follows (λ xs. Ok (x ∷ xs.0, xs.1)) (λ xs. Ok (x ∷ xs.0, xs.1)) (more_follows turns turns' more left.0 left.1)
-          (λ xs behind. ok_leaves (x ∷ xs) behind) (λ xs last read. ok_follows (x ∷ xs) last)))
+      (λ xs behind. ok_leaves (x ∷ xs) behind) (λ xs last read. ok_follows (x ∷ xs) last)))
       (ok_follows [] (s ∷ same))
 
   more_stays : Stays t t' m m' Ordinary (λ ts. more_at separator item (length ts) ts) (λ ts. more_at separator item' (length ts) ts)
@@ -98,7 +98,7 @@ module _ {t t' : Terminal} {m m' : List Terminal} {Ordinary : Wrong → Type 0} 
       (if_stays (is_symbol symbols.LessEqual) (alike.no_symbol symbols.LessEqual refl) (pure_stays relation.LessOrEqual)
       (if_stays (is_symbol symbols.Greater) (alike.no_symbol symbols.Greater refl) (pure_stays relation.Greater)
       (if_stays (is_symbol symbols.GreaterEqual) (alike.no_symbol symbols.GreaterEqual refl) (pure_stays relation.GreaterOrEqual)
-          (stop_stays (λ ts. Expected))))))))
+      (stop_stays (λ ts. Expected))))))))
 
   like_stays : (field : List ℕ) → Stays t t' m m' Ordinary (like_at field) (like_at field)
   like_stays field = as_stays (λ pattern. tests.Like field pattern) (pattern_stays alike)
@@ -166,12 +166,12 @@ module _ {t t' : Terminal} {m m' : List Terminal} {Ordinary : Wrong → Type 0} 
       at_front false is =
           let no = neither (is_keyword word.Not t) (is_symbol symbols.LeftBracket t) (sym is) in
           let read = part_at_test alias bottom (t' ∷ m') (alike.no_keyword word.Not no.0) (alike.no_symbol symbols.LeftBracket refl no.1)
-              in
+          in
           subst (Follows t t' m m' Ordinary (read_as test (test_at alias (t ∷ m)))) (sym read) (follows_of tested [])
 
       behind : (b : Bool) (s : Terminal) (same : List Terminal) → b ≡ opens (s ∷ same)
           → Follows t t' m m' Ordinary (cond b (stop TooDeep (s ∷ (same ++ t ∷ m))) (read_as test (test_at alias (s ∷ (same ++ t ∷ m)))))
-              (part_at alias bottom (s ∷ (same ++ t' ∷ m')))
+          (part_at alias bottom (s ∷ (same ++ t' ∷ m')))
       behind true s same is = before_follows TooDeep s same (part_at alias bottom (s ∷ (same ++ t' ∷ m')))
       behind false s same is =
           let no = neither (is_keyword word.Not s) (is_symbol symbols.LeftBracket s) (sym is) in
@@ -188,7 +188,7 @@ module _ {t t' : Terminal} {m m' : List Terminal} {Ordinary : Wrong → Type 0} 
   part_stays alias (suc depth) =
       if_stays (is_keyword word.Not) (alike.no_keyword word.Not) (as_stays negation (part_stays alias depth))
       (if_stays (is_symbol symbols.LeftBracket) (alike.no_symbol symbols.LeftBracket refl) (bracket_stays (part_stays alias depth))
-          (as_stays test (test_stays alias)))
+      (as_stays test (test_stays alias)))
 
 module _ (t t' : Terminal) (m m' : List Terminal) (Ordinary : Wrong → Type 0) (bottom : ℕ) (alike : Alike t t' m m' Ordinary bottom) where
   pub condition_stays : (alias : Option (List ℕ)) (depth : ℕ)

@@ -66,7 +66,7 @@ mutual
   built_trees no_trees rest = refl
   built_trees (tree t ts) rest =
       ap (with_mark (inr 4)) (ap built (append_assoc (marks t) (marks_of_all ts) rest) ∙ built_tree t (marks_of_all ts ++ rest)
-          ∙ ap (λ (b : Built). record { trees = t ∷ b.trees; lists = b.lists }) (built_trees ts rest))
+      ∙ ap (λ (b : Built). record { trees = t ∷ b.trees; lists = b.lists }) (built_trees ts rest))
 
 abbrev unmarked : List Mark → Tree
 unmarked ms = first (built ms).trees

@@ -46,7 +46,7 @@ Fits before left (NotACq part.Bind) = IsStart most_depth (before ++ symbol symbo
     × IsTrue (begins (is_symbol symbols.Dollar) left)
 Fits before left (NotACq part.Escape) =
     IsStart most_depth (before ++ quoted [] ∷ [])
-        × ((pattern : List ℕ) × (behind : List Terminal) × (left ≡ quoted pattern ∷ behind) × IsTrue (has_backslash pattern))
+    × ((pattern : List ℕ) × (behind : List Terminal) × (left ≡ quoted pattern ∷ behind) × IsTrue (has_backslash pattern))
 -- one level more would let it go on
 Fits before left TooDeep = (t : Terminal) × (behind : List Terminal) × (left ≡ t ∷ behind) × IsStart (suc most_depth) (before ++ t ∷ [])
 Fits before left Expected = Unit {0}
@@ -97,4 +97,4 @@ abbrev pub IsFault : List ℕ → OqlFault → Type 0
 IsFault text f =
     ((fault_of_tokens : LexFault) × lexical.IsFault text fault_of_tokens × (f ≡ fault.Lex fault_of_tokens))
     ⊎ ((before : List Token) × (left : List Token) × (w : Wrong) × IsLaidOut text 0 (before ++ left)
-        × Ceases (terminals_of text before) (terminals_of text left) w × (f ≡ fault_at text left w))
+    × Ceases (terminals_of text before) (terminals_of text left) w × (f ≡ fault_at text left w))

@@ -86,7 +86,7 @@ IsTest alias (tests.Like f pattern) ts = IsFalse (has_backslash pattern)
     × (Field alias f then One (is_keyword word.Like) then Is as_quoted pattern) ts
 IsTest alias (tests.Among o literals) ts =
     (IsOperand alias o then One (is_keyword word.In) then One (is_keyword word.Set)
-        then Bracketed (Row (is_symbol symbols.Comma) Literal literals)) ts
+    then Bracketed (Row (is_symbol symbols.Comma) Literal literals)) ts
 IsTest alias (tests.Compare left r right) ts = (IsOperand alias left then IsRelation r then IsOperand alias right) ts
 
 -- and = not { AND not }, or = and { OR and }

@@ -33,7 +33,7 @@ letters Import = codes "IMPORT"
 abbrev pub keywords : List Keyword
 keywords =
     Select ∷ Distinct ∷ From ∷ As ∷ Where ∷ And ∷ Or ∷ Not ∷ In ∷ Set ∷ Like ∷ True ∷ False ∷ Null ∷ Undefined ∷ IsDefined ∷ IsUndefined
-        ∷ Order ∷ Group ∷ Having ∷ Limit ∷ Import ∷ []
+    ∷ Order ∷ Group ∷ Having ∷ Limit ∷ Import ∷ []
 
 -- the keyword that a word is, in whatever case it is written
 abbrev pub keyword_of : List ℕ → Option Keyword

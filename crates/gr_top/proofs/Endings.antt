@@ -24,5 +24,5 @@ pub script_line : (cause : Cause) (fault : ScriptFault) (line number name : List
     → text_of_cause cause ≡ codes "georep: line " ++ (line ++ (codes ": " ++ (number ++ (codes " " ++ (name ++ codes "\n")))))
 script_line cause fault line number name is at of called =
     rw (is, at, of, called)
-      (in_turn (codes "georep: line ") (decimal fault.line) (codes ": ") (decimal (number_of fault.reason)) (codes " ")
-          (name_of fault.reason) (codes "\n"))
+    (in_turn (codes "georep: line ") (decimal fault.line) (codes ": ") (decimal (number_of fault.reason)) (codes " ")
+    (name_of fault.reason) (codes "\n"))

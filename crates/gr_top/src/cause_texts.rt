@@ -33,7 +33,10 @@ pub(crate) fn tell<K: Sink>(errors: &mut K, cause: &Cause) -> Result<(), WriteFa
                 number.format(fault.reason.number()),
             );
             let name = fault.reason.name();
-            write_each(errors, &["georep: line ", line, ": ", number, " ", name, "\n"])
+            write_each(
+                errors,
+                &["georep: line ", line, ": ", number, " ", name, "\n"],
+            )
         }
         Cause::WriteFault => write_each(errors, &["georep: the output can't be written\n"]),
         Cause::Memory => write_each(errors, &["georep: no memory\n"]),

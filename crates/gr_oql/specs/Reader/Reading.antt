@@ -225,7 +225,7 @@ bare_end_at ts = if begins (is_symbol symbols.Comma) ts then stop (NotACq part.J
 abbrev pub where_at : ℕ → Option (List ℕ) → List Terminal → Reading (Option Tree)
 where_at depth alias ts =
     if begins (is_keyword word.Where) ts
-        then (condition_at depth alias (rest ts) >>= λ condition. read_as (λ _. Some condition.0) (end_at condition.1))
+    then (condition_at depth alias (rest ts) >>= λ condition. read_as (λ _. Some condition.0) (end_at condition.1))
     else read_as (λ _. None) (bare_end_at ts)
 
 abbrev pub source_at : ℕ → List Terminal → Reading Asked
