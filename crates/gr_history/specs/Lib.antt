@@ -1,6 +1,14 @@
 pub mod Asks
 pub mod Calls
+pub mod Clock
 pub mod Deeds
+pub mod Floor
+pub mod Gifts
+pub mod Ids
 pub mod Lawful
+pub mod Made
+pub mod Recipients
 pub mod Regions
+pub mod Stable
 pub mod Standing
+pub mod Verdicts

@@ -1,14 +1,14 @@
 -- What a history leaves at its end.
-use Rattle.std.specs.Prelude.{ℕ, List, [], ◌∷◌, Bool, true, false, not, filter, count_by}
+use Rattle.std.specs.Prelude.{◌≡◌, ℕ, List, [], ◌∷◌, not, filter, count_by}
 use Rattle.std.specs.List.{filter_map}
 use Rattle.std.specs.Ordering.{nat_cmp, match_ordering}
 use Rattle.std.specs.Cmp.Lexicographic.{slice_cmp}
 use Rattle.gr_stamp.specs.declared.change.Change.{Change}
-use Rattle.gr_stamp.specs.declared.change.Kind.{Kind}
-use Rattle.gr_stamp.specs.declared.change.Kind.TheVariants.{Put, Remove}
 use Rattle.gr_history.specs.declared.deed.Deed.{Deed}
 use Rattle.gr_history.specs.declared.record.Region.{Region}
-use Rattle.gr_history.specs.Standing.{changes, standing, floor}
+use Rattle.gr_history.specs.Ids.{known}
+use Rattle.gr_history.specs.Standing.{changes, standing}
+use Rattle.gr_history.specs.Floor.{is_removal, floor}
 
 -- the keys with one more, in order and each once
 abbrev pub with_key : List ℕ → List (List ℕ) → List (List ℕ)
@@ -24,14 +24,9 @@ keys_of (change ∷ past) = with_key change.key (keys_of past)
 abbrev pub all_standing : List Deed → List Change
 all_standing past = filter_map (λ key. standing key past) (keys_of (changes past))
 
--- whether a kind of change puts a value
-abbrev pub puts : Kind → Bool
-puts (Put value) = true
-puts Remove = false
-
-abbrev pub region_of : ℕ → List Deed → Region
-region_of opening past = record {
-  rows = filter (λ change. puts change.kind) (all_standing past);
-  tombstones = count_by (λ change. not (puts change.kind)) (all_standing past);
-  floor = floor opening past;
-}
+-- A region has the puts that stand, the number of removals that stand, the floor, and all ids that are known.
+pub record IsRegionOf (opening : ℕ) (past : List Deed) (region : Region) : Type 0 where
+  pub rows_are : region.rows ≡ filter (λ change. not (is_removal change.kind)) (all_standing past)
+  pub tombstones_are : region.tombstones ≡ count_by (λ change. is_removal change.kind) (all_standing past)
+  pub floor_is : region.floor ≡ floor opening past
+  pub vector_is : region.vector.ids ≡ known past

@@ -1,40 +1,67 @@
--- What stands at a key. Here and in all definitions of what is lawful a history is listed the newest
--- deed first: the tail of a list is the history before its first deed.
-use Rattle.std.specs.Prelude.{ℕ, List, [], ◌∷◌, ◌++◌, ◌==◌, Option, max, if◌then◌else◌}
+-- What stands at a key.
+use Rattle.std.specs.Prelude.{ℕ, List, [], ◌∷◌, ◌++◌, Bool, false, ◌&&◌, ◌||◌, not, bytes_eq, filter, Option, Some, None, if◌then◌else◌}
 use Rattle.std.specs.Option.{option_to_list}
 use Rattle.gr_value.specs.declared.value.Field.{Field}
 use Rattle.gr_stamp.specs.declared.change.Change.{Change}
 use Rattle.gr_stamp.specs.Winner.{winner, holds}
+use Rattle.gr_vector.specs.Ids.{Id, has_id}
+use Rattle.gr_history.specs.declared.verdict.Verdict.TheVariants.{Applied, Discarded, Repeat}
 use Rattle.gr_history.specs.declared.deed.Deed.{Deed}
-use Rattle.gr_history.specs.declared.deed.Deed.TheVariants.{Call}
+use Rattle.gr_history.specs.declared.deed.Deed.TheVariants.{Call, Taken, Gave, Imaged, Reported, Heard, Swept}
+use Rattle.gr_history.specs.Ids.{id_of, ids}
 
--- the changes that come in at a deed
-abbrev pub came : Deed → List Change
-came (Call client seq ask reply made to) = option_to_list made
+-- The changes that come in at a deed: what a call made, a change that is new, an image's rows that are new.
+abbrev pub came : Deed → List Deed → List Change
+came (Call client seq ask reply made to) past = option_to_list made
+came (Taken change Applied) past = change ∷ []
+came (Taken change Discarded) past = change ∷ []
+came (Taken change Repeat) past = []
+came (Gave to what) past = []
+came (Imaged image) past = filter (λ row. not (has_id (id_of row) (ids past))) image.rows
+came (Reported report) past = []
+came (Heard report) past = []
+came (Swept moment expired) past = []
 
 -- all changes that came in, the newest first
 abbrev pub changes : List Deed → List Change
 changes [] = []
-changes (deed ∷ past) = came deed ++ changes past
+changes (deed ∷ past) = came deed past ++ changes past
+
+-- whether the key is one of these
+abbrev pub names : List ℕ → List (List ℕ) → Bool
+names key [] = false
+names key (first ∷ rest) = bytes_eq first key || names key rest
+
+-- whether one of the changes is of the key
+abbrev pub has_key : List ℕ → List Change → Bool
+has_key key [] = false
+has_key key (first ∷ rest) = bytes_eq first.key key || has_key key rest
+
+-- whether what stands, if anything does, is among these ids
+abbrev pub is_known : List Id → Option Change → Bool
+is_known ids None = false
+is_known ids (Some change) = has_id (id_of change) ids
+
+-- Whether a deed drops the key, at which this stands: a sweep that names it, or an image that knows what
+-- stands and has no row of the key.
+abbrev pub drops : List ℕ → Deed → Option Change → Bool
+drops key (Call client seq ask reply made to) stands = false
+drops key (Taken change verdict) stands = false
+drops key (Gave to what) stands = false
+drops key (Imaged image) stands = not (has_key key image.rows) && is_known image.vector.ids stands
+drops key (Reported report) stands = false
+drops key (Heard report) stands = false
+drops key (Swept moment expired) stands = names key expired
+
+-- the changes that came in since the key was last dropped
+abbrev pub lasting : List ℕ → List Deed → List Change
+lasting key [] = []
+lasting key (deed ∷ past) = if drops key deed (winner key (lasting key past)) then [] else came deed past ++ lasting key past
 
 -- the change that stands at the key: the one that won
 abbrev pub standing : List ℕ → List Deed → Option Change
-standing key past = winner key (changes past)
+standing key past = winner key (lasting key past)
 
 -- the value that is present at the key
 abbrev pub present : List ℕ → List Deed → Option (List Field)
-present key past = holds key (changes past)
-
--- The member's greatest region version among these changes, or 0.
-abbrev pub top_of : ℕ → List Change → ℕ
-top_of member [] = 0
-top_of member (change ∷ past) = if change.stamp.member == member then max change.stamp.rv (top_of member past) else top_of member past
-
--- the member's greatest region version that came in
-abbrev pub top : ℕ → List Deed → ℕ
-top member past = top_of member (changes past)
-
--- the floor of versions, which begins with an opening floor
-abbrev pub floor : ℕ → List Deed → ℕ
-floor opening [] = opening
-floor opening (Call client seq ask reply made to ∷ past) = floor opening past
+present key past = holds key (lasting key past)

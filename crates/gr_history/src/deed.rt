@@ -1,9 +1,10 @@
 ghost use Rattle.std.specs.Prelude.{◌≡◌, IfOk};
 ghost use Rattle.gr_history.specs.Deeds.{is_of_client, is_discarded, is_repeat};
 
-use crate::{Ask, Reply};
+use crate::{Ask, Image, Reply, Verdict, What};
 use gr_stamp::Change;
-use gr_value::{Copied, Memory};
+use gr_value::{Copied, KeyList, Memory};
+use gr_vector::Report;
 use std::alloc::Global;
 
 /// One entry of a history.
@@ -19,15 +20,43 @@ pub enum Deed {
         made: Option<Change>,
         to: u8,
     },
+    /// A change came, and what became of it.
+    Taken {
+        change: Change,
+        verdict: Verdict,
+    },
+    /// A joiner was given something.
+    Gave {
+        to: u8,
+        what: What,
+    },
+    /// An image was merged.
+    Imaged {
+        image: Image,
+    },
+    /// A report was made.
+    Reported {
+        report: Report,
+    },
+    /// Another member's report was heard.
+    Heard {
+        report: Report,
+    },
+    /// A sweep at a moment, and the keys whose tombstones expired, in order.
+    Swept {
+        moment: u64,
+        expired: KeyList,
+    },
 }
 
 impl Deed {
-    /// Whether it is a deed of this client.
+    /// Whether it is a call of this client.
     pub fn is_of(&self, client: u8) -> bool
         ensures { result ≡ is_of_client client self.now }
     {
         match self {
             Deed::Call { client: own, .. } => *own == client,
+            _ => false,
         }
     }
 
@@ -36,9 +65,13 @@ impl Deed {
     pub fn is_discarded(&self) -> bool
         ensures { result ≡ is_discarded self.now }
     {
-        match self {
-            Deed::Call { .. } => false,
-        }
+        matches!(
+            self,
+            Deed::Taken {
+                verdict: Verdict::Discarded,
+                ..
+            }
+        )
     }
 
     /// Whether it takes in a change that came in before.
@@ -46,9 +79,13 @@ impl Deed {
     pub fn is_repeat(&self) -> bool
         ensures { result ≡ is_repeat self.now }
     {
-        match self {
-            Deed::Call { .. } => false,
-        }
+        matches!(
+            self,
+            Deed::Taken {
+                verdict: Verdict::Repeat,
+                ..
+            }
+        )
     }
 }
 
@@ -69,6 +106,27 @@ impl Copied for Deed {
                 reply: reply.copy(alloc)?,
                 made: made.copy(alloc)?,
                 to: *to,
+            }),
+            Deed::Taken { change, verdict } => Ok(Deed::Taken {
+                change: change.copy(alloc)?,
+                verdict: *verdict,
+            }),
+            Deed::Gave { to, what } => Ok(Deed::Gave {
+                to: *to,
+                what: *what,
+            }),
+            Deed::Imaged { image } => Ok(Deed::Imaged {
+                image: image.copy(alloc)?,
+            }),
+            Deed::Reported { report } => Ok(Deed::Reported {
+                report: report.copy(alloc)?,
+            }),
+            Deed::Heard { report } => Ok(Deed::Heard {
+                report: report.copy(alloc)?,
+            }),
+            Deed::Swept { moment, expired } => Ok(Deed::Swept {
+                moment: *moment,
+                expired: expired.copy(alloc)?,
             }),
         }
     }

@@ -6,16 +6,20 @@ mod deed;
 mod done;
 mod history;
 mod identity;
+mod image;
 mod record;
 mod reply;
+mod verdict;
 
 pub use ask::Ask;
 pub use deed::Deed;
 pub use done::Done;
 pub use history::History;
 pub use identity::Identity;
+pub use image::{Gift, Image, What};
 pub use record::{
     Answer, AnswerList, ClientRecord, ClientRecordList, MemberRecord, MemberRecordList, Record,
     Region, ShardRecord, ShardRecordList,
 };
 pub use reply::{Reply, Told};
+pub use verdict::Verdict;

@@ -1,6 +1,7 @@
 use crate::{History, Reply};
 use gr_stamp::ChangeList;
 use gr_value::ItemList;
+use gr_vector::Vector;
 
 /// What stands at a shard after its last deed.
 #[derive(Drop)]
@@ -10,6 +11,8 @@ pub struct Region {
     /// How many keys have a removal standing.
     pub tombstones: u64,
     pub floor: u64,
+    /// All ids that are known.
+    pub vector: Vector,
 }
 
 /// What a run leaves of one shard.

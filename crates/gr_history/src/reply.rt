@@ -17,6 +17,8 @@ pub enum Reply {
     /// It wasn't, and nothing was changed.
     No,
     NotFound,
+    /// The member hasn't joined yet, and nothing was changed.
+    NotReady,
     /// A version number would pass its greatest value, and nothing was changed.
     Limit,
 }
@@ -30,6 +32,7 @@ impl Copied for Reply {
             Reply::Yes => Ok(Reply::Yes),
             Reply::No => Ok(Reply::No),
             Reply::NotFound => Ok(Reply::NotFound),
+            Reply::NotReady => Ok(Reply::NotReady),
             Reply::Limit => Ok(Reply::Limit),
         }
     }

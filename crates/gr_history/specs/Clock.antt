@@ -1,0 +1,30 @@
+-- A shard's clock, and when what stands at a key came in.
+use Rattle.std.specs.Prelude.{ℕ, List, [], ◌∷◌, Bool, false, max, Option, Some, None, if◌then◌else◌}
+use Rattle.gr_stamp.specs.declared.change.Change.{Change}
+use Rattle.gr_vector.specs.Ids.{is_same_id}
+use Rattle.gr_history.specs.declared.deed.Deed.{Deed}
+use Rattle.gr_history.specs.declared.deed.Deed.TheVariants.{Call, Taken, Gave, Imaged, Reported, Heard, Swept}
+use Rattle.gr_history.specs.Ids.{id_of}
+use Rattle.gr_history.specs.Standing.{standing}
+
+-- the greatest moment of a sweep, or 0
+abbrev pub clock : List Deed → ℕ
+clock [] = 0
+clock (Call client seq ask reply made to ∷ past) = clock past
+clock (Taken change verdict ∷ past) = clock past
+clock (Gave to what ∷ past) = clock past
+clock (Imaged image ∷ past) = clock past
+clock (Reported report ∷ past) = clock past
+clock (Heard report ∷ past) = clock past
+clock (Swept moment expired ∷ past) = max moment (clock past)
+
+-- whether one change stands in both places
+abbrev pub is_same_standing : Option Change → Option Change → Bool
+is_same_standing None other = false
+is_same_standing (Some change) None = false
+is_same_standing (Some change) (Some other) = is_same_id (id_of change) (id_of other)
+
+-- the clock when what stands at the key came in
+abbrev pub since : List ℕ → List Deed → ℕ
+since key [] = 0
+since key (deed ∷ past) = if is_same_standing (standing key (deed ∷ past)) (standing key past) then since key past else clock past

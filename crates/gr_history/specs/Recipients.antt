@@ -1,0 +1,43 @@
+-- Which members are ready, and whom a change goes to.
+use Rattle.std.specs.Prelude.{ℕ, zero, suc, ◌+◌, ◌^◌, List, [], ◌∷◌, Bool, true, false, ◌&&◌, ◌||◌, ◌==◌, not, nat_le, if◌then◌else◌}
+use Rattle.gr_history.specs.declared.identity.Identity.{Identity}
+use Rattle.gr_history.specs.declared.deed.Deed.{Deed}
+use Rattle.gr_history.specs.declared.deed.Deed.TheVariants.{Call, Taken, Gave, Imaged, Reported, Heard, Swept}
+
+-- whether an image was merged
+abbrev pub has_image : List Deed → Bool
+has_image [] = false
+has_image (Call client seq ask reply made to ∷ past) = has_image past
+has_image (Taken change verdict ∷ past) = has_image past
+has_image (Gave to what ∷ past) = has_image past
+has_image (Imaged image ∷ past) = true
+has_image (Reported report ∷ past) = has_image past
+has_image (Heard report ∷ past) = has_image past
+has_image (Swept moment expired ∷ past) = has_image past
+
+-- Founders are ready from the start, others once they have merged an image.
+abbrev pub is_ready : Identity → List Deed → Bool
+is_ready id past = nat_le id.member id.founders || has_image past
+
+-- whether the member was given something
+abbrev pub gave_to : ℕ → List Deed → Bool
+gave_to member [] = false
+gave_to member (Call client seq ask reply made to ∷ past) = gave_to member past
+gave_to member (Taken change verdict ∷ past) = gave_to member past
+gave_to member (Gave to what ∷ past) = to == member || gave_to member past
+gave_to member (Imaged image ∷ past) = gave_to member past
+gave_to member (Reported report ∷ past) = gave_to member past
+gave_to member (Heard report ∷ past) = gave_to member past
+gave_to member (Swept moment expired ∷ past) = gave_to member past
+
+-- A change goes to the founders and to the members that were given something, but not to its maker.
+abbrev pub is_recipient : Identity → List Deed → ℕ → Bool
+is_recipient id past member = (nat_le member id.founders || gave_to member past) && not (member == id.member)
+
+-- the members from 1 to n that pass the test, with bit m - 1 for member m
+abbrev pub member_bits : (ℕ → Bool) → ℕ → ℕ
+member_bits test zero = 0
+member_bits test (suc n) = member_bits test n + (if test (suc n) then 2 ^ n else 0)
+
+unfoldable pub recipients : Identity → List Deed → ℕ
+recipients id past = member_bits (is_recipient id past) 8

@@ -1,0 +1,62 @@
+-- Which tombstones are stable, and which a sweep lets expire.
+use Rattle.std.specs.Prelude.{ℕ, zero, suc, ◌-◌, List, [], ◌∷◌, Bool, true, false, ◌&&◌, ◌||◌, ◌==◌, nat_le, nat_lt, max, filter, Option, Some, None, if◌then◌else◌}
+use Rattle.gr_stamp.specs.declared.change.Change.{Change}
+use Rattle.gr_vector.specs.declared.report.Report.{Report}
+use Rattle.gr_vector.specs.Ids.{Id, has_id, covers}
+use Rattle.gr_history.specs.declared.identity.Identity.{Identity}
+use Rattle.gr_history.specs.declared.deed.Deed.{Deed}
+use Rattle.gr_history.specs.declared.deed.Deed.TheVariants.{Call, Taken, Gave, Imaged, Reported, Heard, Swept}
+use Rattle.gr_history.specs.Ids.{id_of, ids}
+use Rattle.gr_history.specs.Standing.{changes, standing}
+use Rattle.gr_history.specs.Floor.{is_removal}
+use Rattle.gr_history.specs.Clock.{clock, since}
+use Rattle.gr_history.specs.Regions.{keys_of}
+
+-- whether a report was made at a later place than the one that counted so far
+abbrev pub is_later : Report → Option Report → Bool
+is_later report None = true
+is_later report (Some before) = nat_lt before.at report.at
+
+-- Of the reports of a member that were heard, the one with the greatest place counts, of several the first.
+abbrev pub last_heard : ℕ → List Deed → Option Report
+last_heard member [] = None
+last_heard member (Call client seq ask reply made to ∷ past) = last_heard member past
+last_heard member (Taken change verdict ∷ past) = last_heard member past
+last_heard member (Gave to what ∷ past) = last_heard member past
+last_heard member (Imaged image ∷ past) = last_heard member past
+last_heard member (Reported report ∷ past) = last_heard member past
+last_heard member (Heard report ∷ past) =
+    if report.member == member && is_later report (last_heard member past) then Some report else last_heard member past
+last_heard member (Swept moment expired ∷ past) = last_heard member past
+
+-- whether a member reported that it knows the tombstone, and all that it had made by then is known here
+abbrev pub is_covered : ℕ → Id → Option Report → List Id → Bool
+is_covered member tombstone None ids = false
+is_covered member tombstone (Some report) ids = has_id tombstone report.vector.ids && covers member report.own ids
+
+-- whether that is so of each of the members from 1 to n but this one
+abbrev pub is_stable_upto : ℕ → ℕ → Id → List Deed → Bool
+is_stable_upto me zero tombstone past = true
+is_stable_upto me (suc n) tombstone past =
+    (suc n == me || is_covered (suc n) tombstone (last_heard (suc n) past) (ids past)) && is_stable_upto me n tombstone past
+
+abbrev pub is_stable : Identity → Id → List Deed → Bool
+is_stable id tombstone past = is_stable_upto id.member id.members tombstone past
+
+-- how many seconds after it came in a tombstone has timed out
+abbrev pub timeout : ℕ
+timeout = 600
+
+-- whether what stands, which came in at a time, is a tombstone that has timed out and is stable
+abbrev pub is_due_from : Identity → ℕ → Option Change → ℕ → List Deed → Bool
+is_due_from id moment None from past = false
+is_due_from id moment (Some change) from past =
+    is_removal change.kind && (nat_le timeout (max moment (clock past) - from) && is_stable id (id_of change) past)
+
+-- whether a sweep at the moment lets the key's tombstone expire
+abbrev pub is_due : Identity → ℕ → List Deed → List ℕ → Bool
+is_due id moment past key = is_due_from id moment (standing key past) (since key past) past
+
+-- the keys whose tombstones expire, in order
+abbrev pub due : Identity → ℕ → List Deed → List (List ℕ)
+due id moment past = filter (is_due id moment past) (keys_of (changes past))
