@@ -21,13 +21,17 @@ use Rattle.gr_history.specs.declared.reply.Reply.{Reply}
 use Rattle.gr_history.specs.declared.deed.Deed.{Deed}
 use Rattle.gr_history.specs.declared.deed.Deed.TheVariants.{Call}
 use Rattle.gr_history.specs.Asks.{key_of, told}
-use Rattle.gr_history.specs.Standing.{changes, standing, present, top_of, floor}
-use Rattle.gr_history.specs.Calls.{call_gives, ver_of, greatest}
+use Rattle.gr_vector.specs.Ids.{Id, top}
+use Rattle.gr_history.specs.Ids.{id_of, ids}
+use Rattle.gr_history.specs.Floor.{floor}
+use Rattle.gr_history.specs.Standing.{lasting, standing, present}
+use Rattle.gr_history.specs.Calls.{call_gives, ver_of, reach, last_rv}
 use Rattle.gr_history.specs.Regions.{with_key}
 use Rattle.gr_shard.specs.declared.entries.Held.{Held}
-use Rattle.gr_shard.specs.Entries.{Entries, Entered, held_of}
+use Rattle.gr_vector.specs.Order.{with_id}
+use Rattle.gr_shard.specs.Entries.{Entries, Entered, held_of, with_made}
 use Rattle.gr_shard.specs.View.{IsKept}
-use Rattle.gr_shard.proofs.Made.{IsMade, made_by_given}
+use Rattle.gr_shard.proofs.Made.{IsMade, made_by_given, ready_here, ready_call}
 
 -- the keys of entries with one more
 keys-insert_entry : (entries : List (List ℕ × Held)) (key : List ℕ) (held : Held)
@@ -51,7 +55,7 @@ makes_win id opening past key change made (Some before) ver = grind (arith, nat_
 -- What stands once a change was made: it stands at its key, and at other keys what stood before.
 stands_after : (q : List ℕ) (change : Change) (past : List Deed) (same : Bool) → bytes_eq change.key q ≡ same
     → (same ≡ true → wins change (standing q past) ≡ true)
-    → winner q (change ∷ changes past) ≡ (if same then Some change else standing q past)
+    → winner q (change ∷ lasting q past) ≡ (if same then Some change else standing q past)
 stands_after q change past true is win = rw (is, win refl) refl
 stands_after q change past false is win = rw is refl
 
@@ -67,20 +71,24 @@ held_or : (same : Bool) (change : Change) (before : Option Change)
 held_or true change before = refl
 held_or false change before = refl
 
-top_of-more : (member : ℕ) (change : Change) (past : List Change) → change.stamp.member ≡ member → change.stamp.rv ≡ 1 + top_of member past
-    → top_of member past + 1 ≡ top_of member (change ∷ past)
-top_of-more member change past member_is rv_is = grind (arith, nat_tests)
+top-more : (member : ℕ) (change : Change) (before : List Id) → change.stamp.member ≡ member → change.stamp.rv ≡ 1 + top member before
+    → top member before + 1 ≡ top member (id_of change ∷ before)
+top-more member change before member_is rv_is = grind (arith, nat_tests)
 
-module _ (id : Identity) (opening floor_now : ℕ) (old new : Entries) (made : ℕ) (past : List Deed) (client seq : ℕ) (ask : Ask) where
+module _ (id : Identity) (opening floor_now : ℕ) (old new : Entries) (made : ℕ) (vector : List Id)
+    (past : List Deed) (client seq : ℕ) (ask : Ask) where
   -- Kept before a call, all is kept after it.
-  pub kept_after : (reply : Reply) (change : Option Change) (to : ℕ) → IsKept id opening floor_now old made past
+  pub kept_after : (reply : Reply) (change : Option Change) (to : ℕ) → IsKept id opening floor_now old made vector past
       → shard_of (key_of ask) id.shards ≡ id.shard
       → record { reply = reply; made = change; to = to } ≡ call_gives id opening past ask
       → Entered old new change
-      → IsKept id opening floor_now new (made + length (option_to_list change)) (Call client seq ask reply change to ∷ past)
+      → IsKept id opening floor_now new (made + length (option_to_list change)) (with_made change vector)
+      (Call client seq ask reply change to ∷ past)
   kept_after reply None to kept here gives same = record {
     place = kept.place;
+    quiet = record { no_image = kept.quiet.no_image; no_gift = kept.quiet.no_gift };
     lawful = (gives, kept.lawful);
+    noted = kept.noted;
     of_shard = kept.of_shard;
     stands = λ q. rw same (kept.stands q);
     in_order = rw same kept.in_order;
@@ -92,13 +100,16 @@ module _ (id : Identity) (opening floor_now : ℕ) (old new : Entries) (made : �
   kept_after reply (Some change) to kept here gives entered =
       let answer = told ask (present (key_of ask) past) in
       let is : IsMade id opening past (key_of ask) change =
-      made_by_given id opening past (key_of ask) answer.reply answer.change change (ap (λ d. d.made) (sym gives)) in
+      made_by_given id opening past (key_of ask) answer.reply answer.change change
+      (ap (λ d. d.made) (sym (ready_call id opening past ask (ready_here id opening past kept.place)) ∙ sym gives)) in
       let win : (q : List ℕ) → bytes_eq change.key q ≡ true → wins change (standing q past) ≡ true = λ q same.
       let here_is : key_of ask ≡ q = sym is.key_is ∙ (bytes_eq-Decides change.key q).0 same in
       makes_win id opening past (key_of ask) change is (standing q past)
       (subst (λ k. change.stamp.ver ≡ 1 + max (ver_of (standing k past)) (floor opening past)) here_is is.ver_is) in
       record {
         place = kept.place;
+        quiet = record { no_image = kept.quiet.no_image; no_gift = kept.quiet.no_gift };
+        noted = ap (with_id (id_of change)) kept.noted;
         lawful = (gives, kept.lawful);
         of_shard = (ap (λ k. shard_of k id.shards) is.key_is ∙ here, kept.of_shard);
         stands = λ q. entry_after q change.key (held_of change) old new (bytes_eq change.key q) refl entered.0
@@ -107,8 +118,8 @@ module _ (id : Identity) (opening floor_now : ℕ) (old new : Entries) (made : �
             ∙ ap (option_map held_of) (sym (stands_after q change past (bytes_eq change.key q) refl (win q)));
         in_order = ap keys_in entered.1 ∙ keys-insert_entry old.entries change.key (held_of change)
             ∙ ap (with_key change.key) kept.in_order;
-        counted = ap (λ n. n + 1) kept.counted ∙ top_of-more id.member change (changes past) is.member_is is.rv_is;
-        within = let below : greatest id opening past (key_of ask) < LIMIT = is.below in let counted = kept.counted in omega arith;
+        counted = ap (λ n. n + 1) kept.counted ∙ top-more id.member change (ids past) is.member_is is.rv_is;
+        within = let below : max (reach opening (key_of ask) past) (last_rv id past) < LIMIT = is.below in let counted = kept.counted in omega arith;
         floored = kept.floored;
         low = kept.low;
       }

@@ -15,8 +15,9 @@ use Rattle.gr_stamp.proofs.Winning.{winner-found}
 use Rattle.gr_history.specs.declared.identity.Identity.{Identity}
 use Rattle.gr_history.specs.declared.deed.Deed.{Deed}
 use Rattle.gr_history.specs.declared.record.Region.{Region}
-use Rattle.gr_history.specs.Standing.{changes, standing}
-use Rattle.gr_history.specs.Regions.{all_standing, region_of}
+use Rattle.gr_vector.specs.Ids.{Id}
+use Rattle.gr_history.specs.Standing.{lasting, standing}
+use Rattle.gr_history.specs.Regions.{all_standing, IsRegionOf}
 use Rattle.gr_shard.specs.declared.entries.Held.{Held}
 use Rattle.gr_shard.specs.Entries.{Entries, held_of, change_of, changes_in, puts_of, removals_of}
 use Rattle.gr_shard.specs.View.{IsKept}
@@ -40,21 +41,26 @@ found_all find (entry ∷ entries) at =
     rw (at 0 entry.0 entry.1 refl) (ap (λ rest. change_of entry.0 entry.1 ∷ rest)
     (found_all find entries (λ i key held is. at (suc i) key held is)))
 
-pub changes_in-kept : (id : Identity) (opening floor : ℕ) (entries : Entries) (made : ℕ) (past : List Deed)
-    → IsKept id opening floor entries made past
+pub changes_in-kept : (id : Identity) (opening floor : ℕ) (entries : Entries) (made : ℕ) (vector : List Id) (past : List Deed)
+    → IsKept id opening floor entries made vector past
     → IsOrdered (slice_cmp nat_cmp) entries → changes_in entries.entries ≡ all_standing past
-changes_in-kept id opening floor entries made past kept ordered =
+changes_in-kept id opening floor entries made vector past kept ordered =
     sym (found_all (λ key. standing key past) entries.entries (λ i key held is.
-    is_held key held (changes past) (standing key past) (winner-found key (changes past))
+    is_held key held (lasting key past) (standing key past) (winner-found key (lasting key past))
     (sym (kept.stands key) ∙ btree_map_get_place (lists_total nat_cmp_total) entries i key held ordered is)))
     ∙ ap (filter_map (λ key. standing key past)) kept.in_order
 
-pub region-kept : (id : Identity) (opening floor : ℕ) (entries : Entries) (made : ℕ) (past : List Deed)
-    → IsKept id opening floor entries made past
+pub region-kept : (id : Identity) (opening floor : ℕ) (entries : Entries) (made : ℕ) (vector : List Id) (past : List Deed)
+    → IsKept id opening floor entries made vector past
     → IsOrdered (slice_cmp nat_cmp) entries → (region : Region)
-    → region ≡ record { rows = puts_of (changes_in entries.entries); tombstones = removals_of (changes_in entries.entries); floor = floor }
-    → region ≡ region_of opening past
-region-kept id opening floor entries made past kept ordered region is =
-    let made_of : List Change → ℕ → Region = λ all f. record { rows = puts_of all; tombstones = removals_of all; floor = f } in
-    is ∙ ap (λ all. made_of all floor) (changes_in-kept id opening floor entries made past kept ordered)
-    ∙ ap (made_of (all_standing past)) kept.floored
+    → region.rows ≡ puts_of (changes_in entries.entries) → region.tombstones ≡ removals_of (changes_in entries.entries)
+    → region.floor ≡ floor → region.vector.ids ≡ vector
+    → IsRegionOf opening past region
+region-kept id opening floor entries made vector past kept ordered region rows tombstones floor_is vector_is =
+    let same = changes_in-kept id opening floor entries made vector past kept ordered in
+    record {
+      rows_are = rows ∙ ap puts_of same;
+      tombstones_are = tombstones ∙ ap removals_of same;
+      floor_is = floor_is ∙ kept.floored;
+      vector_is = vector_is ∙ kept.noted;
+    }

@@ -12,9 +12,15 @@ use Rattle.gr_history.specs.declared.reply.Reply.{Reply}
 use Rattle.gr_history.specs.declared.reply.Reply.TheVariants.{Limit}
 use Rattle.gr_history.specs.declared.deed.Deed.{Deed}
 use Rattle.gr_history.specs.declared.done.Done.{Done}
-use Rattle.gr_history.specs.Standing.{standing, top, floor}
-use Rattle.gr_history.specs.Calls.{member_bits, ver_of, greatest, made_change, given, recipients}
+use Rattle.gr_vector.specs.Ids.{top}
+use Rattle.gr_history.specs.declared.ask.Ask.{Ask}
+use Rattle.gr_history.specs.Ids.{ids}
+use Rattle.gr_history.specs.Standing.{standing}
+use Rattle.gr_history.specs.Floor.{floor}
+use Rattle.gr_history.specs.Recipients.{member_bits, recipients, is_ready}
+use Rattle.gr_history.specs.Calls.{ver_of, reach, last_rv, made_change, given, ready_gives, call_gives}
 use Rattle.gr_shard.specs.Entries.{held_of, held_ver}
+use Rattle.gr_shard.specs.View.{IsPlace}
 
 -- The bits of one member more: its own bit is there where the member passes the test.
 bits_at : (test : ℕ → Bool) (n bit : ℕ) → bit ≡ 2 ^ n → member_bits test (n + 1) ≡ member_bits test n + (if test (n + 1) then bit else 0)
@@ -44,14 +50,14 @@ value-held_of (Some change) = refl
 
 -- Where no number would pass its limit, this is made.
 pub given-made : (id : Identity) (opening : ℕ) (past : List Deed) (key : List ℕ) (reply : Reply) (kind : Kind) (version : Version)
-    → IsInRange (max (ver_of (standing key past)) (floor opening past) + 1) id.member (top id.member past + 1)
-    → record { ver = max (ver_of (standing key past)) (floor opening past) + 1; member = id.member; rv = top id.member past + 1 } ≡ version
+    → IsInRange (max (ver_of (standing key past)) (floor opening past) + 1) id.member (top id.member (ids past) + 1)
+    → record { ver = max (ver_of (standing key past)) (floor opening past) + 1; member = id.member; rv = top id.member (ids past) + 1 } ≡ version
     → record { reply = reply; made = Some record { key = key; kind = kind; stamp = version }; to = recipients id past }
     ≡ given id opening past key reply (Some kind)
 given-made id opening past key reply kind version range is =
     let ver = max (ver_of (standing key past)) (floor opening past) in
-    let rv = top id.member past in
-    let within : nat_le LIMIT (greatest id opening past key) ≡ false = grind (arith, nat_tests) in
+    let rv = top id.member (ids past) in
+    let within : nat_le LIMIT (max (reach opening key past) (last_rv id past)) ≡ false = grind (arith, nat_tests) in
     let stamp : ℕ → ℕ → Version = λ v r. record { ver = v; member = id.member; rv = r } in
     let done : Version → Done = λ v. record {
       reply = reply;
@@ -65,7 +71,7 @@ given-made id opening past key reply kind version range is =
 
 -- Where a number would pass its limit, nothing is made.
 pub given-spent : (id : Identity) (opening : ℕ) (past : List Deed) (key : List ℕ) (reply : Reply) (kind : Kind)
-    → nat_le LIMIT (greatest id opening past key) ≡ true
+    → nat_le LIMIT (max (reach opening key past) (last_rv id past)) ≡ true
     → record { reply = Limit; made = None; to = 0 } ≡ given id opening past key reply (Some kind)
 given-spent id opening past key reply kind spent = rw spent refl
 
@@ -74,11 +80,11 @@ pub record IsMade (id : Identity) (opening : ℕ) (past : List Deed) (key : List
   pub key_is : change.key ≡ key
   pub ver_is : change.stamp.ver ≡ 1 + max (ver_of (standing key past)) (floor opening past)
   pub member_is : change.stamp.member ≡ id.member
-  pub rv_is : change.stamp.rv ≡ 1 + top id.member past
-  pub below : greatest id opening past key < LIMIT
+  pub rv_is : change.stamp.rv ≡ 1 + top id.member (ids past)
+  pub below : max (reach opening key past) (last_rv id past) < LIMIT
 
 made_by : (id : Identity) (opening : ℕ) (past : List Deed) (key : List ℕ) (reply : Reply) (kind : Kind) (change : Change) (spent : Bool)
-    → nat_le LIMIT (greatest id opening past key) ≡ spent
+    → nat_le LIMIT (max (reach opening key past) (last_rv id past)) ≡ spent
     → (let done : Done = if spent then record { reply = Limit; made = None; to = 0 }
     else record { reply = reply; made = Some (made_change id opening past key kind); to = recipients id past } in
     done.made ≡ Some change)
@@ -102,25 +108,25 @@ made_by_given id opening past key reply (Some kind) change is = made_by id openi
 -- The same of what the code has at hand: the version to pass, the count of changes, the copy of the key.
 pub made_here : (id : Identity) (opening : ℕ) (past : List Deed) (key copy : List ℕ) (reply : Reply) (kind : Kind) (version : Version)
     (base made to : ℕ)
-    → base ≡ max (ver_of (standing key past)) (floor opening past) → made ≡ top id.member past → to ≡ recipients id past → copy ≡ key
+    → base ≡ max (ver_of (standing key past)) (floor opening past) → made ≡ top id.member (ids past) → to ≡ recipients id past → copy ≡ key
     → IsInRange (base + 1) id.member (made + 1) × (record { ver = base + 1; member = id.member; rv = made + 1 } ≡ version)
     → record { reply = reply; made = Some record { key = copy; kind = kind; stamp = version }; to = to }
     ≡ given id opening past key reply (Some kind)
 made_here id opening past key copy reply kind version base made to base_is made_is to_is copy_is fits =
-    let range : IsInRange (max (ver_of (standing key past)) (floor opening past) + 1) id.member (top id.member past + 1) =
+    let range : IsInRange (max (ver_of (standing key past)) (floor opening past) + 1) id.member (top id.member (ids past) + 1) =
     rw (← base_is, ← made_is) fits.0 in
     let stamp : ℕ → ℕ → Version = λ v r. record { ver = v + 1; member = id.member; rv = r + 1 } in
-    let is : stamp (max (ver_of (standing key past)) (floor opening past)) (top id.member past) ≡ version =
+    let is : stamp (max (ver_of (standing key past)) (floor opening past)) (top id.member (ids past)) ≡ version =
     rw (← base_is, ← made_is) fits.1 in
     rw (to_is, copy_is) (given-made id opening past key reply kind version range is)
 
 not_in_range : (id : Identity) (opening : ℕ) (past : List Deed) (key : List ℕ) (base made : ℕ) (spent : Bool)
-    → base ≡ max (ver_of (standing key past)) (floor opening past) → made ≡ top id.member past
+    → base ≡ max (ver_of (standing key past)) (floor opening past) → made ≡ top id.member (ids past)
     → 1 ≤ id.member → id.member ≤ 8 → (IsInRange (base + 1) id.member (made + 1) → ⊥)
-    → nat_le LIMIT (greatest id opening past key) ≡ spent → spent ≡ true
+    → nat_le LIMIT (max (reach opening key past) (last_rv id past)) ≡ spent → spent ≡ true
 not_in_range id opening past key base made true base_is made_is from to out is = refl
 not_in_range id opening past key base made false base_is made_is from to out is =
-    let below : greatest id opening past key < LIMIT = grind (arith, nat_tests) in
+    let below : max (reach opening key past) (last_rv id past) < LIMIT = grind (arith, nat_tests) in
     absurd (out record {
       ver_from = omega arith;
       ver_to = omega arith;
@@ -132,8 +138,19 @@ not_in_range id opening past key base made false base_is made_is from to out is 
     })
 
 pub spent_here : (id : Identity) (opening : ℕ) (past : List Deed) (key : List ℕ) (reply : Reply) (kind : Kind) (base made : ℕ)
-    → base ≡ max (ver_of (standing key past)) (floor opening past) → made ≡ top id.member past
+    → base ≡ max (ver_of (standing key past)) (floor opening past) → made ≡ top id.member (ids past)
     → 1 ≤ id.member → id.member ≤ 8 → (IsInRange (base + 1) id.member (made + 1) → ⊥)
     → record { reply = Limit; made = None; to = 0 } ≡ given id opening past key reply (Some kind)
 spent_here id opening past key reply kind base made base_is made_is from to out =
     given-spent id opening past key reply kind (not_in_range id opening past key base made _ base_is made_is from to out refl)
+
+-- All members are founders, so each is ready.
+pub ready_here : (id : Identity) (opening : ℕ) (past : List Deed) → IsPlace id opening → is_ready id past ≡ true
+ready_here id opening past place =
+    let within : id.member ≤ id.founders = omega (arith, place.stated, place.founded) in
+    let founder : nat_le id.member id.founders ≡ true = grind (arith, nat_tests) in
+    rw founder refl
+
+pub ready_call : (id : Identity) (opening : ℕ) (past : List Deed) (ask : Ask) → is_ready id past ≡ true
+    → call_gives id opening past ask ≡ ready_gives id opening past ask
+ready_call id opening past ask ready = rw ready refl

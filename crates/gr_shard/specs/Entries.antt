@@ -4,7 +4,10 @@ use Rattle.std.specs.Ordering.{nat_cmp}
 use Rattle.std.specs.Cmp.Lexicographic.{slice_cmp}
 use Rattle.std.specs.BTreeMap.{BTreeMap, insert_entry, Updates}
 use Rattle.gr_stamp.specs.declared.change.Change.{Change}
-use Rattle.gr_history.specs.Regions.{puts}
+use Rattle.gr_vector.specs.Ids.{Id}
+use Rattle.gr_vector.specs.Order.{with_id}
+use Rattle.gr_history.specs.Ids.{id_of}
+use Rattle.gr_history.specs.Floor.{is_removal}
 use Rattle.gr_shard.specs.declared.entries.Held.{Held}
 
 abbrev pub held_of : Change → Held
@@ -33,7 +36,12 @@ abbrev pub changes_in : List (List ℕ × Held) → List Change
 changes_in entries = map (λ entry. change_of entry.0 entry.1) entries
 
 abbrev pub puts_of : List Change → List Change
-puts_of changes = filter (λ change. puts change.kind) changes
+puts_of changes = filter (λ change. not (is_removal change.kind)) changes
 
 abbrev pub removals_of : List Change → ℕ
-removals_of changes = count_by (λ change. not (puts change.kind)) changes
+removals_of changes = count_by (λ change. is_removal change.kind) changes
+
+-- the ids with that of what was made, if anything was
+abbrev pub with_made : Option Change → List Id → List Id
+with_made None ids = ids
+with_made (Some change) ids = with_id (id_of change) ids

@@ -8,6 +8,7 @@ use crate::entries::Held;
 use gr_history::Region;
 use gr_stamp::{Change, ChangeList, Kind};
 use gr_value::{Copied, Key, Memory};
+use gr_vector::Vector;
 use std::alloc::Global;
 use std::collections::BTreeMap;
 
@@ -29,12 +30,16 @@ fn push_put(alloc: Global, rows: &mut ChangeList, key: &Key, held: &Held) -> Res
 }
 
 /// The puts among the entries, and how many are removals.
-pub fn region(alloc: Global, entries: &BTreeMap<Key, Held>, floor: u64) -> Result<Region, Memory>
-    ensures region { IfOk result (λ region. region ≡ record {
-      rows = puts_of (changes_in entries.now.entries);
-      tombstones = removals_of (changes_in entries.now.entries);
-      floor = floor;
-    }) }
+pub fn region(
+    alloc: Global,
+    entries: &BTreeMap<Key, Held>,
+    floor: u64,
+    vector: Vector,
+) -> Result<Region, Memory>
+    ensures rows { IfOk result (λ region. region.rows ≡ puts_of (changes_in entries.now.entries)) }
+    ensures tombstones { IfOk result (λ region. region.tombstones ≡ removals_of (changes_in entries.now.entries)) }
+    ensures floor { IfOk result (λ region. region.floor ≡ floor) }
+    ensures vector { IfOk result (λ region. region.vector.ids ≡ vector.ids) }
     ensures ordered { OnOk result (IsOrdered (slice_cmp nat_cmp) entries.now) }
 {
     let mut rows = ChangeList::new(alloc)?;
@@ -46,5 +51,6 @@ pub fn region(alloc: Global, entries: &BTreeMap<Key, Held>, floor: u64) -> Resul
         rows,
         tombstones,
         floor,
+        vector,
     })
 }

@@ -2,21 +2,24 @@ ghost use Rattle.std.specs.Prelude.{◌≡◌, ◌≤◌, ◌<◌, ◌==◌, [],
 ghost use Rattle.gr_value.specs.Shard.{shard_of};
 ghost use Rattle.gr_history.specs.declared.deed.Deed.TheVariants as deed;
 ghost use Rattle.gr_history.specs.Asks.{key_of};
-ghost use Rattle.gr_history.specs.Calls.{call_gives, given, is_ready, ver_of};
+ghost use Rattle.gr_history.specs.Calls.{call_gives, ready_gives, given, ver_of};
 ghost use Rattle.gr_history.specs.Lawful.{IsLawful, IsOfShard};
-ghost use Rattle.gr_history.specs.Standing.{standing, present, floor};
+ghost use Rattle.gr_history.specs.Standing.{standing, present};
+ghost use Rattle.gr_history.specs.Floor.{floor};
+ghost use Rattle.gr_history.specs.Recipients.{is_ready};
 ghost use Rattle.gr_stamp.specs.Winner.{put_value};
 ghost use Rattle.gr_shard.specs.Entries.{held_ver};
 ghost use Rattle.gr_shard.specs.Records.{IsRecordOf};
 ghost use Rattle.gr_shard.specs.View.{IsPlace};
 
 use crate::entries::{Held, enter, value_of, ver_of};
-use crate::making::{count_with, deed_of, recipients};
+use crate::making::{count_with, deed_of, note_made, recipients};
 use crate::regions::region;
 use crate::told::tells;
 use gr_history::{Ask, Done, History, Identity, Reply, ShardRecord, Told};
 use gr_stamp::{Change, Kind, LIMIT, Stamp};
 use gr_value::{Copied, Key, Memory, Value};
+use gr_vector::Vector;
 use std::alloc::Global;
 use std::collections::BTreeMap;
 use std::marker::Model;
@@ -29,6 +32,7 @@ pub struct Shard {
     floor: u64,
     entries: BTreeMap<Key, Held>,
     made: u64,
+    vector: Vector,
     history: History,
 }
 
@@ -40,7 +44,7 @@ impl Model for Shard {
 
     ghost view = { λ shard. record { id = shard.id; opening = shard.opening; deeds = shard.history.deeds } };
 
-    ghost invariant = { λ shard. IsKept shard.id shard.opening shard.floor shard.entries shard.made (reverse shard.history.deeds) };
+    ghost invariant = { λ shard. IsKept shard.id shard.opening shard.floor shard.entries shard.made shard.vector.ids (reverse shard.history.deeds) };
 }
 
 impl Shard {
@@ -55,6 +59,7 @@ impl Shard {
             floor,
             entries: BTreeMap::new(alloc),
             made: 0,
+            vector: Vector::new(alloc)?,
             history: History::new(alloc)?,
         })
     }
@@ -69,8 +74,10 @@ impl Shard {
         let done = self.gives(alloc, ask)?;
         let deed = deed_of(alloc, client, seq, ask, &done)?;
         self.history.reserve(1)?;
+        self.vector.reserve()?;
         enter(alloc, &mut self.entries, &done.made)?;
         self.made = count_with(self.made, &done.made);
+        note_made(&mut self.vector, &done.made);
         let _ = self.history.push(deed);
         Ok(done)
     }
@@ -108,7 +115,7 @@ impl Shard {
     {
         Ok(ShardRecord {
             history: self.history.copy(alloc)?,
-            region: region(alloc, &self.entries, self.floor)?,
+            region: region(alloc, &self.entries, self.floor, self.vector.copy(alloc)?)?,
         })
     }
 
@@ -117,14 +124,20 @@ impl Shard {
         ensures record_of { IfOk result (IsRecordOf self) }
         ensures lawful { OnOk result (IsLawful self.id self.opening (reverse self.deeds)) }
     {
-        let region = region(alloc, &self.entries, self.floor)?;
-        let Shard { history, .. } = self;
+        let Shard {
+            entries,
+            floor,
+            vector,
+            history,
+            ..
+        } = self;
+        let region = region(alloc, &entries, floor, vector)?;
         Ok(ShardRecord { history, region })
     }
 
     // What the call gives now.
     fn gives(&self, alloc: Global, ask: &Ask) -> Result<Done, Memory>
-        ensures { IfOk result (λ done. done ≡ call_gives self.now.id self.now.opening (reverse self.now.deeds) ask.now) }
+        ensures { IfOk result (λ done. done ≡ ready_gives self.now.id self.now.opening (reverse self.now.deeds) ask.now) }
     {
         let held = self.find(ask.key());
         let Told { reply, change } = tells(alloc, ask, value_of(held))?;

@@ -1,10 +1,8 @@
-use Rattle.std.proofs.Common.{◌≡◌, ◌∙◌, ap, sym, ℕ, ◌-◌, map, length, List, ◌++◌, ◌∷◌, [], rules, arith}
+use Rattle.std.proofs.Common.{◌≡◌, ◌∙◌, ap, sym, map, length, ◌++◌, ◌∷◌, [], rules, arith}
 use Rattle.std.specs.Map.Iter.{deref_pair}
 use Rattle.std.proofs.lemmas.Map.Iter.{iter_end}
 use Rattle.std.proofs.lemmas.List.{map-append}
-use Rattle.gr_stamp.specs.declared.change.Change.{Change}
-use Rattle.gr_history.specs.declared.record.Region.{Region}
-use Rattle.gr_shard.specs.Entries.{changes_in, change_of, puts_of, removals_of}
+use Rattle.gr_shard.specs.Entries.{changes_in, change_of, puts_of}
 use Rattle.gr_shard.proofs.Puts.{puts_of-push, length-puts_of, changes_in-push, length-changes_in}
 use Rattle.gr_shard.proofs.regions.region.Goals as goal
 
@@ -32,12 +30,16 @@ overflow_sub-tombstones c =
       length-changes_in c.args.entries.now.entries,
     )
 
-pub returns-clause-region : goal.returns-clause-region
-returns-clause-region c =
+pub returns-clause-rows : goal.returns-clause-rows
+returns-clause-rows c =
+    let whole : map deref_pair c.loop-key.yielded ≡ c.args.entries.now.entries = search (rules, iter_end) in
+    c.loop-key.invariant ∙ ap (λ entries. puts_of (changes_in entries)) whole
+
+pub returns-clause-tombstones : goal.returns-clause-tombstones
+returns-clause-tombstones c =
     let whole : map deref_pair c.loop-key.yielded ≡ c.args.entries.now.entries = search (rules, iter_end) in
     let rows : c.loop-key.rows ≡ puts_of (changes_in c.args.entries.now.entries) = c.loop-key.invariant
     ∙ ap (λ entries. puts_of (changes_in entries)) whole in
-    let rest : c.len.result - c.len-2.result ≡ removals_of (changes_in c.args.entries.now.entries) =
     omega (
       arith,
       c.len.ensures.len,
@@ -45,6 +47,4 @@ returns-clause-region c =
       ap length rows,
       length-puts_of (changes_in c.args.entries.now.entries),
       length-changes_in c.args.entries.now.entries,
-    ) in
-    let made : List Change → ℕ → Region = λ rows tombstones. record { rows = rows; tombstones = tombstones; floor = c.args.floor } in
-    ap (λ r. made r (c.len.result - c.len-2.result)) rows ∙ ap (made (puts_of (changes_in c.args.entries.now.entries))) rest
+    )

@@ -1,6 +1,7 @@
 use Rattle.std.proofs.Common.{◌≡◌, ◌∙◌, ap, sym, max, reverse, arith}
 use Rattle.gr_history.specs.Calls.{ver_of}
-use Rattle.gr_history.specs.Standing.{standing, floor}
+use Rattle.gr_history.specs.Standing.{standing}
+use Rattle.gr_history.specs.Floor.{floor}
 use Rattle.gr_shard.proofs.Made.{made_here, spent_here}
 use Rattle.gr_shard.proofs.shard.Shard.makes.Goals as goal
 
@@ -27,4 +28,4 @@ returns c =
     rw (← c.self.view_is)
     (made_here was.id was.opening past c.args.key.now c.in_ok-key.key c.args.reply c.args.kind c.in-Some.stamp c.max-base.result was.made
     c.recipients.result
-    base kept.counted (c.recipients.ensures past) c.in_ok-key.ensures (c.in-Some.ensures.0, sym c.in-Some.ensures.1))
+    base kept.counted (c.recipients.ensures past kept.quiet) c.in_ok-key.ensures (c.in-Some.ensures.0, sym c.in-Some.ensures.1))
