@@ -1,3 +1,6 @@
+pub mod Cuts
+pub mod Numerals
+pub mod Pieces
 pub mod Reading
 pub mod Reasons
 pub mod Rules

@@ -2,11 +2,14 @@
 #![tactic(auto)]
 
 mod act;
+mod cuts;
 mod fault;
 mod field;
 mod form;
 mod heading;
 mod line;
+mod numeral;
+mod piece;
 mod reading;
 mod script;
 mod stop;
