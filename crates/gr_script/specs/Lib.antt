@@ -1,7 +1,10 @@
 pub mod Cuts
+pub mod Fields
+pub mod Forms
 pub mod Numerals
 pub mod Pieces
 pub mod Reading
+pub mod ReasonNames
 pub mod Reasons
 pub mod Rules
 pub mod Scripts
