@@ -1,6 +1,8 @@
 pub mod Cuts
 pub mod Fields
 pub mod Forms
+pub mod Halts
+pub mod Items
 pub mod Numerals
 pub mod Pieces
 pub mod Reading
