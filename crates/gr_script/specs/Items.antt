@@ -14,7 +14,7 @@ use Rattle.gr_oql.specs.Question.{Question}
 use Rattle.gr_script.specs.declared.forms.FieldKind.{FieldKind}
 use Rattle.gr_script.specs.declared.forms.FieldKind.TheVariants as field
 use Rattle.gr_script.specs.declared.items.Item.{Item}
-use Rattle.gr_script.specs.declared.items.Item.TheVariants.{Said, Number, Member, Client, Ordinal, Step, Key, Value, Query}
+use Rattle.gr_script.specs.declared.items.Item.TheVariants.{Word, Number, Member, Client, Ordinal, Step, Key, Value, Query}
 use Rattle.gr_script.specs.declared.items.Setting.{Setting}
 use Rattle.gr_script.specs.declared.reason.Reason.{Reason}
 use Rattle.gr_script.specs.declared.reason.Reason.TheVariants as reason
@@ -105,7 +105,7 @@ number_item setting field.Step text = do
   numbers ← dotted (cut 0x2E text)
   client ← stated_client setting numbers.0
   Ok (Step client numbers.1)
-number_item setting _ text = Ok Said
+number_item setting _ text = Ok Word
 
 -- what a field of this kind says
 abbrev pub item_at : Setting → FieldKind → List ℕ → Result Item Reason

@@ -4,10 +4,12 @@ pub mod Forms
 pub mod Halts
 pub mod Items
 pub mod Numerals
+pub mod Past
 pub mod Pieces
 pub mod Reading
 pub mod ReasonNames
 pub mod Reasons
+pub mod Refusals
 pub mod Rules
 pub mod Scripts
 pub mod Spelling

@@ -43,7 +43,7 @@ pub(crate) enum FieldKind {
     /// The region's name.
     Region,
     /// A number from the one to the other.
-    Number { least: u64, most: u64 },
+    Number { least: u128, most: u128 },
     /// The number of a member.
     Member,
     /// The number of a client that is stated.

@@ -15,18 +15,18 @@ use gr_value::{ItemList, Key, Value};
 use std::alloc::Global;
 
 /// The greatest number of a client.
-const MOST_CLIENTS: u64 = 64;
+const MOST_CLIENTS: u128 = 64;
 
 /// What a field of a line says.
 #[derive(Drop)]
 pub(crate) enum Item {
     /// No more than its word.
-    Said,
-    Number(u64),
-    Member(u8),
-    Client(u8),
+    Word,
+    Number(u128),
+    Member(u128),
+    Client(u128),
     Ordinal(u128),
-    Step { client: u8, seq: u128 },
+    Step { client: u128, seq: u128 },
     Key(Key),
     Value(Value),
     Query(Query),
@@ -36,8 +36,8 @@ pub(crate) enum Item {
 #[derive(Drop)]
 pub(crate) struct Setting {
     pub(crate) region: Option<Key>,
-    pub(crate) members: u8,
-    pub(crate) clients: u8,
+    pub(crate) members: u128,
+    pub(crate) clients: u128,
 }
 
 fn number_at(text: &[u8]) -> Result<u128, Halt>
@@ -49,33 +49,31 @@ fn number_at(text: &[u8]) -> Result<u128, Halt>
     }
 }
 
-fn within(least: u64, most: u64, number: u128) -> Result<u64, Halt>
-    ensures exact { Yields (λ number. number) result (within least most number) }
-    ensures bound { IfOk result (λ number. number ≤ most) }
+fn within(least: u128, most: u128, number: u128) -> Result<u128, Halt>
+    ensures { Yields (λ number. number) result (within least most number) }
 {
-    if number < u128::from(least) || u128::from(most) < number {
+    if number < least || most < number {
         Err(Halt::Refused(Reason::Range))
     } else {
-        Ok(number as u64)
+        Ok(number)
     }
 }
 
-fn ranged(least: u64, most: u64, text: &[u8]) -> Result<u64, Halt>
-    ensures exact { Yields (λ number. number) result (ranged least most text.now) }
-    ensures bound { IfOk result (λ number. number ≤ most) }
+fn ranged(least: u128, most: u128, text: &[u8]) -> Result<u128, Halt>
+    ensures { Yields (λ number. number) result (ranged least most text.now) }
 {
     let number = number_at(text)?;
     Ok(within(least, most, number)?)
 }
 
-fn stated_client(setting: &Setting, number: u128) -> Result<u8, Halt>
+fn stated_client(setting: &Setting, number: u128) -> Result<u128, Halt>
     ensures { Yields (λ client. client) result (stated_client setting.now number) }
 {
     let client = within(1, MOST_CLIENTS, number)?;
-    if u64::from(setting.clients) < client {
+    if setting.clients < client {
         Err(Halt::Refused(Reason::Client))
     } else {
-        Ok(client as u8)
+        Ok(client)
     }
 }
 
@@ -162,7 +160,7 @@ fn number_item(setting: &Setting, kind: FieldKind, text: &[u8]) -> Result<Item, 
 {
     match kind {
         FieldKind::Number { least, most } => Ok(Item::Number(ranged(least, most, text)?)),
-        FieldKind::Member => Ok(Item::Member(ranged(1, u64::from(setting.members), text)? as u8)),
+        FieldKind::Member => Ok(Item::Member(ranged(1, setting.members, text)?)),
         FieldKind::Client => Ok(Item::Client(stated_client(setting, number_at(text)?)?)),
         FieldKind::Ordinal => Ok(Item::Ordinal(number_at(text)?)),
         FieldKind::Step => {
@@ -170,7 +168,7 @@ fn number_item(setting: &Setting, kind: FieldKind, text: &[u8]) -> Result<Item, 
             let client = stated_client(setting, client)?;
             Ok(Item::Step { client, seq })
         }
-        _ => Ok(Item::Said),
+        _ => Ok(Item::Word),
     }
 }
 

@@ -16,6 +16,7 @@ mod numeral;
 mod piece;
 mod reading;
 mod reason;
+mod saying;
 mod script;
 mod stop;
 mod text;
