@@ -5,11 +5,11 @@ use Rattle.gr_stamp.specs.declared.change.Kind.{Kind}
 use Rattle.gr_stamp.specs.declared.stamp.TheConstants.{LIMIT}
 use Rattle.gr_history.specs.declared.identity.Identity.{Identity}
 use Rattle.gr_history.specs.declared.ask.Ask.{Ask}
-use Rattle.gr_history.specs.declared.ask.Reply.{Reply}
-use Rattle.gr_history.specs.declared.ask.Reply.TheVariants.{Limit}
+use Rattle.gr_history.specs.declared.reply.Reply.{Reply}
+use Rattle.gr_history.specs.declared.reply.Reply.TheVariants.{Limit}
 use Rattle.gr_history.specs.declared.deed.Deed.{Deed}
 use Rattle.gr_history.specs.declared.done.Done.{Done}
-use Rattle.gr_history.specs.Asks.{key_of, outcome}
+use Rattle.gr_history.specs.Asks.{key_of, told}
 use Rattle.gr_history.specs.Standing.{standing, present, top, floor}
 
 -- the version of what stands, or 0
@@ -59,5 +59,5 @@ given id opening past key reply (Some kind) =
 
 abbrev pub call_gives : Identity → ℕ → List Deed → Ask → Done
 call_gives id opening past ask =
-    let told = outcome ask (present (key_of ask) past) in
-    given id opening past (key_of ask) told.reply told.change
+    let answer = told ask (present (key_of ask) past) in
+    given id opening past (key_of ask) answer.reply answer.change

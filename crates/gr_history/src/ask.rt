@@ -9,7 +9,15 @@ use std::alloc::Global;
 pub enum Ask {
     Get { key: Key },
     Put { key: Key, value: Value },
+    /// Puts where no value is present.
+    PutIfAbsent { key: Key, value: Value },
+    /// Puts where a value is present.
+    Replace { key: Key, value: Value },
+    /// Puts the new value where the old one is present.
+    ReplaceIf { key: Key, old: Value, new: Value },
     Destroy { key: Key },
+    /// Removes where this value is present.
+    Remove { key: Key, value: Value },
 }
 
 impl Ask {
@@ -19,49 +27,42 @@ impl Ask {
         match self {
             Ask::Get { key } => key,
             Ask::Put { key, .. } => key,
+            Ask::PutIfAbsent { key, .. } => key,
+            Ask::Replace { key, .. } => key,
+            Ask::ReplaceIf { key, .. } => key,
             Ask::Destroy { key } => key,
+            Ask::Remove { key, .. } => key,
         }
     }
 }
 
 impl Copied for Ask {
     fn copy(&self, alloc: Global) -> Result<Ask, Memory> {
+        let key = self.key().copy(alloc)?;
         match self {
-            Ask::Get { key } => Ok(Ask::Get {
-                key: key.copy(alloc)?,
-            }),
-            Ask::Put { key, value } => Ok(Ask::Put {
-                key: key.copy(alloc)?,
+            Ask::Get { .. } => Ok(Ask::Get { key }),
+            Ask::Put { value, .. } => Ok(Ask::Put {
+                key,
                 value: value.copy(alloc)?,
             }),
-            Ask::Destroy { key } => Ok(Ask::Destroy {
-                key: key.copy(alloc)?,
+            Ask::PutIfAbsent { value, .. } => Ok(Ask::PutIfAbsent {
+                key,
+                value: value.copy(alloc)?,
             }),
-        }
-    }
-}
-
-/// What a client is told.
-#[derive(Drop)]
-pub enum Reply {
-    /// There was no value.
-    Null,
-    /// The value that was there.
-    Value(Value),
-    Done,
-    NotFound,
-    /// A version number would pass its greatest value, and nothing was changed.
-    Limit,
-}
-
-impl Copied for Reply {
-    fn copy(&self, alloc: Global) -> Result<Reply, Memory> {
-        match self {
-            Reply::Null => Ok(Reply::Null),
-            Reply::Value(value) => Ok(Reply::Value(value.copy(alloc)?)),
-            Reply::Done => Ok(Reply::Done),
-            Reply::NotFound => Ok(Reply::NotFound),
-            Reply::Limit => Ok(Reply::Limit),
+            Ask::Replace { value, .. } => Ok(Ask::Replace {
+                key,
+                value: value.copy(alloc)?,
+            }),
+            Ask::ReplaceIf { old, new, .. } => Ok(Ask::ReplaceIf {
+                key,
+                old: old.copy(alloc)?,
+                new: new.copy(alloc)?,
+            }),
+            Ask::Destroy { .. } => Ok(Ask::Destroy { key }),
+            Ask::Remove { value, .. } => Ok(Ask::Remove {
+                key,
+                value: value.copy(alloc)?,
+            }),
         }
     }
 }

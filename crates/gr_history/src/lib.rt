@@ -7,8 +7,9 @@ mod done;
 mod history;
 mod identity;
 mod record;
+mod reply;
 
-pub use ask::{Ask, Reply};
+pub use ask::Ask;
 pub use deed::Deed;
 pub use done::Done;
 pub use history::History;
@@ -17,3 +18,4 @@ pub use record::{
     Answer, AnswerList, ClientRecord, ClientRecordList, MemberRecord, MemberRecordList, Record,
     Region, ShardRecord, ShardRecordList,
 };
+pub use reply::{Reply, Told};

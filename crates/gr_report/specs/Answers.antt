@@ -1,8 +1,8 @@
 -- The text of what the clients were told.
 use Rattle.std.specs.Prelude.{ℕ, ◌+◌, List, [], ◌∷◌, ◌++◌, codes, decimal}
 use Rattle.gr_value.specs.ValueText.{value_text}
-use Rattle.gr_history.specs.declared.ask.Reply.{Reply}
-use Rattle.gr_history.specs.declared.ask.Reply.TheVariants.{Null, Value, Done, NotFound, Limit}
+use Rattle.gr_history.specs.declared.reply.Reply.{Reply}
+use Rattle.gr_history.specs.declared.reply.Reply.TheVariants.{Null, Value, Done, Yes, No, NotFound, Limit}
 use Rattle.gr_history.specs.declared.record.Answer.{Answer}
 use Rattle.gr_history.specs.declared.record.Answer.TheVariants as answer
 use Rattle.gr_history.specs.declared.record.ClientRecord.{ClientRecord}
@@ -11,6 +11,8 @@ abbrev pub reply_text : Reply → List ℕ
 reply_text Null = codes "null"
 reply_text (Value value) = value_text value
 reply_text Done = codes "done"
+reply_text Yes = codes "true"
+reply_text No = codes "false"
 reply_text NotFound = codes "not-found"
 reply_text Limit = codes "limit"
 

@@ -13,6 +13,8 @@ fn put_reply(alloc: Global, out: &mut Vec<u8>, reply: &Reply) -> Result<(), Memo
         Reply::Null => put_text(out, "null"),
         Reply::Value(value) => value.print_to(alloc, out),
         Reply::Done => put_text(out, "done"),
+        Reply::Yes => put_text(out, "true"),
+        Reply::No => put_text(out, "false"),
         Reply::NotFound => put_text(out, "not-found"),
         Reply::Limit => put_text(out, "limit"),
     }

@@ -7,7 +7,7 @@ use Rattle.std.proofs.lemmas.Bool.{or_parts}
 use Rattle.std.proofs.lemmas.List.{append-nil, reverse-append}
 use Rattle.gr_value.specs.declared.value.Field.{Field}
 use Rattle.gr_history.specs.declared.ask.Ask.{Ask}
-use Rattle.gr_history.specs.declared.ask.Ask.TheVariants.{Get, Put, Destroy}
+use Rattle.gr_history.specs.declared.ask.Ask.TheVariants.{Get, Put, PutIfAbsent, Replace, ReplaceIf, Destroy, Remove}
 use Rattle.gr_script.specs.declared.fault.Reason.{Reason}
 use Rattle.gr_script.specs.declared.fault.Reason.TheVariants.{NotBuilt}
 use Rattle.gr_script.specs.declared.line.Act.{Act}
@@ -101,6 +101,10 @@ act_again text (Put key value) (piece, is_key, is_value, is) =
     ap act_at is ∙ ap put_from parts
     ∙ ap (λ (k : Result (List ℕ) Reason). act_from (k >>= λ key. value_at piece >>= λ value. Ok (Put key value))) (ap (key_from key) is_key)
     ∙ ap (λ (v : Result (List Field) Reason). act_from (v >>= λ value. Ok (Put key value))) (ap value_from is_value)
+act_again text (PutIfAbsent key value) none = absurd none
+act_again text (Replace key value) none = absurd none
+act_again text (ReplaceIf key old new) none = absurd none
+act_again text (Remove key value) none = absurd none
 
 step_again : (text : List ℕ) (seq : ℕ) (asked : Ask) → SpellsLine text (Step 1 seq (Call asked)) → step_at text ≡ Ok (1, Call asked)
 unfolding step_at

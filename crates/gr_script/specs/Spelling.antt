@@ -4,7 +4,7 @@ use Rattle.std.specs.Fmt.{decimal}
 use Rattle.gr_value.specs.KeyBytes.{IsKey}
 use Rattle.gr_value.specs.ValueReading.{read_value}
 use Rattle.gr_history.specs.declared.ask.Ask.{Ask}
-use Rattle.gr_history.specs.declared.ask.Ask.TheVariants.{Get, Put, Destroy}
+use Rattle.gr_history.specs.declared.ask.Ask.TheVariants.{Get, Put, PutIfAbsent, Replace, ReplaceIf, Destroy, Remove}
 use Rattle.gr_script.specs.declared.line.Act.TheVariants.{Call}
 use Rattle.gr_script.specs.declared.line.Line.{Line}
 use Rattle.gr_script.specs.declared.line.Line.TheVariants.{Step}
@@ -24,11 +24,15 @@ heading_lines h =
     ∷ (codes "shards " ++ decimal h.shards)
     ∷ client_lines 1 h.clients
 
--- what says that a client asks this. A value has many texts.
+-- What says that a client asks this. A value has many texts. The other operations have no text yet.
 abbrev pub SpellsAsk : List ℕ → Ask → Type 0
 SpellsAsk text (Get key) = IsKey key × (text ≡ codes "get " ++ key)
 SpellsAsk text (Put key value) = (piece : List ℕ) × IsKey key × (read_value piece ≡ Ok value) × (text ≡ codes "put " ++ (key ++ codes " " ++ piece))
 SpellsAsk text (Destroy key) = IsKey key × (text ≡ codes "destroy " ++ key)
+SpellsAsk text (PutIfAbsent key value) = ⊥
+SpellsAsk text (Replace key value) = ⊥
+SpellsAsk text (ReplaceIf key old new) = ⊥
+SpellsAsk text (Remove key value) = ⊥
 
 abbrev pub SpellsLine : List ℕ → Line → Type 0
 SpellsLine text (Step client seq (Call ask)) = (words : List ℕ) × SpellsAsk words ask × (text ≡ decimal client ++ codes " " ++ words)

@@ -23,6 +23,7 @@ fn word_and_key(act: &Act) -> (&'static str, &Key) {
         Act::Call(Ask::Get { key }) => ("get", key),
         Act::Call(Ask::Put { key, .. }) => ("put", key),
         Act::Call(Ask::Destroy { key }) => ("destroy", key),
+        Act::Call(ask) => ("another", ask.key()),
     }
 }
 

@@ -16,10 +16,10 @@ use Rattle.gr_stamp.specs.declared.stamp.TheConstants.{LIMIT}
 use Rattle.gr_stamp.specs.Winner.{winner, wins}
 use Rattle.gr_history.specs.declared.identity.Identity.{Identity}
 use Rattle.gr_history.specs.declared.ask.Ask.{Ask}
-use Rattle.gr_history.specs.declared.ask.Reply.{Reply}
+use Rattle.gr_history.specs.declared.reply.Reply.{Reply}
 use Rattle.gr_history.specs.declared.deed.Deed.{Deed}
 use Rattle.gr_history.specs.declared.deed.Deed.TheVariants.{Call}
-use Rattle.gr_history.specs.Asks.{key_of, outcome}
+use Rattle.gr_history.specs.Asks.{key_of, told}
 use Rattle.gr_history.specs.Standing.{changes, standing, present, top_of, floor}
 use Rattle.gr_history.specs.Calls.{call_gives, ver_of, greatest}
 use Rattle.gr_history.specs.Regions.{with_key}
@@ -87,8 +87,8 @@ module _ (id : Identity) (opening floor_now : ℕ) (old new : Entries) (made : �
     low = kept.low;
   }
   kept_after reply (Some change) to kept here gives entered =
-      let told = outcome ask (present (key_of ask) past) in
-      let is : IsMade id opening past (key_of ask) change = made_by_given id opening past (key_of ask) told.reply told.change change (ap (λ d. d.made) (sym gives)) in
+      let answer = told ask (present (key_of ask) past) in
+      let is : IsMade id opening past (key_of ask) change = made_by_given id opening past (key_of ask) answer.reply answer.change change (ap (λ d. d.made) (sym gives)) in
       let win : (q : List ℕ) → bytes_eq change.key q ≡ true → wins change (standing q past) ≡ true = λ q same.
       let here_is : key_of ask ≡ q = sym is.key_is ∙ (bytes_eq-Decides change.key q).0 same in
       makes_win id opening past (key_of ask) change is (standing q past) (subst (λ k. change.stamp.ver ≡ 1 + max (ver_of (standing k past)) (floor opening past)) here_is is.ver_is) in

@@ -7,8 +7,8 @@ use Rattle.gr_stamp.specs.declared.stamp.TheConstants.{LIMIT}
 use Rattle.gr_stamp.specs.Version.{Version, IsInRange}
 use Rattle.gr_stamp.specs.Winner.{put_value}
 use Rattle.gr_history.specs.declared.identity.Identity.{Identity}
-use Rattle.gr_history.specs.declared.ask.Reply.{Reply}
-use Rattle.gr_history.specs.declared.ask.Reply.TheVariants.{Limit}
+use Rattle.gr_history.specs.declared.reply.Reply.{Reply}
+use Rattle.gr_history.specs.declared.reply.Reply.TheVariants.{Limit}
 use Rattle.gr_history.specs.declared.deed.Deed.{Deed}
 use Rattle.gr_history.specs.declared.done.Done.{Done}
 use Rattle.gr_history.specs.Standing.{standing, top, floor}

@@ -4,13 +4,8 @@ use Rattle.std.specs.Ordering.{nat_cmp}
 use Rattle.std.specs.Cmp.Lexicographic.{slice_cmp}
 use Rattle.std.specs.BTreeMap.{BTreeMap, insert_entry, Updates}
 use Rattle.gr_stamp.specs.declared.change.Change.{Change}
-use Rattle.gr_history.specs.Asks.{Outcome}
 use Rattle.gr_history.specs.Regions.{puts}
-use Rattle.gr_shard.specs.declared.told.Told.{Told}
 use Rattle.gr_shard.specs.declared.entries.Held.{Held}
-
-abbrev pub outcome_of : Told → Outcome
-outcome_of told = record { reply = told.reply; change = told.change }
 
 abbrev pub held_of : Change → Held
 held_of change = record { kind = change.kind; stamp = change.stamp }

@@ -1,11 +1,15 @@
 ghost use Rattle.std.specs.Prelude.{◌≡◌};
 
+use crate::told::tells;
 use crate::{Done, Identity, Shard};
 use gr_history::{Ask, Reply};
-use gr_stamp::LIMIT;
-use gr_value::{Key, Value};
+use gr_stamp::Kind;
+use gr_value::{Key, Scalar, Value};
 use std::alloc::Global;
 use std::test::Fail;
+
+// The greatest version.
+const GREATEST: u64 = 281_474_976_710_655;
 
 fn only_shard() -> Identity
     ensures { result ≡ record { member = 1; members = 1; founders = 1; shard = 0; shards = 1 } }
@@ -40,7 +44,7 @@ fn made_version(done: &Done) -> u64 {
 #[test]
 fn limit_at_one_shard(rt: HostRuntime) -> Result<(), Fail> {
     let alloc = rt.alloc();
-    let mut shard = Shard::new(alloc, only_shard(), LIMIT)?;
+    let mut shard = Shard::new(alloc, only_shard(), GREATEST)?;
     let done = shard.call(alloc, 1, 1, &put(alloc, b"{}")?)?;
     assert!(rt; matches!(&done.reply, Reply::Limit));
     assert_eq!(rt; (made_version(&done), done.to), (0, 0));
@@ -54,7 +58,7 @@ fn limit_at_one_shard(rt: HostRuntime) -> Result<(), Fail> {
             left.region.rows.len(),
             left.region.floor
         ),
-        (2, 0, LIMIT)
+        (2, 0, GREATEST)
     );
     Ok(())
 }
@@ -63,9 +67,9 @@ fn limit_at_one_shard(rt: HostRuntime) -> Result<(), Fail> {
 #[test]
 fn one_below_the_limit(rt: HostRuntime) -> Result<(), Fail> {
     let alloc = rt.alloc();
-    let mut shard = Shard::new(alloc, only_shard(), LIMIT - 1)?;
+    let mut shard = Shard::new(alloc, only_shard(), GREATEST - 1)?;
     let done = shard.call(alloc, 1, 1, &put(alloc, b"{}")?)?;
-    assert_eq!(rt; (made_version(&done), done.to), (LIMIT, 0));
+    assert_eq!(rt; (made_version(&done), done.to), (GREATEST, 0));
     let done = shard.call(alloc, 1, 2, &put(alloc, b"{\"x\":1}")?)?;
     assert!(rt; matches!(&done.reply, Reply::Limit));
     let key = Key::read(alloc, b"a")?;
@@ -81,7 +85,93 @@ fn one_below_the_limit(rt: HostRuntime) -> Result<(), Fail> {
             left.region.tombstones,
             shard.floor()
         ),
-        (1, 0, LIMIT - 1)
+        (1, 0, GREATEST - 1)
     );
+    Ok(())
+}
+
+// A value with this number in it.
+fn value(alloc: Global, number: u8) -> Result<Value, Fail> {
+    let text = format!(in alloc; "{{\"x\":{number}}}")?;
+    Ok(Value::read(alloc, text.as_bytes())?)
+}
+
+// An operation that names the values of these two numbers.
+fn ask(alloc: Global, word: &str, one: u8, two: u8) -> Result<Ask, Fail> {
+    let key = Key::read(alloc, b"a")?;
+    let value = value(alloc, one)?;
+    let new = self::value(alloc, two)?;
+    Ok(match word {
+        "put" => Ask::Put { key, value },
+        "putIfAbsent" => Ask::PutIfAbsent { key, value },
+        "replace" => Ask::Replace { key, value },
+        "replaceIf" => Ask::ReplaceIf {
+            key,
+            old: value,
+            new,
+        },
+        "destroy" => Ask::Destroy { key },
+        "remove" => Ask::Remove { key, value },
+        _ => Ask::Get { key },
+    })
+}
+
+fn number_of(value: &Value) -> i64 {
+    match value.field("x") {
+        Some(Scalar::Int(number)) => *number,
+        _ => -1,
+    }
+}
+
+// A reply's word, and the number in its value, or 0.
+fn said(reply: &Reply) -> (&'static str, i64) {
+    match reply {
+        Reply::Null => ("null", 0),
+        Reply::Value(value) => ("value", number_of(value)),
+        Reply::Done => ("done", 0),
+        Reply::Yes => ("true", 0),
+        Reply::No => ("false", 0),
+        Reply::NotFound => ("not-found", 0),
+        Reply::Limit => ("limit", 0),
+    }
+}
+
+// The number in the value that is put, or 0 for a removal.
+fn changed(change: &Option<Kind>) -> Option<i64> {
+    match change {
+        Some(Kind::Put(value)) => Some(number_of(value)),
+        Some(Kind::Remove) => Some(0),
+        None => None,
+    }
+}
+
+// Each operation, naming the values 1 and 2, where no value is present (0), and where 1 or 2 is.
+#[test]
+fn operations_answer_by_their_table(rt: HostRuntime) -> Result<(), Fail> {
+    let cases = [
+        ("get", 0, ("null", 0), None),
+        ("get", 2, ("value", 2), None),
+        ("put", 0, ("null", 0), Some(1)),
+        ("put", 2, ("value", 2), Some(1)),
+        ("putIfAbsent", 0, ("null", 0), Some(1)),
+        ("putIfAbsent", 2, ("value", 2), None),
+        ("replace", 0, ("null", 0), None),
+        ("replace", 2, ("value", 2), Some(1)),
+        ("replaceIf", 0, ("false", 0), None),
+        ("replaceIf", 1, ("true", 0), Some(2)),
+        ("replaceIf", 2, ("false", 0), None),
+        ("destroy", 0, ("not-found", 0), None),
+        ("destroy", 2, ("done", 0), Some(0)),
+        ("remove", 0, ("false", 0), None),
+        ("remove", 1, ("true", 0), Some(0)),
+        ("remove", 2, ("false", 0), None),
+    ];
+    for (word, present, reply, change) in cases {
+        let asked = ask(rt.alloc(), word, 1, 2)?;
+        let here = value(rt.alloc(), present)?;
+        let told = tells(rt.alloc(), &asked, Some(&here).filter(|_| present > 0))?;
+        assert_eq!(rt; said(&told.reply), reply);
+        assert_eq!(rt; changed(&told.change), change);
+    }
     Ok(())
 }

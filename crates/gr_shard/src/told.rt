@@ -1,17 +1,31 @@
 ghost use Rattle.std.specs.Prelude.{◌≡◌, IfOk, option_copied};
-ghost use Rattle.gr_history.specs.Asks.{reply_of, outcome};
-ghost use Rattle.gr_shard.specs.Entries.{outcome_of};
+ghost use Rattle.gr_stamp.specs.declared.change.Kind.TheVariants as kind;
+ghost use Rattle.gr_value.specs.Fields.{value_eq};
+ghost use Rattle.gr_history.specs.Asks.{reply_of, unchanged, changing, where_so, told};
 
-use gr_history::{Ask, Reply};
+use gr_history::{Ask, Reply, Told};
 use gr_stamp::Kind;
 use gr_value::{Copied, Memory, Value};
 use std::alloc::Global;
 
-/// What an operation answers by its table: the reply, and what is to change.
-#[derive(Drop)]
-pub(crate) struct Told {
-    pub(crate) reply: Reply,
-    pub(crate) change: Option<Kind>,
+// A reply beside which nothing changes.
+fn unchanged(reply: Reply) -> Told
+    ensures { result ≡ unchanged reply }
+{
+    Told {
+        reply,
+        change: None,
+    }
+}
+
+// A reply beside which this is to change.
+fn changing(reply: Reply, kind: Kind) -> Told
+    ensures { result ≡ changing reply kind }
+{
+    Told {
+        reply,
+        change: Some(kind),
+    }
 }
 
 fn reply_of(alloc: Global, present: Option<&Value>) -> Result<Reply, Memory>
@@ -23,25 +37,33 @@ fn reply_of(alloc: Global, present: Option<&Value>) -> Result<Reply, Memory>
     }
 }
 
+// What a put of this value does.
+fn put(alloc: Global, value: &Value) -> Result<Kind, Memory>
+    ensures { IfOk result (λ put. put ≡ kind.Put value.now) }
+{
+    Ok(Kind::Put(value.copy(alloc)?))
+}
+
 pub(crate) fn tells(alloc: Global, ask: &Ask, present: Option<&Value>) -> Result<Told, Memory>
-    ensures { IfOk result (λ told. outcome_of told ≡ outcome ask.now (option_copied present.entry)) }
+    ensures { IfOk result (λ answer. answer ≡ told ask.now (option_copied present.entry)) }
 {
     match (ask, present) {
-        (Ask::Get { .. }, _) => Ok(Told {
-            reply: reply_of(alloc, present)?,
-            change: None,
-        }),
-        (Ask::Put { value, .. }, _) => Ok(Told {
-            reply: reply_of(alloc, present)?,
-            change: Some(Kind::Put(value.copy(alloc)?)),
-        }),
-        (Ask::Destroy { .. }, None) => Ok(Told {
-            reply: Reply::NotFound,
-            change: None,
-        }),
-        (Ask::Destroy { .. }, Some(_)) => Ok(Told {
-            reply: Reply::Done,
-            change: Some(Kind::Remove),
-        }),
+        (Ask::Get { .. }, _) | (Ask::PutIfAbsent { .. }, Some(_)) | (Ask::Replace { .. }, None) => {
+            Ok(unchanged(reply_of(alloc, present)?))
+        }
+        (Ask::Put { value, .. }, _)
+        | (Ask::PutIfAbsent { value, .. }, None)
+        | (Ask::Replace { value, .. }, Some(_)) => {
+            Ok(changing(reply_of(alloc, present)?, put(alloc, value)?))
+        }
+        (Ask::ReplaceIf { old, new, .. }, Some(here)) if here.same(old) => {
+            Ok(changing(Reply::Yes, put(alloc, new)?))
+        }
+        (Ask::Remove { value, .. }, Some(here)) if here.same(value) => {
+            Ok(changing(Reply::Yes, Kind::Remove))
+        }
+        (Ask::ReplaceIf { .. } | Ask::Remove { .. }, _) => Ok(unchanged(Reply::No)),
+        (Ask::Destroy { .. }, None) => Ok(unchanged(Reply::NotFound)),
+        (Ask::Destroy { .. }, Some(_)) => Ok(changing(Reply::Done, Kind::Remove)),
     }
 }

@@ -1,8 +1,14 @@
-ghost use Rattle.std.specs.Prelude.{◌≡◌, ◌⊎◌, ℕ, List, Bool, true, false, IsTrue, MatchOption, Contains, bytes_eq};
+ghost use Rattle.std.specs.Prelude.{◌≡◌, ◌+◌, ◌^◌, ◌⊎◌, ℕ, List, Bool, true, false, IsTrue, MatchOption, Contains, bytes_eq};
 ghost use Rattle.std.specs.List.{AllByRecursion};
 ghost use Rattle.gr_stamp.specs.declared.change.Change.{Change};
+ghost use Rattle.gr_stamp.specs.declared.stamp.TheConstants.{LIMIT};
 ghost use Rattle.gr_stamp.specs.Version.{Version, beats};
 ghost use Rattle.gr_stamp.specs.Winner.{winner, IsUnbeaten, HasNoChange};
+
+/// Versions have 48 bits.
+pub fn the_limit_has_48_bits()
+    ensures { LIMIT + 1 ≡ 2 ^ 48 }
+{}
 
 /// Stamps are in one order.
 pub fn stamps_are_in_order()

@@ -127,6 +127,8 @@ fn keys_are_read(rt: HostRuntime) {
     let more = vec![in rt.alloc(); b'k'; 256].expect(&rt, "there is memory");
     assert!(rt; Key::read(rt.alloc(), &most).is_ok());
     assert_eq!(rt; Key::read(rt.alloc(), &more).err(), Some(KeyFault::TooLong));
+    let blanks = vec![in rt.alloc(); b' '; 256].expect(&rt, "there is memory");
+    assert_eq!(rt; Key::read(rt.alloc(), &blanks).err(), Some(KeyFault::TooLong));
     assert_eq!(rt; Key::read(rt.alloc(), b"").err(), Some(KeyFault::Empty));
     assert_eq!(rt;
         Key::read(rt.alloc(), b"a b").err(),
@@ -140,7 +142,13 @@ fn keys_are_read(rt: HostRuntime) {
 
 #[test]
 fn keys_have_shards(rt: HostRuntime) {
-    let cases: [(&[u8], u8, u8); 3] = [(b"ab", 8, 1), (b"b", 8, 2), (b"zzzzzzz", 32, 26)];
+    // Eight times z draws 2384944384, which only its remainder by 2^32 is, and 7 divides no power of 2.
+    let cases: [(&[u8], u8, u8); 4] = [
+        (b"ab", 8, 1),
+        (b"b", 8, 2),
+        (b"zzzzzzz", 32, 26),
+        (b"zzzzzzzz", 7, 4),
+    ];
     for (bytes, shards, want) in cases {
         let key = Key::read(rt.alloc(), bytes).expect(&rt, "it is a key");
         assert_eq!(rt; key.shard(shards), want);
@@ -157,4 +165,15 @@ fn lists_hold_keys(rt: HostRuntime) {
     assert_eq!(rt; keys.pop().map(|key| key.bytes().len()), Some(1));
     assert_eq!(rt; copy.len(), 1);
     assert!(rt; copy.get(1).is_none());
+}
+
+// What threads may hand to each other and read at the same time.
+fn may_be_shared<T: Send + Sync>(_shared: &T) {}
+
+#[test]
+fn keys_and_values_may_be_shared_between_threads(rt: HostRuntime) {
+    let key = Key::read(rt.alloc(), b"k").expect(&rt, "it is a key");
+    may_be_shared(&key);
+    let value = Value::read(rt.alloc(), b"{}").expect(&rt, "it is a value");
+    may_be_shared(&value);
 }
