@@ -2,6 +2,7 @@ pub mod Cuts
 pub mod Fields
 pub mod Forms
 pub mod Halts
+pub mod Index
 pub mod Items
 pub mod Numerals
 pub mod Past
@@ -15,5 +16,6 @@ pub mod Scripts
 pub mod Spelling
 pub mod Steps
 pub mod Stops
+pub mod Tallies
 pub mod Texts
 pub mod Words

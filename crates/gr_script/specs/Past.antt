@@ -89,7 +89,11 @@ joins member past = count_at (is_kind kind.Join) member past
 
 -- ---- where a line may stand
 
+-- The lines of the heading stand once each, the others as often as one likes.
+abbrev pub next_rank : LineKind → ℕ
+next_rank form = if nat_lt (rank form) 7 then rank form + 1 else rank form
+
 -- the least rank that a line may have now
 abbrev pub stage : List Saying → ℕ
 stage [] = 0
-stage (line ∷ past) = if nat_lt (rank line.kind) 7 then rank line.kind + 1 else rank line.kind
+stage (line ∷ past) = next_rank line.kind

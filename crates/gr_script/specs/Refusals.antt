@@ -63,10 +63,14 @@ tests past kind.Close items = (is_full 10000 (queries past), Count) ∷ []
 tests past kind.Fetch items = (is_full 10000 (queries past), Count) ∷ []
 tests past _ items = []
 
--- the first test that holds refuses
-abbrev pub unless_any : {A : Type 0} → List (Bool × Reason) → A → Result A Reason
-unless_any [] x = Ok x
-unless_any (test ∷ tests) x = if test.0 then Err test.1 else unless_any tests x
+-- the reason of the first test that holds
+abbrev pub refusal : List (Bool × Reason) → Option Reason
+refusal [] = None
+refusal (test ∷ tests) = if test.0 then Some test.1 else refusal tests
+
+abbrev pub unless_refused : {A : Type 0} → Option Reason → A → Result A Reason
+unless_refused None x = Ok x
+unless_refused (Some why) x = Err why
 
 -- ---- a line
 
@@ -83,4 +87,4 @@ saying_at runs past text = do
   form ← unless (nat_lt (rank form) (stage past)) Order form
   text ← unless (not (fits (fields form) text)) Fields text
   items ← items_at (setting past) (fields form) text
-  unless_any (tests past form items) (record { kind = form; items = items })
+  unless_refused (refusal (tests past form items)) (record { kind = form; items = items })

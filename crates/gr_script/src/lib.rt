@@ -13,12 +13,14 @@ mod items;
 mod layout;
 mod line;
 mod numeral;
+mod past;
 mod piece;
 mod reading;
 mod reason;
 mod saying;
 mod script;
 mod stop;
+mod tally;
 mod text;
 mod word;
 
