@@ -22,3 +22,15 @@ counted past = record {
   opens = count_of kind.Open past;
   queries = queries past;
 }
+
+-- What is kept is what the earlier lines say.
+pub record IsIndex (stage_now : ℕ) (held : Setting) (founders_now : ℕ) (homes_now : List ℕ) (step_counts report_counts join_counts : Counts) (lines : Counted) (past : List Saying) : Type 0 where
+  pub staged : stage_now ≡ stage past
+  pub set : held ≡ setting past
+  pub founded : founders_now ≡ founders past
+  pub homed : homes_now ≡ homes past
+  pub stepped : (client : ℕ) → count_in step_counts client ≡ steps client past
+  pub reported : (member : ℕ) → count_in report_counts member ≡ reports member past
+  pub joined : (member : ℕ) → count_in join_counts member ≡ joins member past
+  pub counts : lines ≡ counted past
+  pub few : length past ≤ most_lines

@@ -12,6 +12,7 @@ mod heading;
 mod items;
 mod layout;
 mod line;
+mod note;
 mod numeral;
 mod past;
 mod piece;
