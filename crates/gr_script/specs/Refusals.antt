@@ -2,18 +2,17 @@
 use Rattle.std.specs.Prelude.{ℕ, ◌+◌, List, [], ◌∷◌, length, Bool, true, false, ◌&&◌, ◌||◌, ◌==◌, nat_lt, nat_le, not, bytes_eq, Option, Some, None, Result, Ok, Err, slice_get, if◌then◌else◌}
 use Rattle.std.specs.List.{find}
 use Rattle.std.specs.Option.{ok_or, option_map_or}
-use Rattle.std.specs.Str.{is_utf8}
 use Rattle.gr_script.specs.declared.forms.LineKind.{LineKind}
 use Rattle.gr_script.specs.declared.forms.LineKind.TheVariants as kind
 use Rattle.gr_script.specs.declared.items.Item.{Item}
 use Rattle.gr_script.specs.declared.saying.Saying.{Saying}
 use Rattle.gr_script.specs.declared.reason.Reason.{Reason}
-use Rattle.gr_script.specs.declared.reason.Reason.TheVariants.{Utf8, Header, Word, Fields, Range, Order, Later, Join, Itself, Count, NotInRun}
+use Rattle.gr_script.specs.declared.reason.Reason.TheVariants.{Header, Word, Fields, Range, Order, Later, Join, Itself, Count, NotInRun}
 use Rattle.gr_script.specs.Cuts.{said, is_skipped}
 use Rattle.gr_script.specs.Fields.{first, fits, form_of}
 use Rattle.gr_script.specs.Forms.{word, fields, rank, is_kind}
 use Rattle.gr_script.specs.Halts.{◌>>=◌, unless}
-use Rattle.gr_script.specs.Items.{items_at}
+use Rattle.gr_script.specs.Items.{text_at, items_at}
 use Rattle.gr_script.specs.Past.{number, founders, home, clients, setting, count_of, queries, steps, reports, joins, stage}
 
 -- ---- a line of the heading that is due
@@ -78,13 +77,24 @@ unless_refused (Some why) x = Err why
 abbrev pub is_replayed : LineKind → Bool
 is_replayed form = is_kind kind.Deliver form || is_kind kind.Hear form
 
--- What a line says that isn't skipped, behind earlier ones.
-abbrev pub saying_at : Bool → List Saying → List ℕ → Result Saying Reason
-saying_at runs past text = do
-  text ← unless (lacks (stage past) text) (Header (stage past + 1)) text
+-- which form a line has, at the least rank that it may have now
+abbrev pub form_at : Bool → ℕ → List ℕ → Result LineKind Reason
+form_at runs stage text = do
+  text ← unless (lacks stage text) (Header (stage + 1)) text
   form ← ok_or (form_of text) Word
   form ← unless (runs && is_replayed form) NotInRun form
-  form ← unless (nat_lt (rank form) (stage past)) Order form
-  text ← unless (not (fits (fields form) text)) Fields text
+  form ← unless (nat_lt (rank form) stage) Order form
+  unless (not (fits (fields form) text)) Fields form
+
+-- what a line says that isn't skipped, behind earlier ones
+abbrev pub saying_at : Bool → List Saying → List ℕ → Result Saying Reason
+saying_at runs past text = do
+  form ← form_at runs (stage past) text
   items ← items_at (setting past) (fields form) text
   unless_refused (refusal (tests past form items)) (record { kind = form; items = items })
+
+-- the earlier lines with one more, which may be skipped
+abbrev pub past_with : Bool → List Saying → List ℕ → Result (List Saying) Reason
+past_with runs past line = do
+  line ← text_at line
+  if is_skipped (said line) then Ok past else (saying_at runs past (said line) >>= λ saying. Ok (saying ∷ past))

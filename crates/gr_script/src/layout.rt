@@ -1,4 +1,5 @@
-ghost use Rattle.std.specs.Prelude.{◌≡◌, ◌≤◌, length};
+ghost use Rattle.std.specs.Prelude.{◌≡◌, ◌≤◌, length, bytes_eq};
+ghost use Rattle.gr_script.specs.Forms.{word};
 ghost use Rattle.gr_script.specs.Fields.{len_of, piece, left, is_filled, fits, first, second, is_client, form_of};
 
 use crate::cuts::{field_len, led};
@@ -61,4 +62,11 @@ pub(crate) fn form_of(text: &[u8]) -> Option<LineKind>
     } else {
         kind_of(false, first)
     }
+}
+
+/// Whether the line's first field is the word of this form.
+pub(crate) fn has_word(kind: LineKind, text: &[u8]) -> bool
+    ensures { result ≡ bytes_eq (first text.now) (word kind) }
+{
+    cut(FieldKind::Word, text).0 == kind.word()
 }

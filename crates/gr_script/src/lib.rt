@@ -18,6 +18,7 @@ mod past;
 mod piece;
 mod reading;
 mod reason;
+mod refusal;
 mod saying;
 mod script;
 mod stop;

@@ -1,7 +1,7 @@
 ghost use Rattle.std.specs.Prelude.{◌≡◌, ◌<◌, [], ◌∷◌, List, length, IfOk};
 ghost use Rattle.gr_script.specs.Index.{most_lines, counted};
 ghost use Rattle.gr_script.specs.declared.saying.Saying.{Saying};
-ghost use Rattle.gr_script.specs.Past.{stage, home, setting};
+ghost use Rattle.gr_script.specs.Past.{stage, founders, clients, steps, reports, joins, homes as homes_of, home, setting};
 
 use crate::forms::{LineKind, is_kind, is_step};
 use crate::items::Setting;
@@ -97,6 +97,102 @@ impl Past {
     {
         &self.setting
     }
+
+    pub(crate) fn founders(&self) -> u128
+        ensures { result ≡ founders self.now }
+    {
+        self.founders
+    }
+
+    /// How many clients are stated.
+    pub(crate) fn clients(&self) -> u128
+        ensures { result ≡ clients self.now }
+    {
+        self.setting.clients
+    }
+
+    /// The client's member.
+    pub(crate) fn home(&self, client: u128) -> u128
+        ensures { result ≡ home client self.now }
+    {
+        let place = client.saturating_sub(1);
+        let homes = self.homes.as_slice();
+        if place < homes.len() as u128 {
+            homes[place as usize]
+        } else {
+            0
+        }
+    }
+
+    /// How many steps of the client there are.
+    pub(crate) fn steps(&self, client: u128) -> u32
+        ensures { result ≡ steps client self.now }
+    {
+        count_in(&self.steps, client)
+    }
+
+    pub(crate) fn reports(&self, member: u128) -> u32
+        ensures { result ≡ reports member self.now }
+    {
+        count_in(&self.reports, member)
+    }
+
+    pub(crate) fn joins(&self, member: u128) -> u32
+        ensures { result ≡ joins member self.now }
+    {
+        count_in(&self.joins, member)
+    }
+
+    pub(crate) fn counted(&self) -> Counted
+        ensures { result ≡ counted self.now }
+    {
+        self.counted
+    }
+
+    /// These lines and one more.
+    pub(crate) fn with(self, alloc: Global, line: Saying) -> Result<Past, Memory>
+        requires { length self < most_lines }
+        ensures { IfOk result (λ past. past ≡ line ∷ self) }
+    {
+        let kind = line.kind;
+        let first = number(0, line.items.as_slice());
+        let homes = homes_with(&line, self.homes)?;
+        let setting = setting_with(alloc, &line, self.setting, &homes)?;
+        let founders = restated(LineKind::Members, 1, &line, self.founders);
+        let steps = raised(self.steps, is_step(kind), first)?;
+        let reports = raised(self.reports, is_kind(LineKind::Report, kind), first)?;
+        let joins = raised(self.joins, is_kind(LineKind::Join, kind), first)?;
+        let counted = counted_with(&line, self.counted);
+        let mut sayings = self.sayings;
+        sayings.push(line)?;
+        Ok(Past {
+            sayings,
+            stage: next_rank(kind),
+            setting,
+            founders,
+            homes,
+            steps,
+            reports,
+            joins,
+            counted,
+        })
+    }
+}
+
+fn setting_with(
+    alloc: Global,
+    line: &Saying,
+    before: Setting,
+    homes: &ItemList<u128>,
+) -> Result<Setting, Memory>
+    ensures { IfOk result (λ set. (past : List Saying) → before ≡ setting past → homes.now ≡ homes_of (line.now ∷ past) → set ≡ setting (line.now ∷ past)) }
+{
+    let members = restated(LineKind::Members, 0, line, before.members);
+    Ok(Setting {
+        region: region_with(alloc, line, before.region)?,
+        members,
+        clients: homes.len() as u128,
+    })
 }
 
 fn counted_with(line: &Saying, counts: Counted) -> Counted
