@@ -2,6 +2,7 @@
 use Rattle.std.specs.Prelude.{ℕ, ◌+◌, ◌-◌, List, [], ◌∷◌, length, take, drop, Bool, true, false, ◌==◌, not, if◌then◌else◌, count_by, slice_get}
 use Rattle.std.specs.List.{prefix_len, suffix_len}
 use Rattle.std.specs.Option.{option_map_or}
+use Rattle.gr_script.specs.Texts.{is_ended}
 
 -- whether the text's last byte is this one
 abbrev pub ends_with : ℕ → List ℕ → Bool
@@ -9,7 +10,7 @@ ends_with byte text = option_map_or (λ last. last == byte) (slice_get text (len
 
 -- how many line feeds a text has, and one more where something stands behind the last one
 abbrev pub line_count : List ℕ → ℕ
-line_count text = count_by (λ byte. byte == 0x0A) text + (if length text == 0 then 0 else (if ends_with 0x0A text then 0 else 1))
+line_count text = count_by (λ byte. byte == 0x0A) text + (if is_ended text then 0 else 1)
 
 abbrev pub without_last : List ℕ → List ℕ
 without_last text = take (length text - 1) text

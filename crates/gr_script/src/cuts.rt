@@ -2,6 +2,8 @@ ghost use Rattle.std.specs.Prelude.{◌≡◌, ◌≤◌, ◌==◌, length};
 ghost use Rattle.std.specs.List.{prefix_len};
 ghost use Rattle.gr_script.specs.Cuts.{ends_with, line_count, without_return, is_space, led, closed, said, is_skipped, field_len};
 
+use crate::text::is_ended;
+
 fn ends_with(byte: u8, text: &[u8]) -> bool
     ensures { result ≡ ends_with byte text.now }
 {
@@ -16,11 +18,7 @@ pub(crate) fn line_count(text: &[u8]) -> u64
     ensures { result ≡ line_count text.now }
 {
     let feeds = text.iter().filter(|byte| **byte == b'\n').count() as u64;
-    if text.is_empty() || ends_with(b'\n', text) {
-        feeds
-    } else {
-        feeds + 1
-    }
+    if is_ended(text) { feeds } else { feeds + 1 }
 }
 
 fn without_return(line: &[u8]) -> &[u8]

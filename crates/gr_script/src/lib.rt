@@ -3,6 +3,7 @@
 
 mod act;
 mod cuts;
+mod ending;
 mod fault;
 mod field;
 mod form;
@@ -20,6 +21,7 @@ mod reading;
 mod reason;
 mod refusal;
 mod saying;
+mod sayings;
 mod script;
 mod stop;
 mod tally;
