@@ -1,10 +1,10 @@
 -- How many lines a text has, counted in two ways.
-use Rattle.std.proofs.Common.{◌≡◌, ℕ, ◌+◌, ◌≤◌, List, [], ◌∷◌, length, Bool, true, false, cond, eqb, refl, ap, ◌∙◌, sym, arith, inl, inr}
-use Rattle.std.proofs.lemmas.Bool.{cases_Bool, cond-true, cond-false}
+use Rattle.std.proofs.Common.{◌≡◌, ℕ, ◌+◌, ◌≤◌, List, [], ◌∷◌, length, Bool, cond, eqb, refl, ap, ◌∙◌, arith, inl, inr}
+use Rattle.std.proofs.lemmas.Bool.{cases_Bool}
 use Rattle.std.proofs.lemmas.List.Sums.{sum_by-cons}
 use Rattle.std.specs.List.{onto_first, count_by}
 use Rattle.gr_script.specs.Cuts.{line_count}
-use Rattle.gr_script.specs.Texts.{lines_of, is_ended}
+use Rattle.gr_script.specs.Texts.{lines_of}
 use Rattle.gr_script.proofs.Texts.{lines_here, lines_there}
 
 abbrev is_feed : ℕ → Bool

@@ -1,5 +1,5 @@
 -- The forms of lines, as data: the word of each, its fields, and where it may stand.
-use Rattle.std.specs.Prelude.{ℕ, List, [], ◌∷◌, Bool, true, false, Option, codes, bytes_eq, if◌then◌else◌}
+use Rattle.std.specs.Prelude.{ℕ, List, [], ◌∷◌, Bool, true, false, Option, codes, bytes_eq}
 use Rattle.std.specs.List.{find}
 use Rattle.gr_script.specs.declared.forms.LineKind.{LineKind}
 use Rattle.gr_script.specs.declared.forms.LineKind.TheVariants.{Georep, Region, Members, Shards, Inbox, Trouble, Floor, Client, Get, Put, PutIfAbsent, Replace, ReplaceIf, Destroy, Remove, Peek, Open, Stop, Close, Fetch, Deliver, Report, Hear, Sweep, Join}

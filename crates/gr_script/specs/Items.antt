@@ -1,6 +1,5 @@
 -- What the fields of a line say, or why the line is refused at one of them.
-use Rattle.std.specs.Prelude.{ℕ, ◌+◌, List, [], ◌∷◌, Bool, false, ◌||◌, nat_lt, not, bytes_eq, Option, Some, None, option_map, Result, Ok, Err, if◌then◌else◌}
-use Rattle.std.specs.List.{flat_map}
+use Rattle.std.specs.Prelude.{ℕ, List, [], ◌∷◌, Bool, false, ◌||◌, nat_lt, not, bytes_eq, Option, Some, None, Result, Ok, Err}
 use Rattle.std.specs.Option.{ok_or, option_map_or}
 use Rattle.std.specs.Str.{is_utf8}
 use Rattle.gr_value.specs.declared.fault.KeyFault.{KeyFault}

@@ -1,4 +1,4 @@
-use Rattle.std.proofs.Common.{◌≡◌, ◌≤◌, ◌+◌, length, drop}
+use Rattle.std.proofs.Common.{◌≡◌, ◌≤◌, drop}
 use Rattle.gr_script.specs.Pieces.{nested, closing}
 use Rattle.gr_script.specs.declared.piece.Place.TheVariants.{Outside}
 use Rattle.gr_script.proofs.Places.{further}

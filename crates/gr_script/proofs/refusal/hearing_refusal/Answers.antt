@@ -1,4 +1,4 @@
-use Rattle.std.proofs.Common.{◌≡◌, ◌∙◌, ℕ, Bool, List, [], ◌∷◌, eqb, ap}
+use Rattle.std.proofs.Common.{◌∙◌, ℕ, Bool, [], ◌∷◌, eqb, ap}
 use Rattle.gr_script.specs.declared.past.Counted.{Counted}
 use Rattle.gr_script.specs.declared.reason.Reason.TheVariants.{Later, Itself, Count}
 use Rattle.gr_script.specs.Past.{number, reports}
