@@ -347,13 +347,17 @@ fn repeated(alloc: Global, line: &str, times: usize) -> Result<String, Fail> {
 
 #[test]
 fn lines_are_limited_by_kind_and_in_all(rt: HostRuntime) -> Result<(), Fail> {
-    for (line, most) in [("report 1", 200), ("1 open q SELECT * FROM /r", 16)] {
-        let full = repeated(rt.alloc(), line, most)?;
-        assert_eq!(rt; fault_of(rt.alloc(), false, full.as_str()), None, "{line}");
-        let over = repeated(rt.alloc(), line, most + 1)?;
+    let open = "1 open q SELECT * FROM /r";
+    for (line, times, wanted) in [
+        ("report 1", 200, None),
+        ("report 1", 201, Some((207, Reasoned::Count))),
+        (open, 16, None),
+        (open, 17, Some((23, Reasoned::Count))),
+    ] {
+        let text = repeated(rt.alloc(), line, times)?;
         assert_eq!(rt;
-            fault_of(rt.alloc(), false, over.as_str()),
-            Some((most as u32 + 7, Reasoned::Count)),
+            fault_of(rt.alloc(), false, text.as_str()),
+            wanted,
             "{line}"
         );
     }
