@@ -23,16 +23,16 @@ abbrev pub is_space : ℕ → Bool
 is_space byte = byte == 0x20
 
 -- without the spaces in front
-abbrev pub led : List ℕ → List ℕ
-led text = drop (prefix_len is_space text) text
+abbrev pub after_spaces : List ℕ → List ℕ
+after_spaces text = drop (prefix_len is_space text) text
 
 -- without the spaces behind
-abbrev pub closed : List ℕ → List ℕ
-closed text = take (length text - suffix_len is_space text) text
+abbrev pub before_spaces : List ℕ → List ℕ
+before_spaces text = take (length text - suffix_len is_space text) text
 
 -- what a line says
-abbrev pub said : List ℕ → List ℕ
-said line = led (closed (without_return line))
+abbrev pub text_said : List ℕ → List ℕ
+text_said line = after_spaces (before_spaces (without_return line))
 
 -- Nothing is said, or a comment.
 abbrev pub is_skipped : List ℕ → Bool

@@ -5,7 +5,7 @@ use Rattle.std.specs.Char.{is_ascii_digit}
 use Rattle.gr_script.specs.declared.forms.LineKind.{LineKind}
 use Rattle.gr_script.specs.declared.forms.FieldKind.{FieldKind}
 use Rattle.gr_script.specs.declared.forms.FieldKind.TheVariants as field
-use Rattle.gr_script.specs.Cuts.{led, field_len}
+use Rattle.gr_script.specs.Cuts.{after_spaces, field_len}
 use Rattle.gr_script.specs.Forms.{step_kinds, other_kinds, kind_of}
 use Rattle.gr_script.specs.Pieces.{piece_len}
 
@@ -20,7 +20,7 @@ piece kind text = take (len_of kind text) text
 
 -- what stands behind it
 abbrev pub left : FieldKind → List ℕ → List ℕ
-left kind text = led (drop (len_of kind text) text)
+left kind text = after_spaces (drop (len_of kind text) text)
 
 -- Some fields are one word only, and none is missing.
 abbrev pub is_filled : FieldKind → List ℕ → Bool

@@ -32,8 +32,8 @@ number_at text = ok_or (number_of text) reason.Number
 abbrev pub within : ℕ → ℕ → ℕ → Result ℕ Reason
 within least most number = unless (nat_lt number least || nat_lt most number) reason.Range number
 
-abbrev pub ranged : ℕ → ℕ → List ℕ → Result ℕ Reason
-ranged least most text = number_at text >>= within least most
+abbrev pub number_in : ℕ → ℕ → List ℕ → Result ℕ Reason
+number_in least most text = number_at text >>= within least most
 
 -- the greatest number of a client
 abbrev pub most_clients : ℕ
@@ -46,9 +46,9 @@ stated_client setting number = do
   unless (nat_lt setting.clients client) reason.Client client
 
 -- the texts in front of the first dot and behind it, as numbers
-abbrev pub dotted : Option (List ℕ × List ℕ) → Result (ℕ × ℕ) Reason
-dotted None = Err reason.Number
-dotted (Some parts) = do
+abbrev pub dotted_numbers : Option (List ℕ × List ℕ) → Result (ℕ × ℕ) Reason
+dotted_numbers None = Err reason.Number
+dotted_numbers (Some parts) = do
   client ← number_at parts.0
   step ← number_at parts.1
   Ok (client, step)
@@ -80,14 +80,14 @@ is_own setting region = option_map_or (λ own. bytes_eq region own) setting.regi
 abbrev pub text_at : List ℕ → Result (List ℕ) Reason
 text_at text = unless (not (is_utf8 text)) reason.Utf8 text
 
-abbrev pub owned : Setting → Question → Result Question Reason
-owned setting query = unless (not (is_own setting query.region)) reason.Region query
+abbrev pub own_query : Setting → Question → Result Question Reason
+own_query setting query = unless (not (is_own setting query.region)) reason.Region query
 
 abbrev pub query_at : Setting → List ℕ → Result Question Reason
 query_at setting text = do
   text ← text_at text
   query ← query_from (question_of text)
-  owned setting query
+  own_query setting query
 
 -- ---- items
 
@@ -96,12 +96,12 @@ region_at text = unless (not (is_region text)) reason.Name text
 
 -- what a field says that is a number, and else a field that is one word only
 abbrev pub number_item : Setting → FieldKind → List ℕ → Result Item Reason
-number_item setting (field.Number least most) text = ranged least most text >>= λ number. Ok (Number number)
-number_item setting field.Member text = ranged 1 setting.members text >>= λ member. Ok (Member member)
+number_item setting (field.Number least most) text = number_in least most text >>= λ number. Ok (Number number)
+number_item setting field.Member text = number_in 1 setting.members text >>= λ member. Ok (Member member)
 number_item setting field.Client text = number_at text >>= stated_client setting >>= λ client. Ok (Client client)
 number_item setting field.Ordinal text = number_at text >>= λ number. Ok (Ordinal number)
 number_item setting field.Step text = do
-  numbers ← dotted (cut 0x2E text)
+  numbers ← dotted_numbers (cut 0x2E text)
   client ← stated_client setting numbers.0
   Ok (Step client numbers.1)
 number_item setting _ text = Ok Word

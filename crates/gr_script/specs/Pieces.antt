@@ -5,8 +5,8 @@ use Rattle.gr_script.specs.declared.piece.Nesting.{Nesting}
 use Rattle.gr_script.specs.declared.piece.Place.{Place}
 use Rattle.gr_script.specs.declared.piece.Place.TheVariants.{Outside, Quoted, Escaped}
 
-abbrev pub nested : ℕ → Place → Nesting
-nested depth place = record { depth = depth; place = place }
+abbrev pub nesting_of : ℕ → Place → Nesting
+nesting_of depth place = record { depth = depth; place = place }
 
 -- how many braces are open behind one more byte, and where that is
 abbrev pub behind : Nesting → ℕ → Nesting
@@ -14,15 +14,15 @@ behind before byte = go before.depth before.place
   where
     go : ℕ → Place → Nesting
     go depth Outside =
-        if byte == 0x7B then nested (depth + 1) Outside
-        else (if byte == 0x7D then nested (depth - 1) Outside
-        else (if byte == 0x22 then nested depth Quoted
-        else nested depth Outside))
+        if byte == 0x7B then nesting_of (depth + 1) Outside
+        else (if byte == 0x7D then nesting_of (depth - 1) Outside
+        else (if byte == 0x22 then nesting_of depth Quoted
+        else nesting_of depth Outside))
     go depth Quoted =
-        if byte == 0x22 then nested depth Outside
-        else (if byte == 0x5C then nested depth Escaped
-        else nested depth Quoted)
-    go depth Escaped = nested depth Quoted
+        if byte == 0x22 then nesting_of depth Outside
+        else (if byte == 0x5C then nesting_of depth Escaped
+        else nesting_of depth Quoted)
+    go depth Escaped = nesting_of depth Quoted
 
 -- how many braces are open behind each byte
 abbrev pub depths : Nesting → List ℕ → List ℕ
@@ -39,4 +39,4 @@ begins_braced (first ∷ _) = first == 0x7B
 
 -- How many bytes the piece has that a value is: up to the brace that closes its first one, or all.
 abbrev pub piece_len : List ℕ → ℕ
-piece_len text = if begins_braced text then option_map_or (λ place. place + 1) (closing (nested 0 Outside) text) (length text) else length text
+piece_len text = if begins_braced text then option_map_or (λ place. place + 1) (closing (nesting_of 0 Outside) text) (length text) else length text

@@ -7,7 +7,7 @@ use Rattle.gr_script.specs.declared.items.Item.{Item}
 use Rattle.gr_script.specs.declared.saying.Saying.{Saying}
 use Rattle.gr_script.specs.declared.reason.Reason.{Reason}
 use Rattle.gr_script.specs.declared.reason.Reason.TheVariants.{Header, Word, Fields, Range, Order, Later, Join, Itself, Count, NotInRun}
-use Rattle.gr_script.specs.Cuts.{said, is_skipped}
+use Rattle.gr_script.specs.Cuts.{text_said, is_skipped}
 use Rattle.gr_script.specs.Fields.{first, fits, form_of}
 use Rattle.gr_script.specs.Forms.{word, fields, rank, is_kind}
 use Rattle.gr_script.specs.Halts.{◌>>=◌, unless}
@@ -96,4 +96,4 @@ saying_at runs past text = do
 abbrev pub past_with : Bool → List Saying → List ℕ → Result (List Saying) Reason
 past_with runs past line = do
   line ← text_at line
-  if is_skipped (said line) then Ok past else (saying_at runs past (said line) >>= λ saying. Ok (saying ∷ past))
+  if is_skipped (text_said line) then Ok past else (saying_at runs past (text_said line) >>= λ saying. Ok (saying ∷ past))

@@ -1,6 +1,6 @@
 ghost use Rattle.std.specs.Prelude.{◌≡◌, ◌≤◌, ◌==◌, length};
 ghost use Rattle.std.specs.List.{prefix_len};
-ghost use Rattle.gr_script.specs.Cuts.{ends_with, line_count, without_return, is_space, led, closed, said, is_skipped, field_len};
+ghost use Rattle.gr_script.specs.Cuts.{ends_with, line_count, without_return, is_space, after_spaces, before_spaces, text_said, is_skipped, field_len};
 
 use crate::text::is_ended;
 
@@ -45,14 +45,14 @@ fn spaces_len(text: &[u8]) -> usize
 }
 
 /// The text without the spaces in front.
-pub(crate) fn led(text: &[u8]) -> &[u8]
-    ensures { result.now ≡ led text.now }
+pub(crate) fn after_spaces(text: &[u8]) -> &[u8]
+    ensures { result.now ≡ after_spaces text.now }
 {
     &text[spaces_len(text)..]
 }
 
-fn closed(text: &[u8]) -> &[u8]
-    ensures { result.now ≡ closed text.now }
+fn before_spaces(text: &[u8]) -> &[u8]
+    ensures { result.now ≡ before_spaces text.now }
 {
     let mut end = text.len();
     while end > 0 && is_space(text[end - 1]) {
@@ -62,10 +62,10 @@ fn closed(text: &[u8]) -> &[u8]
 }
 
 /// What a line says.
-pub(crate) fn said(line: &[u8]) -> &[u8]
-    ensures { result.now ≡ said line.now }
+pub(crate) fn text_said(line: &[u8]) -> &[u8]
+    ensures { result.now ≡ text_said line.now }
 {
-    led(closed(without_return(line)))
+    after_spaces(before_spaces(without_return(line)))
 }
 
 /// Whether nothing is said, or a comment.

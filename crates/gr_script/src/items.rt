@@ -1,6 +1,6 @@
 ghost use Rattle.std.specs.Prelude.{◌≡◌, ◌≤◌, ◌∷◌, ◌++◌, [], bytes_eq, IfOk};
 ghost use Rattle.gr_script.specs.Halts.{Yields};
-ghost use Rattle.gr_script.specs.Items.{number_at, within, ranged, stated_client, dotted, key_at, value_at, is_own, text_at, query_from, owned, query_at, region_at, number_item, item_at, items_at};
+ghost use Rattle.gr_script.specs.Items.{number_at, within, number_in, stated_client, dotted_numbers, key_at, value_at, is_own, text_at, query_from, own_query, query_at, region_at, number_item, item_at, items_at};
 ghost use Rattle.gr_oql.specs.Faults.{question_of};
 ghost use Rattle.gr_script.specs.Texts.{cut};
 
@@ -59,8 +59,8 @@ fn within(least: u128, most: u128, number: u128) -> Result<u128, Halt>
     }
 }
 
-fn ranged(least: u128, most: u128, text: &[u8]) -> Result<u128, Halt>
-    ensures { Yields (λ number. number) result (ranged least most text.now) }
+fn number_in(least: u128, most: u128, text: &[u8]) -> Result<u128, Halt>
+    ensures { Yields (λ number. number) result (number_in least most text.now) }
 {
     let number = number_at(text)?;
     Ok(within(least, most, number)?)
@@ -77,8 +77,8 @@ fn stated_client(setting: &Setting, number: u128) -> Result<u128, Halt>
     }
 }
 
-fn dotted(text: &[u8]) -> Result<(u128, u128), Halt>
-    ensures { Yields (λ numbers. numbers) result (dotted (cut 0x2E text.now)) }
+fn dotted_numbers(text: &[u8]) -> Result<(u128, u128), Halt>
+    ensures { Yields (λ numbers. numbers) result (dotted_numbers (cut 0x2E text.now)) }
 {
     match text::cut(b'.', text) {
         None => Err(Halt::Refused(Reason::Number)),
@@ -117,14 +117,14 @@ pub(crate) fn text_at(text: &[u8]) -> Result<&str, Halt>
     }
 }
 
-fn parsed(alloc: Global, text: &str) -> Result<Query, Halt>
+fn query_of(alloc: Global, text: &str) -> Result<Query, Halt>
     ensures { Yields (λ query. query) result (query_from (question_of text.now)) }
 {
     Ok(Query::parse(alloc, text)?)
 }
 
-fn owned(setting: &Setting, query: Query) -> Result<Query, Halt>
-    ensures { Yields (λ query. query) result (owned setting.now query) }
+fn own_query(setting: &Setting, query: Query) -> Result<Query, Halt>
+    ensures { Yields (λ query. query) result (own_query setting.now query) }
 {
     if is_own(setting, query.region()) {
         Ok(query)
@@ -137,8 +137,8 @@ fn query_at(alloc: Global, setting: &Setting, text: &[u8]) -> Result<Query, Halt
     ensures { Yields (λ query. query) result (query_at setting.now text.now) }
 {
     let text = text_at(text)?;
-    let query = parsed(alloc, text)?;
-    Ok(owned(setting, query)?)
+    let query = query_of(alloc, text)?;
+    Ok(own_query(setting, query)?)
 }
 
 // A region's name is a key, so that it can only lack memory.
@@ -159,12 +159,12 @@ fn number_item(setting: &Setting, kind: FieldKind, text: &[u8]) -> Result<Item, 
     ensures { Yields (λ item. item) result (number_item setting.now kind text.now) }
 {
     match kind {
-        FieldKind::Number { least, most } => Ok(Item::Number(ranged(least, most, text)?)),
-        FieldKind::Member => Ok(Item::Member(ranged(1, setting.members, text)?)),
+        FieldKind::Number { least, most } => Ok(Item::Number(number_in(least, most, text)?)),
+        FieldKind::Member => Ok(Item::Member(number_in(1, setting.members, text)?)),
         FieldKind::Client => Ok(Item::Client(stated_client(setting, number_at(text)?)?)),
         FieldKind::Ordinal => Ok(Item::Ordinal(number_at(text)?)),
         FieldKind::Step => {
-            let (client, seq) = dotted(text)?;
+            let (client, seq) = dotted_numbers(text)?;
             let client = stated_client(setting, client)?;
             Ok(Item::Step { client, seq })
         }

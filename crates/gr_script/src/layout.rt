@@ -2,7 +2,7 @@ ghost use Rattle.std.specs.Prelude.{◌≡◌, ◌≤◌, length, bytes_eq};
 ghost use Rattle.gr_script.specs.Forms.{word};
 ghost use Rattle.gr_script.specs.Fields.{len_of, piece, left, is_filled, fits, first, second, is_client, form_of};
 
-use crate::cuts::{field_len, led};
+use crate::cuts::{after_spaces, field_len};
 use crate::forms::{FieldKind, LineKind, kind_of};
 use crate::numeral::are_digits;
 use crate::piece::piece_len;
@@ -24,7 +24,7 @@ pub(crate) fn cut(kind: FieldKind, text: &[u8]) -> (&[u8], &[u8])
     ensures left { result.1.now ≡ left kind text.now }
 {
     let len = len_of(kind, text);
-    (&text[..len], led(&text[len..]))
+    (&text[..len], after_spaces(&text[len..]))
 }
 
 fn is_filled(kind: FieldKind, piece: &[u8]) -> bool

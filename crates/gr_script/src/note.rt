@@ -18,7 +18,7 @@ pub(crate) fn next_rank(kind: LineKind) -> u8
 }
 
 /// The number that a line of this kind states, or what was stated before.
-pub(crate) fn restated(kind: LineKind, place: usize, line: &Saying, before: u128) -> u128
+pub(crate) fn stated_with(kind: LineKind, place: usize, line: &Saying, before: u128) -> u128
     ensures { result ≡ (if is_kind kind line.now.kind then number place line.now.items else before) }
 {
     if is_kind(kind, line.kind) {

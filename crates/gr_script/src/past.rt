@@ -5,9 +5,9 @@ ghost use Rattle.gr_script.specs.Past.{stage, founders, clients, steps, reports,
 
 use crate::forms::{LineKind, is_kind, is_step};
 use crate::items::Setting;
-use crate::note::{counted, homes_with, is_query, next_rank, region_with, restated};
+use crate::note::{counted, homes_with, is_query, next_rank, region_with, stated_with};
 use crate::saying::{Saying, number};
-use crate::tally::{count_in, raised};
+use crate::tally::{count_in, counts_with};
 use gr_value::{ItemList, Memory};
 use std::alloc::Global;
 use std::collections::BTreeMap;
@@ -158,10 +158,10 @@ impl Past {
         let first = number(0, line.items.as_slice());
         let homes = homes_with(&line, self.homes)?;
         let setting = setting_with(alloc, &line, self.setting, &homes)?;
-        let founders = restated(LineKind::Members, 1, &line, self.founders);
-        let steps = raised(self.steps, is_step(kind), first)?;
-        let reports = raised(self.reports, is_kind(LineKind::Report, kind), first)?;
-        let joins = raised(self.joins, is_kind(LineKind::Join, kind), first)?;
+        let founders = stated_with(LineKind::Members, 1, &line, self.founders);
+        let steps = counts_with(self.steps, is_step(kind), first)?;
+        let reports = counts_with(self.reports, is_kind(LineKind::Report, kind), first)?;
+        let joins = counts_with(self.joins, is_kind(LineKind::Join, kind), first)?;
         let counted = counted_with(&line, self.counted);
         let mut sayings = self.sayings;
         sayings.push(line)?;
@@ -187,7 +187,7 @@ fn setting_with(
 ) -> Result<Setting, Memory>
     ensures { IfOk result (λ set. (past : List Saying) → before ≡ setting past → homes.now ≡ homes_of (line.now ∷ past) → set ≡ setting (line.now ∷ past)) }
 {
-    let members = restated(LineKind::Members, 0, line, before.members);
+    let members = stated_with(LineKind::Members, 0, line, before.members);
     Ok(Setting {
         region: region_with(alloc, line, before.region)?,
         members,

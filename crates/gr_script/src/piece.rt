@@ -1,5 +1,5 @@
 ghost use Rattle.std.specs.Prelude.{◌≡◌, ◌≤◌, ◌<◌, ◌+◌, ◌^◌, length, IfSome};
-ghost use Rattle.gr_script.specs.Pieces.{behind, closing, nested, begins_braced, piece_len};
+ghost use Rattle.gr_script.specs.Pieces.{behind, closing, nesting_of, begins_braced, piece_len};
 ghost use Rattle.gr_script.specs.declared.piece.Place.TheVariants.{Outside as outside};
 
 /// Where a byte of a value's text stands.
@@ -19,21 +19,21 @@ pub(crate) struct Nesting {
     pub(crate) place: Place,
 }
 
-fn nested(depth: usize, place: Place) -> Nesting
-    ensures { result ≡ nested depth place }
+fn nesting_of(depth: usize, place: Place) -> Nesting
+    ensures { result ≡ nesting_of depth place }
 {
     Nesting { depth, place }
 }
 
 fn behind_outside(depth: usize, byte: u8) -> Nesting
     requires { depth + 1 < 2 ^ 64 }
-    ensures { result ≡ behind (nested depth outside) byte }
+    ensures { result ≡ behind (nesting_of depth outside) byte }
 {
     match byte {
-        b'{' => nested(depth + 1, Place::Outside),
-        b'}' => nested(depth.saturating_sub(1), Place::Outside),
-        b'"' => nested(depth, Place::Quoted),
-        _ => nested(depth, Place::Outside),
+        b'{' => nesting_of(depth + 1, Place::Outside),
+        b'}' => nesting_of(depth.saturating_sub(1), Place::Outside),
+        b'"' => nesting_of(depth, Place::Quoted),
+        _ => nesting_of(depth, Place::Outside),
     }
 }
 
@@ -45,19 +45,19 @@ fn behind(before: Nesting, byte: u8) -> Nesting
     match before.place {
         Place::Outside => behind_outside(before.depth, byte),
         Place::Quoted => match byte {
-            b'"' => nested(before.depth, Place::Outside),
-            b'\\' => nested(before.depth, Place::Escaped),
+            b'"' => nesting_of(before.depth, Place::Outside),
+            b'\\' => nesting_of(before.depth, Place::Escaped),
             _ => before,
         },
-        Place::Escaped => nested(before.depth, Place::Quoted),
+        Place::Escaped => nesting_of(before.depth, Place::Quoted),
     }
 }
 
 fn closing(text: &[u8]) -> Option<usize>
-    ensures exact { result ≡ closing (nested 0 outside) text.now }
+    ensures exact { result ≡ closing (nesting_of 0 outside) text.now }
     ensures within { IfSome result (λ place. place < length text.now) }
 {
-    let mut before = nested(0, Place::Outside);
+    let mut before = nesting_of(0, Place::Outside);
     for (place, byte) in text.iter().enumerate() {
         before = behind(before, *byte);
         if before.depth == 0 {

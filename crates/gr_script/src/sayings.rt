@@ -6,7 +6,7 @@ ghost use Rattle.gr_script.specs.Refusals.{past_with};
 ghost use Rattle.gr_script.specs.Sayings.{Gives, ended, end_of, sayings_from, sayings_of};
 ghost use Rattle.gr_script.specs.Texts.{lines_of};
 
-use crate::cuts::{is_skipped, line_count, said};
+use crate::cuts::{is_skipped, line_count, text_said};
 use crate::ending::{ScriptEnd, ScriptFault, end_at};
 use crate::halt::Halt;
 use crate::items::text_at;
@@ -28,7 +28,7 @@ fn past_with(alloc: Global, runs: bool, past: Past, line: &[u8]) -> Result<Past,
     ensures exact { Yields (λ longer. longer) result (past_with runs past line.now) }
     ensures longer { IfOk result (λ longer. length longer ≤ length past + 1) }
 {
-    let text = said(text_at(line)?.as_bytes());
+    let text = text_said(text_at(line)?.as_bytes());
     if is_skipped(text) {
         return Ok(past);
     }

@@ -15,13 +15,13 @@ pub(crate) fn count_in(counts: &BTreeMap<u128, u32>, number: u128) -> u32
 }
 
 /// The counts with one more line of this number, where the test holds.
-pub(crate) fn raised(
+pub(crate) fn counts_with(
     counts: BTreeMap<u128, u32>,
     test: bool,
     number: u128,
 ) -> Result<BTreeMap<u128, u32>, Memory>
     requires { count_in counts number + 1 < 2 ^ 32 }
-    ensures { IfOk result (λ raised. (n : ℕ) → count_in raised n ≡ (if test && number == n then 1 else 0) + count_in counts n) }
+    ensures { IfOk result (λ counts_with. (n : ℕ) → count_in counts_with n ≡ (if test && number == n then 1 else 0) + count_in counts n) }
 {
     if !test {
         return Ok(counts);

@@ -26,8 +26,8 @@ invariant_of-result c =
     let old = c.self.invariant in
     let first = c.number-first.ensures ∙ ap (number 0) c.as_slice.ensures in
     let homed = c.in_ok-homes.ensures ∙ ap (λ (hs : List ℕ). cond (is_kind kind.Client c.args.line.kind) (hs ++ number 1 c.args.line.items ∷ []) hs) old.homed in
-    let founded = c.restated-founders.ensures ∙ ap (λ (f : ℕ). cond (is_kind kind.Members c.args.line.kind) (number 1 c.args.line.items) f) old.founded in
-    subst (IsIndex c.next_rank.result c.in_ok-setting.setting c.restated-founders.result c.in_ok-homes.homes c.in_ok-steps.steps c.in_ok-reports.reports c.in_ok-joins.joins c.counted_with-counted.result)
+    let founded = c.stated_with-founders.ensures ∙ ap (λ (f : ℕ). cond (is_kind kind.Members c.args.line.kind) (number 1 c.args.line.items) f) old.founded in
+    subst (IsIndex c.next_rank.result c.in_ok-setting.setting c.stated_with-founders.result c.in_ok-homes.homes c.in_ok-steps.steps c.in_ok-reports.reports c.in_ok-joins.joins c.counted_with-counted.result)
     (sym (ap (reverse {A = Saying}) c.in_ok-push.ensures.ok ∙ reverse-append c.self.inside.sayings (c.args.line ∷ [])))
     (record {
       staged = c.next_rank.ensures;

@@ -1,7 +1,7 @@
 use Rattle.std.proofs.Common.{◌≡◌, ◌≤◌, ◌+◌, length, take}
 use Rattle.std.specs.List.{suffix_len}
 use Rattle.gr_script.specs.Cuts.{is_space}
-use Rattle.gr_script.proofs.cuts.closed.Given as goal
+use Rattle.gr_script.proofs.cuts.before_spaces.Given as goal
 
 abbrev pub invariant-loop-end : goal.invariant-loop-end
 invariant-loop-end l = record {
