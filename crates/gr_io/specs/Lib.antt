@@ -1,3 +1,4 @@
+pub mod Edges
 pub mod Ends
 pub mod Faults
 pub mod Input

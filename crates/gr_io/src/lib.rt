@@ -22,4 +22,4 @@ pub use sink::Sink;
 pub use source::Source;
 pub use std_sink::StdSink;
 pub use std_source::StdSource;
-pub use writing::write_all;
+pub use writing::{write_all, write_each};

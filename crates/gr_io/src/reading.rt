@@ -11,6 +11,7 @@ const CHUNK: usize = 0x1_0000;
 /// Reads a source to its end, and takes at most `limit + 1` bytes.
 pub fn read_all<S: Source>(alloc: Global, source: &mut S, limit: u64) -> Result<Vec<u8>, ReadEnd>
     ensures whole { IfOk result (λ bytes. IfSome (S.left source.old) (λ left. bytes.items ≡ left)) }
+    ensures taken { IfOk result (λ bytes. Consumes (S.left source.old) (S.left source.new) bytes.items) }
     ensures end { OnOk result (IsAtEnd (S.left source.new)) }
     ensures fits { IfOk result (λ bytes. vec_len bytes ≤ limit) }
     ensures cause { IfErr result (EndsFor limit (S.left source.old) (S.left source.new) (S.faults source.old) (S.faults source.new)) }

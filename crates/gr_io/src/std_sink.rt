@@ -1,4 +1,4 @@
-ghost use Rattle.std.specs.Prelude.{◌≡◌, ◌<◌, None, OnErr, ◌≤◌, IfOk, length};
+ghost use Rattle.std.specs.Prelude.{◌≡◌, ◌<◌, OnErr, ◌≤◌, IfOk, length};
 ghost use Rattle.std.specs.Io.{WritesAtMost};
 ghost use Rattle.std.specs.Io.KnownBytes.{WriteAppends};
 ghost use Rattle.gr_io.specs.Faults.{Rose, faults_after};
@@ -7,8 +7,9 @@ use crate::{Failed, Sink};
 use std::io::Write;
 use std::marker::Model;
 
-/// A sink over a writer of std. It tells its count of faults, and nothing of the bytes. A writer that
-/// takes nothing has failed.
+/// A sink over a writer of std. It holds what its writer holds, where that tells it, and it counts each
+/// error of its writer, which appends nothing. A writer that takes nothing has failed. Standard output
+/// tells nothing of its bytes.
 #[derive(Drop)]
 pub struct StdSink<W> {
     inner: W,
@@ -16,34 +17,41 @@ pub struct StdSink<W> {
 }
 
 impl<W> Model for StdSink<W> {
-    ghost use Rattle.std.specs.Prelude.{ℕ};
+    ghost use Rattle.gr_io.specs.Edges.{Edge};
 
-    ghost Value = { ℕ };
+    ghost Value = { Edge W };
 
-    ghost view = { λ sink. sink.faults };
+    ghost view = { λ sink. record { inner = sink.inner; faults = sink.faults } };
 }
 
 impl<W: Write> StdSink<W> {
     pub fn new(inner: W) -> StdSink<W>
-        ensures { result ≡ 0 }
+        ensures { result ≡ record { inner = inner; faults = 0 } }
     {
         StdSink { inner, faults: 0 }
+    }
+
+    /// The writer that it was made of.
+    pub fn into_inner(self) -> W
+        ensures { result ≡ self.inner }
+    {
+        self.inner
     }
 }
 
 impl<W: Write> Sink for StdSink<W> {
-    ghost held = { λ _. None };
+    ghost held = { λ sink. W.contents sink.inner };
 
-    ghost faults = { λ sink. sink };
+    ghost faults = { λ sink. sink.faults };
 
     fn write(&mut self, buf: &[u8]) -> Result<usize, Failed>
         ensures bound { WritesAtMost result buf.now }
         ensures some { IfOk result (λ n. 0 < length buf.now → 0 < n) }
-        ensures bytes { WriteAppends None None result buf.now }
-        ensures never_falls { self.old ≤ self.new }
-        ensures cause { OnErr result (Rose self.old self.new) }
+        ensures bytes { WriteAppends (W.contents self.old.inner) (W.contents self.new.inner) result buf.now }
+        ensures never_falls { self.old.faults ≤ self.new.faults }
+        ensures cause { OnErr result (Rose self.old.faults self.new.faults) }
 
-        ensures counted { self.new ≡ faults_after self.old result }
+        ensures counted { self.new.faults ≡ faults_after self.old.faults result }
     {
         match self.inner.write(buf) {
             Ok(count) if count > 0 || buf.is_empty() => Ok(count),

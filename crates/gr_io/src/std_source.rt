@@ -1,4 +1,4 @@
-ghost use Rattle.std.specs.Prelude.{◌≡◌, None, OnErr, ◌≤◌};
+ghost use Rattle.std.specs.Prelude.{◌≡◌, OnErr, ◌≤◌};
 ghost use Rattle.std.specs.Io.{ReadsAtMost};
 ghost use Rattle.std.specs.Io.KnownBytes.{ReadConsumes};
 ghost use Rattle.gr_io.specs.Faults.{Rose, faults_after};
@@ -7,7 +7,8 @@ use crate::{Failed, Source};
 use std::io::Read;
 use std::marker::Model;
 
-/// A source over a reader of std. It tells its count of faults, and nothing of the bytes.
+/// A source over a reader of std. It has left what its reader has left, where that tells it, and it
+/// counts each error of its reader, which takes nothing. Standard input tells nothing of its bytes.
 #[derive(Drop)]
 pub struct StdSource<R> {
     inner: R,
@@ -15,33 +16,33 @@ pub struct StdSource<R> {
 }
 
 impl<R> Model for StdSource<R> {
-    ghost use Rattle.std.specs.Prelude.{ℕ};
+    ghost use Rattle.gr_io.specs.Edges.{Edge};
 
-    ghost Value = { ℕ };
+    ghost Value = { Edge R };
 
-    ghost view = { λ source. source.faults };
+    ghost view = { λ source. record { inner = source.inner; faults = source.faults } };
 }
 
 impl<R: Read> StdSource<R> {
     pub fn new(inner: R) -> StdSource<R>
-        ensures { result ≡ 0 }
+        ensures { result ≡ record { inner = inner; faults = 0 } }
     {
         StdSource { inner, faults: 0 }
     }
 }
 
 impl<R: Read> Source for StdSource<R> {
-    ghost left = { λ _. None };
+    ghost left = { λ source. R.remaining source.inner };
 
-    ghost faults = { λ source. source };
+    ghost faults = { λ source. source.faults };
 
     fn read(&mut self, buf: &mut [u8]) -> Result<usize, Failed>
         ensures bound { ReadsAtMost result buf.new }
-        ensures bytes { ReadConsumes None None result buf.new }
-        ensures never_falls { self.old ≤ self.new }
-        ensures cause { OnErr result (Rose self.old self.new) }
+        ensures bytes { ReadConsumes (R.remaining self.old.inner) (R.remaining self.new.inner) result buf.new }
+        ensures never_falls { self.old.faults ≤ self.new.faults }
+        ensures cause { OnErr result (Rose self.old.faults self.new.faults) }
 
-        ensures counted { self.new ≡ faults_after self.old result }
+        ensures counted { self.new.faults ≡ faults_after self.old.faults result }
     {
         match self.inner.read(buf) {
             Ok(count) => Ok(count),

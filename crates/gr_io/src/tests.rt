@@ -1,6 +1,6 @@
 use crate::{
-    Failed, MemorySink, MemorySource, ReadEnd, Sink, Source, StdSink, StdSource, read_all,
-    write_all,
+    Failed, MemorySink, MemorySource, ReadEnd, Sink, Source, StdSink, StdSource, WriteFault,
+    read_all, write_all, write_each,
 };
 use std::alloc::Global;
 use std::io;
@@ -98,16 +98,22 @@ fn reads_from_std(rt: HostRuntime) -> Result<(), Fail> {
     let mut source = StdSource::new(TEXT.as_slice());
     let read = read_all(rt.alloc(), &mut source, 6).ok().ok_or("not read")?;
     assert_eq!(rt; read.as_slice(), TEXT.as_slice());
+    let mut cut_off = StdSource::new(TEXT.as_slice().chain(Broken));
+    let ended = read_all(rt.alloc(), &mut cut_off, 6);
+    assert!(rt; matches!(ended, Err(ReadEnd::Fault)));
     assert_eq!(rt; StdSource::new(Broken).read(&mut [0; 4]), Err(Failed));
     Ok(())
 }
 
 #[test]
 fn writes_to_std(rt: HostRuntime) -> Result<(), Fail> {
-    let mut written = Vec::new(rt.alloc());
-    let mut sink = StdSink::new(&mut written);
+    let mut sink = StdSink::new(Vec::new(rt.alloc()));
     write_all(&mut sink, TEXT).ok().ok_or("not written")?;
-    assert_eq!(rt; written.as_slice(), TEXT.as_slice());
+    assert_eq!(rt; sink.into_inner().as_slice(), TEXT.as_slice());
+    let mut room = [0u8; 4];
+    let wrote = write_each(&mut StdSink::new(room.as_mut_slice()), &["re", "gi", "on"]);
+    assert_eq!(rt; wrote, Err(WriteFault));
+    assert_eq!(rt; room, *b"regi");
     assert_eq!(rt; StdSink::new(Broken).write(TEXT), Err(Failed));
     let mut full = [0u8; 0];
     assert_eq!(rt; StdSink::new(full.as_mut_slice()).write(TEXT), Err(Failed));

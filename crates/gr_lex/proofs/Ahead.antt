@@ -10,7 +10,7 @@ use Rattle.gr_lex.specs.declared.token.Symbol.TheVariants.{Star, LeftBracket, Ri
 use Rattle.gr_lex.specs.declared.token.TokenKind.{TokenKind}
 use Rattle.gr_lex.specs.declared.token.TokenKind.TheVariants as kind
 use Rattle.gr_lex.specs.Bytes.{is_blank, is_letter, is_word_byte, quote, number_of, greatest_number, spelling}
-use Rattle.gr_lex.specs.Reading.{quoted_len, quoted_at, number_at, token_at, spanning}
+use Rattle.gr_lex.specs.Reader.Reading.{quoted_len, quoted_at, number_at, token_at, spanning}
 use Rattle.gr_lex.specs.Layout.{doubled, quoted, IsOfKind, first_fails, goes_on, could_take}
 use Rattle.gr_lex.proofs.Fronts.{prefix_len_yes, prefix_len_no, one_more}
 

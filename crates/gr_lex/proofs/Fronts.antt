@@ -10,7 +10,7 @@ use Rattle.gr_lex.specs.declared.token.Symbol.TheVariants.{Star, LeftBracket, Ri
 use Rattle.gr_lex.specs.declared.token.TokenKind.TheVariants as kind
 use Rattle.gr_lex.specs.declared.token.Token.{Token}
 use Rattle.gr_lex.specs.Bytes.{is_letter, is_word_byte, quote, number_of, greatest_number, symbol_of, spelling}
-use Rattle.gr_lex.specs.Reading.{quoted_len, behind_quote, number_at, quoted_at, symbol_at, token_at, spanning}
+use Rattle.gr_lex.specs.Reader.Reading.{quoted_len, behind_quote, number_at, quoted_at, symbol_at, token_at, spanning}
 use Rattle.gr_lex.specs.Layout.{doubled, IsOfKind, first_fails, goes_on, could_take}
 
 -- how a test went, by what it chose

@@ -5,7 +5,7 @@ use Rattle.gr_lex.specs.declared.token.Token.{Token}
 use Rattle.gr_lex.specs.declared.fault.LexFault.{LexFault}
 use Rattle.gr_lex.specs.declared.fault.LexFault.TheVariants.{BadCharacter, OpenText, NumberTooLarge, Memory}
 use Rattle.gr_lex.specs.Bytes.{is_blank}
-use Rattle.gr_lex.specs.Reading.{token_at, with_first, tokens_from, Gives, Spans}
+use Rattle.gr_lex.specs.Reader.Reading.{token_at, with_first, tokens_from, Gives, Spans}
 
 -- the tokens so far, and those that come
 abbrev pub behind : List Token → Result (List Token) LexFault → Result (List Token) LexFault

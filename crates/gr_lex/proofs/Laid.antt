@@ -9,7 +9,7 @@ use Rattle.gr_lex.specs.declared.token.Token.{Token}
 use Rattle.gr_lex.specs.declared.fault.LexFault.{LexFault}
 use Rattle.gr_lex.specs.declared.fault.LexFault.TheVariants.{BadCharacter, OpenText, NumberTooLarge, Memory}
 use Rattle.gr_lex.specs.Bytes.{is_blank}
-use Rattle.gr_lex.specs.Reading.{token_at, with_first, followed, tokens_from, tokens_of, Gives}
+use Rattle.gr_lex.specs.Reader.Reading.{token_at, with_first, followed, tokens_from, tokens_of, Gives}
 use Rattle.gr_lex.specs.Layout.{IsOfKind, first_fails, could_take, IsToken, AreBlanks, IsLaidOutTo, IsLaidOut}
 use Rattle.gr_lex.specs.Faults.{IsFault}
 use Rattle.gr_lex.proofs.Fronts.{and_true, Begins, begins}

@@ -10,7 +10,7 @@ use Rattle.gr_lex.specs.declared.token.Token.{Token}
 use Rattle.gr_lex.specs.declared.fault.LexFault.{LexFault}
 use Rattle.gr_lex.specs.declared.fault.LexFault.TheVariants.{BadCharacter, OpenText, NumberTooLarge, Memory}
 use Rattle.gr_lex.specs.Bytes.{is_blank, is_letter, quote, number_of, greatest_number, symbol_of, spelling}
-use Rattle.gr_lex.specs.Reading.{quoted_len, number_at, quoted_at, symbol_at, token_at, followed, tokens_from}
+use Rattle.gr_lex.specs.Reader.Reading.{quoted_len, number_at, quoted_at, symbol_at, token_at, followed, tokens_from}
 use Rattle.gr_lex.specs.Layout.{doubled, quoted, first_fails}
 use Rattle.gr_lex.specs.Faults.{HasBadCharacter, HasNumberTooLarge, HasOpenText}
 use Rattle.gr_lex.proofs.Fronts.{chosen, prefix_passes, prefix_stops, closes, symbol_spells}

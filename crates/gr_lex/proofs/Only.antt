@@ -1,5 +1,6 @@
 -- What is laid out by the grammar is what is read: the tokens up to the text's end, or up to a fault.
-use Rattle.std.proofs.Common.{◌≡◌, ℕ, zero, suc, ◌+◌, ◌-◌, List, [], ◌∷◌, ◌++◌, length, get_or, take, drop, Result, Ok, Err, true, false, sym, refl, ap, ◌∙◌, subst, arith, append-nil}
+use Rattle.std.proofs.Common.{◌≡◌, ℕ, zero, suc, ◌+◌, ◌-◌, List, [], ◌∷◌, ◌++◌, length, get_or, take, drop, Result, Ok, Err, true, false, inl, inr, sym, refl, ap, ◌∙◌, subst, arith, append-nil}
+use Rattle.std.specs.Prelude.{◌⊎◌}
 use Rattle.std.specs.List.{list_all}
 use Rattle.std.proofs.lemmas.Bool.{and_parts, cond-true}
 use Rattle.std.proofs.lemmas.List.{take-append-drop, drop-drop, drop_all, length-drop, length-take-le, get_or-drop, take_rest}
@@ -7,7 +8,7 @@ use Rattle.gr_lex.specs.declared.token.Token.{Token}
 use Rattle.gr_lex.specs.declared.fault.LexFault.{LexFault}
 use Rattle.gr_lex.specs.declared.fault.LexFault.TheVariants.{BadCharacter, OpenText, NumberTooLarge, Memory}
 use Rattle.gr_lex.specs.Bytes.{is_blank}
-use Rattle.gr_lex.specs.Reading.{token_at, with_first, tokens_from, tokens_of, Gives}
+use Rattle.gr_lex.specs.Reader.Reading.{token_at, with_first, tokens_from, tokens_of, Gives}
 use Rattle.gr_lex.specs.Layout.{bytes_of, IsToken, AreBlanks, IsLaidOutTo, IsLaidOut}
 use Rattle.gr_lex.specs.Faults.{HasTokensTo, IsFault}
 use Rattle.gr_lex.proofs.InTurn.{behind, tokens_from_token}
@@ -79,10 +80,18 @@ tokens_fault text (OpenText place) is = fault_there text place (OpenText place) 
 tokens_fault text (NumberTooLarge place) is = fault_there text place (NumberTooLarge place) is.0 (refl, is.1)
 tokens_fault text Memory is = absurd is
 
+-- An answer that is what is read, where that is known, or want of memory.
+gives_known : (result read known : Result (List Token) LexFault) → Gives result read → read ≡ known → (result ≡ known) ⊎ (result ≡ Err Memory)
+gives_known (Ok ts) read known gives is = inl (sym gives ∙ is)
+gives_known (Err (BadCharacter place)) read known gives is = inl (sym gives ∙ is)
+gives_known (Err (OpenText place)) read known gives is = inl (sym gives ∙ is)
+gives_known (Err (NumberTooLarge place)) read known gives is = inl (sym gives ∙ is)
+gives_known (Err Memory) read known gives is = inr refl
+
 -- what is laid out so are the tokens
-pub only : (text : List ℕ) (result : Result (List Token) LexFault) → Gives result (tokens_of text) → (ts : List Token) → IsLaidOut text 0 ts → Gives result (Ok ts)
-only text result read ts laid = subst (Gives result) (tokens_only text ts laid) read
+pub only : (text : List ℕ) (result : Result (List Token) LexFault) → Gives result (tokens_of text) → (ts : List Token) → IsLaidOut text 0 ts → (result ≡ Ok ts) ⊎ (result ≡ Err Memory)
+only text result read ts laid = gives_known result _ _ read (tokens_only text ts laid)
 
 -- a text with such a fault has that answer
-pub only_fault : (text : List ℕ) (result : Result (List Token) LexFault) → Gives result (tokens_of text) → (fault : LexFault) → IsFault text fault → Gives result (Err fault)
-only_fault text result read fault is = subst (Gives result) (tokens_fault text fault is) read
+pub only_fault : (text : List ℕ) (result : Result (List Token) LexFault) → Gives result (tokens_of text) → (fault : LexFault) → IsFault text fault → (result ≡ Err fault) ⊎ (result ≡ Err Memory)
+only_fault text result read fault is = gives_known result _ _ read (tokens_fault text fault is)

@@ -6,7 +6,7 @@ use Rattle.std.proofs.lemmas.Bool.{ne_eqb}
 use Rattle.std.proofs.lemmas.List.{take-append-drop, drop_more, drop_all, length-take, get_or-take}
 use Rattle.std.proofs.lemmas.List.Sums.{fold-append, fold_more, prefix_len_passes}
 use Rattle.gr_lex.specs.Bytes.{number_of, quote}
-use Rattle.gr_lex.specs.Reading.{quoted_len}
+use Rattle.gr_lex.specs.Reader.Reading.{quoted_len}
 
 abbrev step : ℕ → ℕ → ℕ
 step number digit = number * 10 + (digit - 0x30)

@@ -1,5 +1,5 @@
 -- The bytes that tokens are made of.
-use Rattle.std.specs.Prelude.{ℕ, ◌+◌, ◌-◌, ◌*◌, List, [], ◌∷◌, Bool, ◌==◌, ◌||◌, if◌then◌else◌, Option, Some, None}
+use Rattle.std.specs.Prelude.{ℕ, ◌+◌, ◌-◌, ◌*◌, ◌^◌, List, [], ◌∷◌, Bool, ◌==◌, ◌||◌, if◌then◌else◌, Option, Some, None}
 use Rattle.std.specs.List.{fold}
 use Rattle.std.specs.Char.{is_ascii_alphabetic, is_ascii_digit}
 use Rattle.gr_lex.specs.declared.token.Symbol.{Symbol}
@@ -22,9 +22,9 @@ quote = 0x27
 abbrev pub number_of : List ℕ → ℕ
 number_of digits = fold (λ number digit. number * 10 + (digit - 0x30)) 0 digits
 
--- 2 ^ 63, which a sign before it makes the least whole number
+-- A sign before it makes it the least whole number.
 abbrev pub greatest_number : ℕ
-greatest_number = 9223372036854775808
+greatest_number = 2 ^ 63
 
 -- The symbol that begins with a byte, where `next` is the byte after it: the longest one.
 abbrev pub symbol_of : ℕ → ℕ → Option Symbol

@@ -1,4 +1,5 @@
 pub mod Bytes
-pub mod Reading
 pub mod Layout
 pub mod Faults
+-- how the code reads, which private clauses alone cite
+pub mod Reader

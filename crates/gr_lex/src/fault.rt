@@ -7,7 +7,7 @@ pub enum LexFault {
     BadCharacter(u64),
     /// The first quote of a text that doesn't end.
     OpenText(u64),
-    /// The first digit of a number above 9223372036854775808.
+    /// The first digit of a number above `Token::GREATEST_NUMBER`.
     NumberTooLarge(u64),
     Memory,
 }

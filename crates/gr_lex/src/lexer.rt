@@ -5,7 +5,7 @@ ghost use Rattle.std.specs.Char.{is_ascii_digit};
 ghost use Rattle.gr_lex.specs.Layout.{IsToken, IsLaidOut};
 ghost use Rattle.gr_lex.specs.Faults.{IsFault};
 ghost use Rattle.gr_lex.specs.declared.fault.LexFault.TheVariants as lex_fault;
-ghost use Rattle.gr_lex.specs.Reading.{spanning, number_at, quoted_at, symbol_at, quoted_len, token_at, tokens_of, Gives, Spans};
+ghost use Rattle.gr_lex.specs.Reader.Reading.{spanning, number_at, quoted_at, symbol_at, quoted_len, token_at, tokens_of, Gives, Spans};
 
 use crate::bytes::{QUOTE, is_blank, is_letter, symbol_len, symbol_of};
 use crate::scan::{digits_len, number_of, quoted_len, word_len};
@@ -15,16 +15,14 @@ use std::alloc::Global;
 /// The tokens of a text. The time that it takes grows as the text does.
 #[tactic(auto, using(crate::proofs::Laid::laid_from_gives, crate::proofs::Laid::each_from_gives, crate::proofs::Laid::stops_from_gives, crate::proofs::Only::only, crate::proofs::Only::only_fault))]
 pub fn tokens(alloc: Global, text: &str) -> Result<TokenList, LexFault>
-    // What reading gives, unless memory ran out.
-    ensures exact { Gives result (tokens_of text.now) }
     ensures laid_out { IfOk result (λ ts. IsLaidOut text.now 0 ts) }
     ensures each { IfOk result (λ ts. All (IsToken text.now) ts) }
-    // What is laid out so are the tokens.
-    ensures only { (ts : List Token) → IsLaidOut text.now 0 ts → Gives result (Ok ts) }
+    // What is laid out so are the tokens, unless memory is refused.
+    ensures only { (ts : List Token) → IsLaidOut text.now 0 ts → (result ≡ Ok ts) ⊎ (result ≡ Err lex_fault.Memory) }
     // A fault stands at the first place where neither a blank nor a token does.
     ensures stops { IfErr result (λ fault. (fault ≡ lex_fault.Memory) ⊎ IsFault text.now fault) }
-    // A text with such a fault has that answer.
-    ensures only_fault { (fault : LexFault) → IsFault text.now fault → Gives result (Err fault) }
+    // A text with such a fault has that answer, unless memory is refused.
+    ensures only_fault { (fault : LexFault) → IsFault text.now fault → (result ≡ Err fault) ⊎ (result ≡ Err lex_fault.Memory) }
 {
     tokens_in_turn(alloc, text)
 }

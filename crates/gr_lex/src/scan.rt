@@ -2,11 +2,10 @@ ghost use Rattle.std.specs.Prelude.{◌≡◌, ◌<◌, ◌≤◌, ◌+◌, leng
 ghost use Rattle.std.specs.List.{prefix_len, AllPass};
 ghost use Rattle.std.specs.Char.{is_ascii_digit};
 ghost use Rattle.gr_lex.specs.Bytes.{is_word_byte, number_of, greatest_number};
-ghost use Rattle.gr_lex.specs.Reading.{quoted_len};
+ghost use Rattle.gr_lex.specs.Reader.Reading.{quoted_len};
 
+use crate::Token;
 use crate::bytes::{QUOTE, is_word_byte};
-
-const GREATEST_NUMBER: u64 = 9223372036854775808;
 
 /// How many bytes at the front may stand in a word.
 pub(crate) fn word_len(front: &[u8]) -> usize
@@ -35,7 +34,7 @@ pub(crate) fn number_of(digits: &[u8]) -> Option<u64>
     let mut number = 0;
     for byte in digits {
         let digit = u64::from(*byte - b'0');
-        if number > (GREATEST_NUMBER - digit) / 10 {
+        if number > (Token::GREATEST_NUMBER - digit) / 10 {
             return None;
         }
         number = number * 10 + digit;

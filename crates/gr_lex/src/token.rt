@@ -41,6 +41,9 @@ pub struct Token {
 }
 
 impl Token {
+    /// 2 ^ 63, above which no token's number is. A sign before it makes it the least whole number.
+    pub const GREATEST_NUMBER: u64 = 9223372036854775808;
+
     /// The token's own bytes in its text.
     pub fn text<'a>(&self, text: &'a str) -> &'a str
         requires { IsToken text.now self.now }

@@ -1,19 +1,20 @@
 -- How a query would go on where a reader stopped.
-use Rattle.std.proofs.Common.{◌≡◌, ℕ, zero, suc, ◌^◌, pos, neg_ℤ, List, [], ◌∷◌, ◌++◌, length, Err, Option, Some, None, Bool, cond, true, false, leb, ltb, inl, inr, ⊎_elim, refl, sym, ap, ◌∙◌, subst, append_assoc, arith}
+use Rattle.std.proofs.Common.{◌≡◌, ℕ, zero, suc, pos, neg_ℤ, List, [], ◌∷◌, ◌++◌, length, Err, Option, Some, None, Bool, cond, true, false, leb, ltb, inl, inr, ⊎_elim, refl, sym, ap, ◌∙◌, subst, append_assoc, arith}
 use Rattle.std.proofs.lemmas.Slice.Eq.{bytes_eq-Decides}
 use Rattle.gr_value.specs.declared.scalar.Scalar.TheVariants as scalar
 use Rattle.gr_lex.specs.declared.token.Symbol.{Symbol}
 use Rattle.gr_lex.specs.declared.token.Symbol.TheVariants as symbols
 use Rattle.gr_lex.specs.Bytes.{spelling}
+use Rattle.gr_lex.specs.Bytes.{greatest_number}
 use Rattle.gr_oql.specs.declared.keyword.Keyword.{Keyword}
 use Rattle.gr_oql.specs.declared.keyword.Keyword.TheVariants as word
 use Rattle.gr_oql.specs.declared.condition.Operand.TheVariants as operand
 use Rattle.gr_oql.specs.declared.fault.Part.TheVariants as part
-use Rattle.gr_oql.specs.declared.stop.Wrong.{Wrong}
-use Rattle.gr_oql.specs.declared.stop.Wrong.TheVariants.{Expected, NotACq, TooDeep}
+use Rattle.gr_oql.specs.declared.halt.Wrong.{Wrong}
+use Rattle.gr_oql.specs.declared.halt.Wrong.TheVariants.{Expected, NotACq, TooDeep}
 use Rattle.gr_oql.specs.Words.{letters}
 use Rattle.gr_oql.specs.Terminals.{Terminal, keyword, name, number, quoted, symbol, begins, front, rest, is_symbol, is_keyword, as_name, as_word, as_number, as_quoted}
-use Rattle.gr_oql.specs.Reading.{Reading, ◌>>=◌, symbol_at, keyword_at, word_by, member_at, field_of_name, field_by, field_at, negative_by, negative_at, plain_by, missing, literal_at, operand_by, operand_at, more_at, separated_at}
+use Rattle.gr_oql.specs.Reader.Reading.{Reading, ◌>>=◌, symbol_at, keyword_at, word_by, member_at, field_of_name, field_by, field_at, negative_by, negative_at, plain_by, missing, literal_at, operand_by, operand_at, more_at, separated_at}
 use Rattle.gr_oql.specs.Grammar.{One, Is, ◌then◌, Row, Field, Literal, IsOperand, is_alias, has_backslash}
 use Rattle.gr_oql.proofs.Readings.{chosen, wrong_is, place_is, stopped, not_made}
 use Rattle.gr_oql.proofs.Sound.{Front, Sound, one_begins, symbol_sound}
@@ -216,7 +217,7 @@ module _ (opening : List Terminal → List Terminal) where
       ⊎_elim
       (λ h. absurd (cc h.1))
       (λ h. here opening _ ts w left (number 0 ∷ [], (number 0, refl, refl), (number_spelled, tt)) h.1)
-      (chosen (leb n (2 ^ 63)) _ _ _ read)
+      (chosen (leb n greatest_number) _ _ _ read)
 
   signed : (l : List Terminal) → (One (is_symbol symbols.Minus) then Is as_number 0) l → Something Literal l
   signed l spelled = (scalar.Int (neg_ℤ (pos 0)), inr (0, omega arith, refl, spelled))
@@ -243,7 +244,7 @@ module _ (opening : List Terminal → List Terminal) where
       ⊎_elim
       (λ h. absurd (cc h.1))
       (λ h. here opening _ ts w left some_literal h.1)
-      (chosen (ltb n (2 ^ 63)) _ _ _ read)
+      (chosen (ltb n greatest_number) _ _ _ read)
   plain_ahead None (Some text) ts w left read = absurd (cc)
   plain_ahead None None ts w left read = at_front opening _ ts (missing ts) w left (missing_ahead _ ts refl) read
 

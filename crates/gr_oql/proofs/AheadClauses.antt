@@ -9,14 +9,15 @@ use Rattle.gr_oql.specs.declared.condition.Operand.TheVariants as operand
 use Rattle.gr_oql.specs.declared.condition.Test.{Test}
 use Rattle.gr_oql.specs.declared.condition.Test.TheVariants as tests
 use Rattle.gr_oql.specs.declared.fault.Part.TheVariants as part
-use Rattle.gr_oql.specs.declared.stop.Wrong.{Wrong}
-use Rattle.gr_oql.specs.declared.stop.Wrong.TheVariants.{Expected, NotACq, TooDeep}
+use Rattle.gr_oql.specs.declared.halt.Wrong.{Wrong}
+use Rattle.gr_oql.specs.declared.halt.Wrong.TheVariants.{Expected, NotACq, TooDeep}
 use Rattle.gr_oql.specs.Words.{letters}
 use Rattle.gr_oql.specs.Tree.{Tree, any, all, negation, test}
 use Rattle.gr_oql.specs.View.{in_order}
 use Rattle.gr_oql.specs.Terminals.{Terminal, keyword, name, symbol, quoted, begins, front, rest, is_symbol, is_keyword, as_name, is_tail}
-use Rattle.gr_oql.specs.Reading.{Reading, ◌>>=◌, read_as, word_by, name_at, condition_at, region_by, region_at, alias_by, alias_at, end_at, bare_end_at, where_at, source_at}
-use Rattle.gr_oql.specs.Grammar.{One, ◌then◌, IsTest, IsPart, IsCondition, IsRegion, IsAlias, IsWhere, has_backslash, most_depth, Asked}
+use Rattle.gr_oql.specs.Reader.Reading.{Reading, ◌>>=◌, read_as, word_by, name_at, condition_at, region_by, region_at, alias_by, alias_at, end_at, bare_end_at, where_at, source_at}
+use Rattle.gr_oql.specs.Grammar.{One, ◌then◌, IsTest, IsPart, IsCondition, IsRegion, IsAlias, IsWhere, has_backslash, most_depth}
+use Rattle.gr_oql.specs.Question.{Asked}
 use Rattle.gr_oql.proofs.Readings.{chosen, wrong_is, place_is, stopped, not_made}
 use Rattle.gr_oql.proofs.Sound.{Front, joined, one_begins}
 use Rattle.gr_oql.proofs.SoundQuery.{condition_sound, region_sound_by, alias_sound}

@@ -10,12 +10,12 @@ use Rattle.gr_oql.specs.declared.condition.Operand.TheVariants as operand
 use Rattle.gr_oql.specs.declared.condition.Test.{Test}
 use Rattle.gr_oql.specs.declared.condition.Test.TheVariants as tests
 use Rattle.gr_oql.specs.declared.fault.Part.TheVariants as part
-use Rattle.gr_oql.specs.declared.stop.Wrong.{Wrong}
-use Rattle.gr_oql.specs.declared.stop.Wrong.TheVariants.{NotACq, TooDeep}
+use Rattle.gr_oql.specs.declared.halt.Wrong.{Wrong}
+use Rattle.gr_oql.specs.declared.halt.Wrong.TheVariants.{NotACq, TooDeep}
 use Rattle.gr_oql.specs.Tree.{Tree, any, all, negation, test}
 use Rattle.gr_oql.specs.View.{in_order}
 use Rattle.gr_oql.specs.Terminals.{Terminal, symbol, quoted, begins, front, rest, is_symbol, is_keyword, as_quoted}
-use Rattle.gr_oql.specs.Reading.{Reading, ◌>>=◌, read_as, symbol_at, keyword_at, field_at, literal_at, operand_at, separated_at, relation_at, pattern_by, among_at, compare_at, behind_operand, behind_first, bracketed_at, test_at, all_at, any_at, bracket_at, part_at, condition_at}
+use Rattle.gr_oql.specs.Reader.Reading.{Reading, ◌>>=◌, read_as, symbol_at, keyword_at, field_at, literal_at, operand_at, separated_at, relation_at, pattern_by, among_at, compare_at, behind_operand, behind_first, bracketed_at, test_at, all_at, any_at, bracket_at, part_at, condition_at}
 use Rattle.gr_oql.specs.Grammar.{One, Is, ◌then◌, Row, Field, Literal, IsOperand, IsRelation, Bracketed, IsTest, IsAll, IsAny, IsPart, IsCondition, has_backslash}
 use Rattle.gr_oql.proofs.Readings.{chosen, made_of, stopped, not_made}
 use Rattle.gr_oql.proofs.Sound.{Front, Sound, weaker, joined, one_begins, symbol_sound, keyword_sound, field_sound, literal_sound, operand_sound, row_sound}

@@ -5,12 +5,13 @@ use Rattle.gr_lex.specs.declared.token.Symbol.TheVariants as symbols
 use Rattle.gr_oql.specs.declared.keyword.Keyword.{Keyword}
 use Rattle.gr_oql.specs.declared.keyword.Keyword.TheVariants as word
 use Rattle.gr_oql.specs.declared.fault.Part.TheVariants as part
-use Rattle.gr_oql.specs.declared.stop.Wrong.{Wrong}
-use Rattle.gr_oql.specs.declared.stop.Wrong.TheVariants.{Expected, NotACq, TooDeep}
+use Rattle.gr_oql.specs.declared.halt.Wrong.{Wrong}
+use Rattle.gr_oql.specs.declared.halt.Wrong.TheVariants.{Expected, NotACq, TooDeep}
 use Rattle.gr_oql.specs.Words.{letters}
 use Rattle.gr_oql.specs.Terminals.{Terminal, keyword, symbol, quoted, begins, is_symbol, is_keyword}
-use Rattle.gr_oql.specs.Reading.{Reading, ◌>>=◌, symbol_at, keyword_at, star_at, source_at, query_at}
-use Rattle.gr_oql.specs.Grammar.{One, ◌then◌, IsQueryWithin, most_depth, Asked}
+use Rattle.gr_oql.specs.Reader.Reading.{Reading, ◌>>=◌, symbol_at, keyword_at, star_at, source_at, query_at}
+use Rattle.gr_oql.specs.Grammar.{One, ◌then◌, IsQueryWithin, most_depth}
+use Rattle.gr_oql.specs.Question.{Asked}
 use Rattle.gr_oql.specs.FirstFault.{IsStart, Fits}
 use Rattle.gr_oql.proofs.Readings.{chosen, left_is, stopped}
 use Rattle.gr_oql.proofs.Sound.{Front, symbol_sound, keyword_sound}

@@ -1,5 +1,5 @@
 -- What is spelled so is read.
-use Rattle.std.proofs.Common.{◌≡◌, ℕ, zero, suc, ◌≤◌, ◌^◌, List, [], ◌∷◌, ◌++◌, length, Ok, Option, Some, None, Bool, true, false, inl, inr, refl, sym, ap, ◌∙◌, subst, arith, append_assoc, length-append, bytes_eq}
+use Rattle.std.proofs.Common.{◌≡◌, ℕ, zero, suc, ◌≤◌, List, [], ◌∷◌, ◌++◌, length, Ok, Option, Some, None, Bool, true, false, inl, inr, refl, sym, ap, ◌∙◌, subst, arith, append_assoc, length-append, bytes_eq}
 use Rattle.std.proofs.lemmas.Bool.{le-leb, lt-ltb}
 use Rattle.std.proofs.lemmas.Slice.Eq.{bytes_eq-Decides}
 use Rattle.gr_value.specs.declared.scalar.Scalar.{Scalar}
@@ -7,12 +7,13 @@ use Rattle.gr_value.specs.declared.scalar.Scalar.TheVariants as scalar
 use Rattle.gr_lex.specs.declared.token.Symbol.{Symbol}
 use Rattle.gr_lex.specs.declared.token.Symbol.TheVariants as symbols
 use Rattle.gr_lex.specs.Bytes.{spelling}
+use Rattle.gr_lex.specs.Bytes.{greatest_number}
 use Rattle.gr_oql.specs.declared.keyword.Keyword.{Keyword}
 use Rattle.gr_oql.specs.declared.keyword.Keyword.TheVariants as word
 use Rattle.gr_oql.specs.declared.condition.Operand.TheVariants as operand
 use Rattle.gr_oql.specs.Words.{letters, keyword_eq}
 use Rattle.gr_oql.specs.Terminals.{Terminal, keyword, name, number, quoted, symbol, symbol_eq, begins, front, is_symbol, is_keyword, as_name, as_word, as_number, as_quoted}
-use Rattle.gr_oql.specs.Reading.{Reading, symbol_at, keyword_at, field_of_name, field_at, literal_at, operand_at, more_at, separated_at}
+use Rattle.gr_oql.specs.Reader.Reading.{Reading, symbol_at, keyword_at, field_of_name, field_at, literal_at, operand_at, more_at, separated_at}
 use Rattle.gr_oql.specs.Grammar.{One, Is, ◌then◌, Row, Field, Literal, IsOperand}
 use Rattle.gr_oql.proofs.Sound.{Front}
 
@@ -153,12 +154,12 @@ literal_complete ts (scalar.Int z) left always f = by_case f.holds
     by_case : Literal (scalar.Int z) f.spelled → literal_at ts ≡ Ok (scalar.Int z, left)
     by_case (inl h) =
         let one = has_of as_number h.0 ts left (record { spelled = f.spelled; split = f.split; holds = h.3 }) in
-        rw (one.2, number_is one.0 h.0 one.1, lt-ltb h.0 (2 ^ 63) h.1, h.2) refl
+        rw (one.2, number_is one.0 h.0 one.1, lt-ltb h.0 greatest_number h.1, h.2) refl
     by_case (inr h) =
         let signed = parts_of (One (is_symbol symbols.Minus)) (Is as_number h.0) ts left (record { spelled = f.spelled; split = f.split; holds = h.3 }) in
         let sign = first_of (is_symbol symbols.Minus) ts signed.0 signed.1 in
         let one = has_of as_number h.0 signed.0 left signed.2 in
-        rw (sign.2, sign.1, one.2, one.1, le-leb h.0 (2 ^ 63) h.1, h.2) refl
+        rw (sign.2, sign.1, one.2, one.1, le-leb h.0 greatest_number h.1, h.2) refl
 
 -- the first terminal of a literal is no name
 pub literal_no_name : (ts : List Terminal) (x : Scalar) (left : List Terminal) → Front (Literal x) ts left → front as_name ts ≡ None

@@ -14,8 +14,9 @@ use Rattle.gr_oql.specs.declared.condition.Test.TheVariants as tests
 use Rattle.gr_oql.specs.Tree.{Tree, any, all, test}
 use Rattle.gr_oql.specs.View.{in_order}
 use Rattle.gr_oql.specs.Terminals.{Terminal, begins, front, rest, is_symbol, is_keyword, as_name, as_number, as_quoted}
-use Rattle.gr_oql.specs.Reading.{Reading, read_as, literal_at, relation_at, behind_operand, behind_first, bracketed_at, test_at, all_at, any_at, bracket_at, part_at, condition_at, star_at, region_at, alias_at, end_at, bare_end_at, where_at, source_at, query_within}
-use Rattle.gr_oql.specs.Grammar.{One, Is, ◌then◌, Row, Field, Literal, IsOperand, IsRelation, Bracketed, IsTest, IsAll, IsAny, IsPart, IsCondition, IsRegion, IsAlias, IsWhere, IsQueryWithin, has_backslash, Asked}
+use Rattle.gr_oql.specs.Reader.Reading.{Reading, read_as, literal_at, relation_at, behind_operand, behind_first, bracketed_at, test_at, all_at, any_at, bracket_at, part_at, condition_at, star_at, region_at, alias_at, end_at, bare_end_at, where_at, source_at, query_within}
+use Rattle.gr_oql.specs.Grammar.{One, Is, ◌then◌, Row, Field, Literal, IsOperand, IsRelation, Bracketed, IsTest, IsAll, IsAny, IsPart, IsCondition, IsRegion, IsAlias, IsWhere, IsQueryWithin, has_backslash}
+use Rattle.gr_oql.specs.Question.{Asked}
 use Rattle.gr_oql.proofs.Sound.{Front}
 use Rattle.gr_oql.proofs.Complete.{Complete, Always, first_of, has_of, parts_of, name_no_symbol, name_no_keyword, number_is, quoted_is, keyword_no_symbol, keyword_no_name, symbol_no_keyword, keyword_other, symbol_other, symbol_complete, keyword_complete, field_of_name_complete, field_complete, literal_complete, operand_complete, row_complete}
 

@@ -1,64 +1,106 @@
 -- A text is read where its tokens spell a query, and there alone.
-use Rattle.std.proofs.Common.{◌≡◌, ℕ, List, Result, Ok, Err, inl, inr, refl, sym, ap, subst}
+use Rattle.std.proofs.Common.{◌≡◌, ℕ, List, ◌++◌, Result, Ok, Err, inl, inr, ⊎_elim, refl, sym, ap, ◌∙◌, subst}
 use Rattle.std.specs.Prelude.{◌⊎◌, IfOk, IfErr}
 use Rattle.gr_lex.specs.declared.token.Token.{Token}
 use Rattle.gr_lex.specs.declared.fault.LexFault.{LexFault}
 use Rattle.gr_lex.specs.declared.fault.LexFault.TheVariants as lex
-use Rattle.gr_lex.specs.Reading.{tokens_of}
+use Rattle.gr_lex.specs.Layout.{IsLaidOut}
+use Rattle.gr_lex.specs.Faults as lexical
 use Rattle.gr_oql.specs.declared.fault.OqlFault.{OqlFault}
 use Rattle.gr_oql.specs.declared.fault.OqlFault.TheVariants as fault
-use Rattle.gr_oql.specs.Question.{Question}
-use Rattle.gr_oql.specs.Terminals.{terminals_of}
-use Rattle.gr_oql.specs.Reading.{Reading, query_at}
-use Rattle.gr_oql.specs.Faults.{answer, answer_of_tokens, question_of, Answers}
-use Rattle.gr_oql.specs.Grammar.{asked_by, Spells, Asked, most_depth}
+use Rattle.gr_oql.specs.Question.{Asked, Question}
+use Rattle.gr_oql.specs.Terminals.{Terminal, terminals_of}
+use Rattle.gr_oql.specs.Reader.Reading.{Reading, query_at}
+use Rattle.gr_oql.specs.Reader.Answers.{answer, answer_of_tokens, Answers}
+use Rattle.gr_oql.specs.Reader.Asking.{asked, question}
+use Rattle.gr_oql.specs.declared.clauses.Clauses.{Clauses}
+use Rattle.gr_oql.specs.Grammar.{Spells, most_depth}
 use Rattle.gr_oql.specs.FirstFault.{IsFault}
-use Rattle.gr_lex.proofs.Laid.{tokens_laid}
-use Rattle.gr_lex.proofs.Only.{tokens_only}
 use Rattle.gr_oql.proofs.SoundQuery.{query_sound}
 use Rattle.gr_oql.proofs.CompleteQuery.{query_complete}
-use Rattle.gr_oql.proofs.FaultTexts.{fault_is, fault_only}
+use Rattle.gr_oql.proofs.FaultTexts.{answered, fault_there}
 
 same_question : {x y : Question} → ◌≡◌ {A = Result Question OqlFault} (Ok x) (Ok y) → x ≡ y
 same_question is = cc
 
-answer_spelled : (text : List ℕ) (tokens : List Token) (read : Reading Asked) (q : Question) → tokens_of text ≡ Ok tokens → read ≡ query_at (terminals_of text tokens) → answer text tokens read ≡ Ok q → Spells text q
-answer_spelled text tokens (Ok x) q lexed is read =
+answer_spelled : (text : List ℕ) (tokens : List Token) (read : Reading Asked) (q : Question) → IsLaidOut text 0 tokens → read ≡ query_at (terminals_of text tokens) → answer text tokens read ≡ Ok q → Spells text q
+answer_spelled text tokens (Ok x) q laid is read =
     let sound = query_sound most_depth (terminals_of text tokens) x.0 x.1 (sym is) in
-    subst (Spells text) (same_question read) (tokens, tokens_laid text tokens lexed, refl, sound.1)
-answer_spelled text tokens (Err e) q lexed is read = absurd (cc)
+    subst (Spells text) (same_question read) (tokens, laid, refl, sound.1)
+answer_spelled text tokens (Err e) q laid is read = absurd (cc)
 
-question_spelled : (text : List ℕ) (lexed : Result (List Token) LexFault) (q : Question) → tokens_of text ≡ lexed → answer_of_tokens text lexed ≡ Ok q → Spells text q
-question_spelled text (Ok tokens) q is read = answer_spelled text tokens _ q is refl read
-question_spelled text (Err fault) q is read = absurd (cc)
+-- what the code keeps of what it read
+pub clauses_spelled : (text : List ℕ) (tokens : List Token) (s : Clauses) (left : List Terminal) → IsLaidOut text 0 tokens → query_at (terminals_of text tokens) ≡ Ok (asked s, left) → Spells text (question text s)
+clauses_spelled text tokens s left laid read = (tokens, laid, refl, (query_sound most_depth (terminals_of text tokens) (asked s) left read).1)
+
+-- An answer that is what is read, where that is known, or want of memory.
+answers_known : (result read known : Result Question OqlFault) → Answers result read → read ≡ known → (result ≡ known) ⊎ (result ≡ Err fault.Memory)
+answers_known (Ok q) read known answers is = inl (sym answers ∙ is)
+answers_known (Err fault.Memory) read known answers is = inr refl
+answers_known (Err (fault.Lex lex.Memory)) read known answers is = absurd answers
+answers_known (Err (fault.Lex (lex.BadCharacter place))) read known answers is = inl (sym answers ∙ is)
+answers_known (Err (fault.Lex (lex.OpenText place))) read known answers is = inl (sym answers ∙ is)
+answers_known (Err (fault.Lex (lex.NumberTooLarge place))) read known answers is = inl (sym answers ∙ is)
+answers_known (Err (fault.Expected place)) read known answers is = inl (sym answers ∙ is)
+answers_known (Err (fault.NotACq place part)) read known answers is = inl (sym answers ∙ is)
+answers_known (Err (fault.TooDeep place)) read known answers is = inl (sym answers ∙ is)
+
+no_lexed_memory : (result : Result Question OqlFault) → Answers result (Err (fault.Lex lex.Memory)) → result ≡ Err fault.Memory
+no_lexed_memory (Ok q) answers = absurd (cc)
+no_lexed_memory (Err fault.Memory) answers = refl
+no_lexed_memory (Err (fault.Lex lex.Memory)) answers = absurd answers
+no_lexed_memory (Err (fault.Lex (lex.BadCharacter place))) answers = absurd (cc)
+no_lexed_memory (Err (fault.Lex (lex.OpenText place))) answers = absurd (cc)
+no_lexed_memory (Err (fault.Lex (lex.NumberTooLarge place))) answers = absurd (cc)
+no_lexed_memory (Err (fault.Expected place)) answers = absurd (cc)
+no_lexed_memory (Err (fault.NotACq place part)) answers = absurd (cc)
+no_lexed_memory (Err (fault.TooDeep place)) answers = absurd (cc)
+
+module _ (text : List ℕ) (lexed : Result (List Token) LexFault) (result : Result Question OqlFault) (answers : Answers result (answer_of_tokens text lexed)) where
+  -- an answer where it is known what the tokens are, unless memory is refused
+  known : (l : Result (List Token) LexFault) (answer : Result Question OqlFault) → answer_of_tokens text l ≡ answer → (lexed ≡ l) ⊎ (lexed ≡ Err lex.Memory) → (result ≡ answer) ⊎ (result ≡ Err fault.Memory)
+  known l answer is lexes =
+      ⊎_elim
+      (λ same. answers_known result _ answer answers (ap (answer_of_tokens text) same ∙ is))
+      (λ none. inr (no_lexed_memory result (subst (λ (l : Result (List Token) LexFault). Answers result (answer_of_tokens text l)) none answers)))
+      lexes
+
+  -- what is spelled so is read
+  pub only : ((ts : List Token) → IsLaidOut text 0 ts → (lexed ≡ Ok ts) ⊎ (lexed ≡ Err lex.Memory)) → (q : Question) → Spells text q → (result ≡ Ok q) ⊎ (result ≡ Err fault.Memory)
+  only lexes q is =
+      let read = query_complete most_depth (terminals_of text is.0) q.asked is.3 in
+      let there : answer text is.0 (query_at (terminals_of text is.0)) ≡ Ok q = rw read (ap (λ (l : List ℕ). Ok (record { text = l; asked = q.asked })) (sym is.2)) in
+      known (Ok is.0) (Ok q) there (lexes is.0 is.1)
+
+  -- a text with such a fault has that answer
+  pub only_fault : ((ts : List Token) → IsLaidOut text 0 ts → (lexed ≡ Ok ts) ⊎ (lexed ≡ Err lex.Memory)) → ((f : LexFault) → lexical.IsFault text f → (lexed ≡ Err f) ⊎ (lexed ≡ Err lex.Memory)) → (f : OqlFault) → IsFault text f → (result ≡ Err f) ⊎ (result ≡ Err fault.Memory)
+  only_fault lexes faults f (inl h) = known (Err h.0) (Err f) (ap (λ (g : OqlFault). Err g) (sym h.2)) (faults h.0 h.1)
+  only_fault lexes faults f (inr h) = known (Ok (h.0 ++ h.1)) (Err f) (fault_there text f h) (lexes (h.0 ++ h.1) h.3)
+
+lexed_spelled : (text : List ℕ) (lexed : Result (List Token) LexFault) (q : Question) → IfOk lexed (λ ts. IsLaidOut text 0 ts) → answer_of_tokens text lexed ≡ Ok q → Spells text q
+lexed_spelled text (Ok tokens) q laid read = answer_spelled text tokens _ q laid refl read
+lexed_spelled text (Err fault) q laid read = absurd (cc)
 
 -- what is read is spelled so
-pub spelled : (text : List ℕ) (result : Result Question OqlFault) → Answers result (question_of text) → IfOk result (Spells text)
-spelled text (Ok q) read = question_spelled text _ q refl read
-spelled text (Err fault) read = tt
+pub spelled : (text : List ℕ) (lexed : Result (List Token) LexFault) (result : Result Question OqlFault) → Answers result (answer_of_tokens text lexed) → IfOk lexed (λ ts. IsLaidOut text 0 ts) → IfOk result (Spells text)
+spelled text lexed (Ok q) read laid = lexed_spelled text lexed q laid read
+spelled text lexed (Err fault) read laid = tt
 
-question_only : (text : List ℕ) (q : Question) → Spells text q → question_of text ≡ Ok q
-question_only text q is =
-    let lexed = tokens_only text is.0 is.1 in
-    let read = query_complete most_depth (terminals_of text is.0) (asked_by q) is.3 in
-    rw (lexed, read) (ap (λ (l : List ℕ). Ok (record { text = l; region = q.region; alias = q.alias; condition = q.condition })) (sym is.2))
-
--- what is spelled so is read
-pub only : (text : List ℕ) (result : Result Question OqlFault) → Answers result (question_of text) → (q : Question) → Spells text q → Answers result (Ok q)
-only text result read q is = subst (Answers result) (question_only text q is) read
+-- a fault of the tokens, or of what they ask
+lexed_fault : (text : List ℕ) (lexed : Result (List Token) LexFault) (f : OqlFault) → IfOk lexed (λ ts. IsLaidOut text 0 ts) → IfErr lexed (λ l. (l ≡ lex.Memory) ⊎ lexical.IsFault text l) → (f ≡ fault.Lex lex.Memory → ⊥) → answer_of_tokens text lexed ≡ Err f → IsFault text f
+lexed_fault text (Ok tokens) f laid faults other read = answered text tokens _ f laid refl read
+lexed_fault text (Err l) f laid faults other read =
+    let given : fault.Lex l ≡ f = cc in
+    ⊎_elim (λ none. absurd (other (sym given ∙ ap fault.Lex none))) (λ is. inl (l, is, sym given)) faults
 
 -- a fault is the first that the grammar has
-pub stops : (text : List ℕ) (result : Result Question OqlFault) → Answers result (question_of text) → IfErr result (λ f. (f ≡ fault.Memory) ⊎ IsFault text f)
-stops text (Ok q) read = tt
-stops text (Err fault.Memory) read = inl refl
-stops text (Err (fault.Lex lex.Memory)) read = absurd read
-stops text (Err (fault.Lex (lex.BadCharacter place))) read = inr (fault_is text _ read)
-stops text (Err (fault.Lex (lex.OpenText place))) read = inr (fault_is text _ read)
-stops text (Err (fault.Lex (lex.NumberTooLarge place))) read = inr (fault_is text _ read)
-stops text (Err (fault.Expected place)) read = inr (fault_is text _ read)
-stops text (Err (fault.NotACq place part)) read = inr (fault_is text _ read)
-stops text (Err (fault.TooDeep place)) read = inr (fault_is text _ read)
-
--- a text with such a fault has that answer
-pub only_fault : (text : List ℕ) (result : Result Question OqlFault) → Answers result (question_of text) → (f : OqlFault) → IsFault text f → Answers result (Err f)
-only_fault text result read f is = subst (Answers result) (fault_only text f is) read
+pub stops : (text : List ℕ) (lexed : Result (List Token) LexFault) (result : Result Question OqlFault) → Answers result (answer_of_tokens text lexed) → IfOk lexed (λ ts. IsLaidOut text 0 ts) → IfErr lexed (λ l. (l ≡ lex.Memory) ⊎ lexical.IsFault text l) → IfErr result (λ f. (f ≡ fault.Memory) ⊎ IsFault text f)
+stops text lexed (Ok q) read laid faults = tt
+stops text lexed (Err fault.Memory) read laid faults = inl refl
+stops text lexed (Err (fault.Lex lex.Memory)) read laid faults = absurd read
+stops text lexed (Err (fault.Lex (lex.BadCharacter place))) read laid faults = inr (lexed_fault text lexed _ laid faults (λ is. cc) read)
+stops text lexed (Err (fault.Lex (lex.OpenText place))) read laid faults = inr (lexed_fault text lexed _ laid faults (λ is. cc) read)
+stops text lexed (Err (fault.Lex (lex.NumberTooLarge place))) read laid faults = inr (lexed_fault text lexed _ laid faults (λ is. cc) read)
+stops text lexed (Err (fault.Expected place)) read laid faults = inr (lexed_fault text lexed _ laid faults (λ is. cc) read)
+stops text lexed (Err (fault.NotACq place part)) read laid faults = inr (lexed_fault text lexed _ laid faults (λ is. cc) read)
+stops text lexed (Err (fault.TooDeep place)) read laid faults = inr (lexed_fault text lexed _ laid faults (λ is. cc) read)

@@ -5,13 +5,14 @@ use Rattle.gr_lex.specs.declared.token.Symbol.TheVariants as symbols
 use Rattle.gr_oql.specs.declared.keyword.Keyword.{Keyword}
 use Rattle.gr_oql.specs.declared.keyword.Keyword.TheVariants as word
 use Rattle.gr_oql.specs.declared.fault.Part.TheVariants as part
-use Rattle.gr_oql.specs.declared.stop.Wrong.{Wrong}
-use Rattle.gr_oql.specs.declared.stop.Wrong.TheVariants.{Expected, NotACq, TooDeep}
+use Rattle.gr_oql.specs.declared.halt.Wrong.{Wrong}
+use Rattle.gr_oql.specs.declared.halt.Wrong.TheVariants.{Expected, NotACq, TooDeep}
 use Rattle.gr_oql.specs.Words.{keyword_eq}
 use Rattle.gr_oql.specs.Tree.{Tree}
 use Rattle.gr_oql.specs.Terminals.{Terminal, keyword, name, number, quoted, symbol, begins, is_symbol, is_keyword, is_tail}
-use Rattle.gr_oql.specs.Reading.{read_as, query_at}
-use Rattle.gr_oql.specs.Grammar.{IsQuery, has_backslash, most_depth, Asked}
+use Rattle.gr_oql.specs.Reader.Reading.{read_as, query_at}
+use Rattle.gr_oql.specs.Grammar.{IsQuery, has_backslash, most_depth}
+use Rattle.gr_oql.specs.Question.{Asked}
 use Rattle.gr_oql.specs.FirstFault.{IsStart, IsOver, Fits, rank, Ceases}
 use Rattle.gr_oql.proofs.Readings.{wrong_is}
 use Rattle.gr_oql.proofs.Complete.{symbol_no_keyword, symbol_no_name, keyword_no_name, keyword_no_symbol, keyword_other}

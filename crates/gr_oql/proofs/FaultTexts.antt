@@ -1,23 +1,19 @@
 -- A text is answered with the fault that the grammar gives it, and with no other.
-use Rattle.std.proofs.Common.{◌≡◌, ◌⊎◌, ℕ, ◌-◌, List, [], ◌∷◌, ◌++◌, length, drop, get_or, Result, Ok, Err, inl, inr, refl, sym, ap, ◌∙◌, subst, append_assoc, append-nil, arith}
+use Rattle.std.proofs.Common.{◌≡◌, ◌⊎◌, ℕ, ◌-◌, List, [], ◌∷◌, ◌++◌, length, drop, get_or, Ok, Err, inl, inr, refl, sym, ap, ◌∙◌, subst, append_assoc, append-nil, arith}
 use Rattle.std.proofs.Math.Seq.{drop-append_seam}
 use Rattle.std.proofs.lemmas.List.{length-append, length-map, map-append}
 use Rattle.gr_lex.specs.declared.token.Token.{Token}
-use Rattle.gr_lex.specs.declared.fault.LexFault.{LexFault}
-use Rattle.gr_lex.specs.Reading.{tokens_of}
 use Rattle.gr_lex.specs.Layout.{IsLaidOut}
 use Rattle.gr_oql.specs.declared.fault.Part.TheVariants as part
 use Rattle.gr_oql.specs.declared.fault.OqlFault.{OqlFault}
-use Rattle.gr_oql.specs.declared.fault.OqlFault.TheVariants as fault
-use Rattle.gr_oql.specs.declared.stop.Wrong.{Wrong}
-use Rattle.gr_oql.specs.declared.stop.Wrong.TheVariants.{Expected, NotACq, TooDeep}
+use Rattle.gr_oql.specs.declared.halt.Wrong.{Wrong}
+use Rattle.gr_oql.specs.declared.halt.Wrong.TheVariants.{Expected, NotACq, TooDeep}
 use Rattle.gr_oql.specs.Terminals.{Terminal, front, rest, as_number, terminal_of, terminals_of}
-use Rattle.gr_oql.specs.Reading.{Reading, query_at}
-use Rattle.gr_oql.specs.Faults.{fault_of, answer, answer_of_tokens, question_of}
-use Rattle.gr_oql.specs.Grammar.{IsQuery, Asked, most_depth}
+use Rattle.gr_oql.specs.Reader.Reading.{Reading, query_at}
+use Rattle.gr_oql.specs.Reader.Answers.{fault_of, answer}
+use Rattle.gr_oql.specs.Grammar.{IsQuery, most_depth}
+use Rattle.gr_oql.specs.Question.{Asked}
 use Rattle.gr_oql.specs.FirstFault.{IsStart, IsOver, rank, Ceases, fault_at, IsFault, place_of, fault_by}
-use Rattle.gr_lex.proofs.Laid.{tokens_laid, fault_found}
-use Rattle.gr_lex.proofs.Only.{tokens_only, tokens_fault}
 use Rattle.gr_oql.proofs.SoundQuery.{query_sound}
 use Rattle.gr_oql.proofs.Spelled.{AreSpelled, both_spelled, front_spelled, back_spelled, laid_spelled}
 use Rattle.gr_oql.proofs.FaultRanks.{query_ceases}
@@ -32,8 +28,8 @@ tokens_split text (t ∷ tokens) (b ∷ before) left is =
     (t ∷ h.0, h.1, ap (λ (l : List Token). t ∷ l) h.2, ap (λ (x : Terminal). x ∷ terminals_of text h.0) first ∙ ap (λ (l : List Terminal). b ∷ l) h.3, h.4)
 
 -- the fault at the tokens that are left
-fault_there : (text : List ℕ) (before left : List Token) (w : Wrong) → fault_of text (before ++ left) w (terminals_of text left) ≡ fault_at text left w
-fault_there text before left w =
+fault_at_left : (text : List ℕ) (before left : List Token) (w : Wrong) → fault_of text (before ++ left) w (terminals_of text left) ≡ fault_at text left w
+fault_at_left text before left w =
     ap (λ (l : List Token). fault_by (place_of text l) (front as_number (terminals_of text left)) w) there
   where
     count : length (before ++ left) - length (terminals_of text left) ≡ length before
@@ -42,27 +38,18 @@ fault_there text before left w =
     there : drop (length (before ++ left) - length (terminals_of text left)) (before ++ left) ≡ left
     there = ap (λ (n : ℕ). drop n (before ++ left)) count ∙ drop-append_seam before left
 
--- what is answered
-answered : (text : List ℕ) (tokens : List Token) (read : Reading Asked) (f : OqlFault) → tokens_of text ≡ Ok tokens → query_at (terminals_of text tokens) ≡ read → answer text tokens read ≡ Err f → IsFault text f
-answered text tokens (Ok x) f lexed is read = absurd (cc)
-answered text tokens (Err e) f lexed is read =
-    let laid = tokens_laid text tokens lexed in
+-- what is answered where the tokens don't spell a query is a fault by the grammar
+pub answered : (text : List ℕ) (tokens : List Token) (read : Reading Asked) (f : OqlFault) → IsLaidOut text 0 tokens → query_at (terminals_of text tokens) ≡ read → answer text tokens read ≡ Err f → IsFault text f
+answered text tokens (Ok x) f laid is read = absurd (cc)
+answered text tokens (Err e) f laid is read =
     let stops = query_ceases (terminals_of text tokens) e.0 e.1 (laid_spelled text 0 (length text) tokens laid) is in
     let parts = tokens_split text tokens stops.0 e.1 stops.1 in
     let front_is = parts.3 in
     let behind_is = parts.4 in
     let ceases : Ceases (terminals_of text parts.0) (terminals_of text parts.1) e.0 = rw (front_is, behind_is) stops.2 in
-    let found : fault_of text tokens e.0 e.1 ≡ fault_at text parts.1 e.0 = ap (λ (l : List Token). fault_of text l e.0 e.1) parts.2 ∙ ap (fault_of text (parts.0 ++ parts.1) e.0) (sym behind_is) ∙ fault_there text parts.0 parts.1 e.0 in
+    let found : fault_of text tokens e.0 e.1 ≡ fault_at text parts.1 e.0 = ap (λ (l : List Token). fault_of text l e.0 e.1) parts.2 ∙ ap (fault_of text (parts.0 ++ parts.1) e.0) (sym behind_is) ∙ fault_at_left text parts.0 parts.1 e.0 in
     let given : fault_of text tokens e.0 e.1 ≡ f = cc in
     inr (parts.0, parts.1, e.0, subst (IsLaidOut text 0) parts.2 laid, ceases, sym given ∙ found)
-
-lexed_fault : (text : List ℕ) (lexed : Result (List Token) LexFault) (f : OqlFault) → tokens_of text ≡ lexed → answer_of_tokens text lexed ≡ Err f → IsFault text f
-lexed_fault text (Ok tokens) f is read = answered text tokens _ f is refl read
-lexed_fault text (Err lexical) f is read = let given : fault.Lex lexical ≡ f = cc in inl (lexical, fault_found text lexical is, sym given)
-
--- a text's fault is one by the grammar
-pub fault_is : (text : List ℕ) (f : OqlFault) → question_of text ≡ Err f → IsFault text f
-fault_is text f read = lexed_fault text _ f refl read
 
 -- Two places where the same terminals cease to begin a query are one.
 start_before : (before left : List Terminal) → AreSpelled left → IsStart most_depth (before ++ left) → IsStart most_depth before
@@ -143,10 +130,9 @@ module _ (text : List ℕ) (before left : List Token) (w : Wrong) (laid : IsLaid
       let place = one_place (terminals_of text before) (terminals_of text left) stops.0 e.1 w e.0 (subst AreSpelled parted known) (sym parted ∙ stops.1) ceases stops.2 in
       let here : Ceases (terminals_of text before) (terminals_of text left) e.0 = subst (λ (l : List Terminal). Ceases (terminals_of text before) l e.0) (sym place.1) (subst (λ (l : List Terminal). Ceases l e.1 e.0) (sym place.0) stops.2) in
       let same : e.0 ≡ w = one_wrong (terminals_of text before) (terminals_of text left) e.0 w here ceases in
-      ap (λ (l : List Terminal). Err (fault_of text (before ++ left) e.0 l)) (sym place.1) ∙ ap (λ (v : Wrong). Err (fault_of text (before ++ left) v (terminals_of text left))) same ∙ ap (λ (f : OqlFault). Err f) (fault_there text before left w)
+      ap (λ (l : List Terminal). Err (fault_of text (before ++ left) e.0 l)) (sym place.1) ∙ ap (λ (v : Wrong). Err (fault_of text (before ++ left) v (terminals_of text left))) same ∙ ap (λ (f : OqlFault). Err f) (fault_at_left text before left w)
 
--- a text whose fault it is by the grammar is answered so
-pub fault_only : (text : List ℕ) (f : OqlFault) → IsFault text f → question_of text ≡ Err f
-fault_only text f (inl h) = ap (answer_of_tokens text) (tokens_fault text h.0 h.1) ∙ ap (λ (g : OqlFault). Err g) (sym h.2)
-fault_only text f (inr h) =
-    ap (answer_of_tokens text) (tokens_only text (h.0 ++ h.1) h.3) ∙ stops_there text h.0 h.1 h.2 h.3 h.4 (query_at (terminals_of text (h.0 ++ h.1))) refl ∙ ap (λ (g : OqlFault). Err g) (sym h.5)
+-- Where tokens cease to begin a query, that fault is answered.
+pub fault_there : (text : List ℕ) (f : OqlFault) (h : (before : List Token) × (left : List Token) × (w : Wrong) × IsLaidOut text 0 (before ++ left) × Ceases (terminals_of text before) (terminals_of text left) w × (f ≡ fault_at text left w))
+    → answer text (h.0 ++ h.1) (query_at (terminals_of text (h.0 ++ h.1))) ≡ Err f
+fault_there text f h = stops_there text h.0 h.1 h.2 h.3 h.4 (query_at (terminals_of text (h.0 ++ h.1))) refl ∙ ap (λ (g : OqlFault). Err g) (sym h.5)

@@ -1,13 +1,14 @@
 -- A fault is the first that the grammar has, at the first terminal with which no query goes on.
-use Rattle.std.proofs.Common.{◌≡◌, ℕ, List, [], ◌∷◌, ◌++◌, length, Ok, Err, Option, Some, None, true, ◌||◌, inl, inr, ⊎_elim, refl, sym, ap, ◌∙◌, append_assoc, append-nil, leb, ltb, ◌^◌, arith}
+use Rattle.std.proofs.Common.{◌≡◌, ℕ, List, [], ◌∷◌, ◌++◌, length, Ok, Err, Option, Some, None, true, ◌||◌, inl, inr, ⊎_elim, refl, sym, ap, ◌∙◌, append_assoc, append-nil, leb, ltb, arith}
 use Rattle.gr_lex.specs.declared.token.Symbol.TheVariants as symbols
+use Rattle.gr_lex.specs.Bytes.{greatest_number}
 use Rattle.gr_oql.specs.Grammar.{has_backslash, most_depth}
 use Rattle.gr_oql.specs.declared.keyword.Keyword.TheVariants as word
 use Rattle.gr_oql.specs.declared.fault.Part.TheVariants as part
-use Rattle.gr_oql.specs.declared.stop.Wrong.{Wrong}
-use Rattle.gr_oql.specs.declared.stop.Wrong.TheVariants.{Expected, NotACq, TooDeep}
+use Rattle.gr_oql.specs.declared.halt.Wrong.{Wrong}
+use Rattle.gr_oql.specs.declared.halt.Wrong.TheVariants.{Expected, NotACq, TooDeep}
 use Rattle.gr_oql.specs.Terminals.{Terminal, keyword, name, number, quoted, symbol, front, is_symbol, is_keyword, as_number, as_quoted}
-use Rattle.gr_oql.specs.Reading.{Reading, negative_by, plain_by, literal_at, pattern_by, part_at, query_within, query_at}
+use Rattle.gr_oql.specs.Reader.Reading.{Reading, negative_by, plain_by, literal_at, pattern_by, part_at, query_within, query_at}
 use Rattle.gr_oql.specs.FirstFault.{IsStart, IsOver}
 use Rattle.gr_oql.proofs.Readings.{chosen, wrong_is, place_is}
 use Rattle.gr_oql.proofs.Complete.{symbol_other}
@@ -34,11 +35,11 @@ no_start t t' m Ordinary bottom alike imports before w ordinary read start =
 -- A terminal is read like itself, whatever stands behind it.
 negative_stops : (o : Option ℕ) (ts : List Terminal) (w : Wrong) (left : List Terminal) → negative_by o ts ≡ Err (w, left) → ts ≡ left
 negative_stops None ts w left read = place_is read
-negative_stops (Some n) ts w left read = ⊎_elim (λ h. absurd (cc h.1)) (λ h. place_is h.1) (chosen (leb n (2 ^ 63)) _ _ _ read)
+negative_stops (Some n) ts w left read = ⊎_elim (λ h. absurd (cc h.1)) (λ h. place_is h.1) (chosen (leb n greatest_number) _ _ _ read)
 
 module _ (t : Terminal) (m m' : List Terminal) (w : Wrong) where
   plain_again : (n : Option ℕ) (text : Option (List ℕ)) → plain_by n text (t ∷ m) ≡ Err (w, t ∷ m) → (w' : Wrong) × (plain_by n text (t ∷ m') ≡ Err (w', t ∷ m'))
-  plain_again (Some n) text read = ⊎_elim (λ h. absurd (cc h.1)) (λ h. let large = h.0 in (Expected, rw large refl)) (chosen (ltb n (2 ^ 63)) _ _ _ read)
+  plain_again (Some n) text read = ⊎_elim (λ h. absurd (cc h.1)) (λ h. let large = h.0 in (Expected, rw large refl)) (chosen (ltb n greatest_number) _ _ _ read)
   plain_again None (Some text) read = absurd (cc)
   plain_again None None read = (_, refl)
 

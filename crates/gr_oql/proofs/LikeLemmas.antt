@@ -2,7 +2,7 @@
 use Rattle.std.proofs.Common.{◌≡◌, ℕ, zero, suc, ◌+◌, ◌==◌, ◌||◌, ◌&&◌, List, [], ◌∷◌, Bool, true, false, drop, refl, sym, ap, ◌∙◌, subst, drop-drop, arith}
 use Rattle.std.specs.List.{list_any}
 use Rattle.gr_oql.specs.Like.{ends, percent, stands_for, first_and_rest, is_like, has_end_like}
-use Rattle.gr_oql.specs.Walk.{Follows, MeetsPercent}
+use Rattle.gr_oql.specs.Reader.Walk.{Follows, MeetsPercent}
 
 same_when : (a b : Bool) → (a ≡ true → b ≡ true) → (b ≡ true → a ≡ true) → a ≡ b
 same_when true b f g = sym (f refl)

@@ -14,9 +14,9 @@ use Rattle.gr_value.specs.KeyBytes.{is_key_byte, IsKey}
 use Rattle.gr_oql.specs.declared.keyword.Keyword.{Keyword}
 use Rattle.gr_oql.specs.declared.lexeme.Lexeme.{Lexeme}
 use Rattle.gr_oql.specs.Words.{keyword_of}
-use Rattle.gr_oql.specs.Lexemes.{terminals}
+use Rattle.gr_oql.specs.Reader.Lexemes.{terminals}
 use Rattle.gr_oql.specs.Terminals.{Terminal, word_terminal, terminal_by, terminal_of, terminals_of, as_name}
-use Rattle.gr_oql.specs.Names.{HasWordBytes, AreNamed}
+use Rattle.gr_oql.specs.Reader.Names.{HasWordBytes, AreNamed}
 use Rattle.gr_value.proofs.Keys.{few_key_bytes}
 
 -- the names of a text's tokens

@@ -1,8 +1,8 @@
 -- How a reading went, and how it stopped.
 use Rattle.std.proofs.Common.{◌≡◌, ◌⊎◌, List, Ok, Err, Bool, cond, true, false, inl, inr, refl, ap}
-use Rattle.gr_oql.specs.declared.stop.Wrong.{Wrong}
+use Rattle.gr_oql.specs.declared.halt.Wrong.{Wrong}
 use Rattle.gr_oql.specs.Terminals.{Terminal}
-use Rattle.gr_oql.specs.Reading.{Reading, ◌>>=◌, read_as}
+use Rattle.gr_oql.specs.Reader.Reading.{Reading, ◌>>=◌, read_as}
 
 -- how a reading went
 pub chosen : {X : Type 0} (b : Bool) (x y z : X) → cond b x y ≡ z → ((b ≡ true) × (x ≡ z)) ⊎ ((b ≡ false) × (y ≡ z))

@@ -1,11 +1,11 @@
 -- How items with separators between them are read one after another.
 use Rattle.std.proofs.Common.{◌≡◌, ℕ, zero, suc, ◌≤◌, List, [], ◌∷◌, ◌++◌, length, Ok, Err, Bool, true, false, sym, refl, ap, ◌∙◌, arith, append-nil, append_assoc}
 use Rattle.gr_oql.specs.Terminals.{Terminal, begins, rest}
-use Rattle.gr_oql.specs.Reading.{Reading, read_as, more_at, separated_at}
-use Rattle.gr_oql.specs.Gives.{Stops}
-use Rattle.gr_oql.specs.declared.stop.Wrong.{Wrong}
-use Rattle.gr_oql.specs.declared.stop.Stop.{Stop}
-use Rattle.gr_oql.specs.declared.stop.Stop.TheVariants as stops
+use Rattle.gr_oql.specs.Reader.Reading.{Reading, read_as, more_at, separated_at}
+use Rattle.gr_oql.specs.Reader.Gives.{Stops}
+use Rattle.gr_oql.specs.declared.halt.Wrong.{Wrong}
+use Rattle.gr_oql.specs.declared.halt.Halt.{Halt}
+use Rattle.gr_oql.specs.declared.halt.Halt.TheVariants as stops
 
 -- two values made one after the other
 read_as_twice : {A B C : Type 0} (f : A → B) (g : B → C) (read : Reading A) → read_as g (read_as f read) ≡ read_as (λ x. g (f x)) read
@@ -78,10 +78,10 @@ module _ {A : Type 0} (separator : Terminal → Bool) (item : List Terminal → 
   broken_first start e read = rw read refl
 
   -- the same of what the code answered
-  pub stops_within : (start left next after : List Terminal) (found : List A) (stop : Stop) → SoFar start found left → begins separator left ≡ true → next ≡ rest left → Stops stop after (item next) → Stops stop after (separated_at separator item start)
+  pub stops_within : (start left next after : List Terminal) (found : List A) (stop : Halt) → SoFar start found left → begins separator left ≡ true → next ≡ rest left → Stops stop after (item next) → Stops stop after (separated_at separator item start)
   stops_within start left next after found stops.Memory so_far goes_on passed read = tt
   stops_within start left next after found (stops.Wrong wrong) so_far goes_on passed read = broken start left found (wrong, after) so_far goes_on (ap item (sym passed) ∙ read)
 
-  pub stops_first : (start after : List Terminal) (stop : Stop) → Stops stop after (item start) → Stops stop after (separated_at separator item start)
+  pub stops_first : (start after : List Terminal) (stop : Halt) → Stops stop after (item start) → Stops stop after (separated_at separator item start)
   stops_first start after stops.Memory read = tt
   stops_first start after (stops.Wrong wrong) read = broken_first start (wrong, after) read

@@ -1,16 +1,17 @@
 -- What is read is spelled so.
-use Rattle.std.proofs.Common.{◌≡◌, ℕ, zero, suc, ◌^◌, pos, neg_ℤ, List, [], ◌∷◌, ◌++◌, length, Ok, Option, Some, None, Bool, true, false, leb, ltb, inl, inr, ⊎_elim, refl, sym, ap, ◌∙◌, subst, append_assoc, append-nil}
+use Rattle.std.proofs.Common.{◌≡◌, ℕ, zero, suc, pos, neg_ℤ, List, [], ◌∷◌, ◌++◌, length, Ok, Option, Some, None, Bool, true, false, leb, ltb, inl, inr, ⊎_elim, refl, sym, ap, ◌∙◌, subst, append_assoc, append-nil}
 use Rattle.std.proofs.lemmas.Bool.{leb-true, ltb-true}
 use Rattle.gr_value.specs.declared.scalar.Scalar.{Scalar}
 use Rattle.gr_value.specs.declared.scalar.Scalar.TheVariants as scalar
 use Rattle.gr_lex.specs.declared.token.Symbol.{Symbol}
 use Rattle.gr_lex.specs.declared.token.Symbol.TheVariants as symbols
+use Rattle.gr_lex.specs.Bytes.{greatest_number}
 use Rattle.gr_oql.specs.declared.keyword.Keyword.{Keyword}
 use Rattle.gr_oql.specs.declared.keyword.Keyword.TheVariants as word
 use Rattle.gr_oql.specs.declared.condition.Operand.{Operand}
 use Rattle.gr_oql.specs.declared.condition.Operand.TheVariants as operand
 use Rattle.gr_oql.specs.Terminals.{Terminal, begins, front, rest, is_symbol, is_keyword, as_name, as_word, as_number, as_quoted}
-use Rattle.gr_oql.specs.Reading.{Reading, symbol_at, keyword_at, word_by, name_at, field_of_name, field_by, field_at, negative_by, negative_at, plain_by, literal_at, operand_by, operand_at, more_at, separated_at}
+use Rattle.gr_oql.specs.Reader.Reading.{Reading, symbol_at, keyword_at, word_by, name_at, field_of_name, field_by, field_at, negative_by, negative_at, plain_by, literal_at, operand_by, operand_at, more_at, separated_at}
 use Rattle.gr_oql.specs.Grammar.{One, Is, ◌then◌, Row, Field, Literal, IsOperand, is_alias}
 use Rattle.gr_oql.proofs.Readings.{chosen, bound, made_of, value_is, left_is}
 
@@ -107,7 +108,7 @@ negative_sound minus sign ts (Some n) x left is read =
     (weaker _ (Literal (scalar.Int (neg_ℤ (pos n)))) (minus ∷ ts) (rest ts) (λ l spelled. inr (n, leb-true n _ h.0, refl, spelled))
     (joined (One (is_symbol symbols.Minus)) (Is as_number n) (minus ∷ ts) ts (rest ts) signed number))))
     (λ h. absurd (cc h.1))
-    (chosen (leb n (2 ^ 63)) _ _ _ read)
+    (chosen (leb n greatest_number) _ _ _ read)
 
 plain_sound : (ts : List Terminal) (o : Option ℕ) (p : Option (List ℕ)) (x : Scalar) (left : List Terminal) → o ≡ front as_number ts → p ≡ front as_quoted ts → plain_by o p ts ≡ Ok (x, left) → Front (Literal x) ts left
 plain_sound ts (Some n) p x left is quoted_is read =
@@ -117,7 +118,7 @@ plain_sound ts (Some n) p x left is quoted_is read =
     (subst (Front (Literal (scalar.Int (pos n))) ts) (left_is h.1)
     (weaker _ (Literal (scalar.Int (pos n))) ts (rest ts) (λ l spelled. inl (n, ltb-true n _ h.0, refl, spelled)) (one_has as_number n ts (sym is)))))
     (λ h. absurd (cc h.1))
-    (chosen (ltb n (2 ^ 63)) _ _ _ read)
+    (chosen (ltb n greatest_number) _ _ _ read)
 plain_sound ts None (Some text) x left is quoted_is read =
     subst (λ (y : Scalar). Front (Literal y) ts left) (value_is read) (subst (Front (Literal (scalar.Text text)) ts) (left_is read) (one_has as_quoted text ts (sym quoted_is)))
 plain_sound ts None None x left is quoted_is read = absurd (cc)

@@ -11,8 +11,9 @@ use Rattle.gr_oql.specs.declared.condition.Test.TheVariants as tests
 use Rattle.gr_oql.specs.Tree.{Tree, any, all, negation, test}
 use Rattle.gr_oql.specs.View.{in_order}
 use Rattle.gr_oql.specs.Terminals.{Terminal, begins, front, rest, is_symbol, is_keyword, as_name, as_quoted}
-use Rattle.gr_oql.specs.Reading.{Reading, read_as, symbol_at, keyword_at, name_at, field_at, literal_at, operand_at, separated_at, relation_at, pattern_by, among_at, compare_at, behind_operand, behind_first, bracketed_at, test_at, all_at, any_at, bracket_at, part_at, condition_at, star_at, region_by, region_at, alias_by, alias_at, end_at, bare_end_at, where_at, source_at, query_within}
-use Rattle.gr_oql.specs.Grammar.{One, Is, ◌then◌, Row, Field, Literal, IsOperand, IsRelation, Bracketed, IsTest, IsAll, IsAny, IsPart, IsCondition, IsRegion, IsAlias, IsWhere, IsQueryWithin, has_backslash, Asked}
+use Rattle.gr_oql.specs.Reader.Reading.{Reading, read_as, symbol_at, keyword_at, name_at, field_at, literal_at, operand_at, separated_at, relation_at, pattern_by, among_at, compare_at, behind_operand, behind_first, bracketed_at, test_at, all_at, any_at, bracket_at, part_at, condition_at, star_at, region_by, region_at, alias_by, alias_at, end_at, bare_end_at, where_at, source_at, query_within}
+use Rattle.gr_oql.specs.Grammar.{One, Is, ◌then◌, Row, Field, Literal, IsOperand, IsRelation, Bracketed, IsTest, IsAll, IsAny, IsPart, IsCondition, IsRegion, IsAlias, IsWhere, IsQueryWithin, has_backslash}
+use Rattle.gr_oql.specs.Question.{Asked}
 use Rattle.gr_oql.proofs.Readings.{chosen, bound, made_of, value_is, left_is}
 use Rattle.gr_oql.proofs.Sound.{Front, Sound, joined, weaker, one_begins, one_has, symbol_sound, keyword_sound, name_sound, field_sound, literal_sound, operand_sound, row_sound, fixed_sound}
 

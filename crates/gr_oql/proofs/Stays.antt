@@ -1,18 +1,19 @@
 -- What a reader makes of a list of terminals, where the terminals from one on are others.
-use Rattle.std.proofs.Common.{◌≡◌, ◌⊎◌, ℕ, ◌^◌, pos, neg_ℤ, List, [], ◌∷◌, ◌++◌, length, Ok, Err, Option, Some, None, Bool, cond, true, false, ◌||◌, leb, ltb, inl, inr, ⊎_elim, refl, sym, ap, ◌∙◌, subst, subst₂, arith, append_assoc, length-append}
+use Rattle.std.proofs.Common.{◌≡◌, ◌⊎◌, ℕ, pos, neg_ℤ, List, [], ◌∷◌, ◌++◌, length, Ok, Err, Option, Some, None, Bool, cond, true, false, ◌||◌, leb, ltb, inl, inr, ⊎_elim, refl, sym, ap, ◌∙◌, subst, subst₂, arith, append_assoc, length-append}
 use Rattle.std.proofs.lemmas.List.{append_cancel_right}
 use Rattle.gr_value.specs.declared.scalar.Scalar.TheVariants as scalar
 use Rattle.gr_lex.specs.declared.token.Symbol.{Symbol}
 use Rattle.gr_lex.specs.declared.token.Symbol.TheVariants as symbols
+use Rattle.gr_lex.specs.Bytes.{greatest_number}
 use Rattle.gr_oql.specs.Grammar.{is_alias, has_backslash}
 use Rattle.gr_oql.specs.declared.keyword.Keyword.{Keyword}
 use Rattle.gr_oql.specs.declared.keyword.Keyword.TheVariants as word
 use Rattle.gr_oql.specs.declared.condition.Operand.TheVariants as operand
 use Rattle.gr_oql.specs.declared.fault.Part.TheVariants as part
-use Rattle.gr_oql.specs.declared.stop.Wrong.{Wrong}
-use Rattle.gr_oql.specs.declared.stop.Wrong.TheVariants.{Expected, NotACq, TooDeep}
+use Rattle.gr_oql.specs.declared.halt.Wrong.{Wrong}
+use Rattle.gr_oql.specs.declared.halt.Wrong.TheVariants.{Expected, NotACq, TooDeep}
 use Rattle.gr_oql.specs.Terminals.{Terminal, symbol_eq, is_symbol, is_keyword, begins, front, rest, as_name, as_word, as_number, as_quoted}
-use Rattle.gr_oql.specs.Reading.{Reading, ◌>>=◌, read_as, stop, symbol_at, keyword_at, word_by, name_at, member_at, field_of_name, field_by, field_at, negative_by, negative_at, missing, plain_by, literal_at, operand_by, operand_at, pattern_by, part_at}
+use Rattle.gr_oql.specs.Reader.Reading.{Reading, ◌>>=◌, read_as, stop, symbol_at, keyword_at, word_by, name_at, member_at, field_of_name, field_by, field_at, negative_by, negative_at, missing, plain_by, literal_at, operand_by, operand_at, pattern_by, part_at}
 use Rattle.gr_oql.proofs.Readings.{bound, value_is, left_is, place_is, stopped}
 
 -- two lists, of which the second has others from the terminal `t` on
@@ -311,9 +312,9 @@ module _ {t t' : Terminal} {m m' : List Terminal} {Ordinary : Wrong → Type 0} 
   field_stays alias = front_stays (field_by alias) as_name alike.names (λ w ts. refl) (λ w. field_of_name_stays alias w) (stop_stays (λ ts. Expected))
 
   pub negative_stays : Stays t t' m m' Ordinary negative_at negative_at
-  negative_stays = equal_stays (λ ts. is (front as_number ts) ts) (limited_stays as_number alike.numbers (λ n. leb n (2 ^ 63)) (λ n. scalar.Int (neg_ℤ (pos n))) Expected)
+  negative_stays = equal_stays (λ ts. is (front as_number ts) ts) (limited_stays as_number alike.numbers (λ n. leb n greatest_number) (λ n. scalar.Int (neg_ℤ (pos n))) Expected)
     where
-      is : (o : Option ℕ) (ts : List Terminal) → negative_by o ts ≡ limited (λ n. leb n (2 ^ 63)) (λ n. scalar.Int (neg_ℤ (pos n))) Expected o ts
+      is : (o : Option ℕ) (ts : List Terminal) → negative_by o ts ≡ limited (λ n. leb n greatest_number) (λ n. scalar.Int (neg_ℤ (pos n))) Expected o ts
       is None ts = refl
       is (Some n) ts = refl
 
@@ -321,17 +322,17 @@ module _ {t t' : Terminal} {m m' : List Terminal} {Ordinary : Wrong → Type 0} 
   literal_stays = stays_by leaves by_front
     where
       plain_leaves : (o : Option ℕ) (p : Option (List ℕ)) (ts : List Terminal) → Leaves ts (plain_by o p ts)
-      plain_leaves (Some n) p ts = choice_leaves (ltb n (2 ^ 63)) (behind_leaves (back_rest ts) (ok_leaves (scalar.Int (pos n)) (rest ts))) (stop_leaves Expected ts)
+      plain_leaves (Some n) p ts = choice_leaves (ltb n greatest_number) (behind_leaves (back_rest ts) (ok_leaves (scalar.Int (pos n)) (rest ts))) (stop_leaves Expected ts)
       plain_leaves None (Some text) ts = behind_leaves (back_rest ts) (ok_leaves (scalar.Text text) (rest ts))
       plain_leaves None None ts = stop_leaves (missing ts) ts
 
       plain_eats : (o : Option ℕ) (p : Option (List ℕ)) (ts : List Terminal) → Eats (rest ts) (plain_by o p ts)
-      plain_eats (Some n) p ts = choice_eats (ltb n (2 ^ 63)) (leaves_eats (ok_leaves (scalar.Int (pos n)) (rest ts))) (stop_eats Expected ts)
+      plain_eats (Some n) p ts = choice_eats (ltb n greatest_number) (leaves_eats (ok_leaves (scalar.Int (pos n)) (rest ts))) (stop_eats Expected ts)
       plain_eats None (Some text) ts = leaves_eats (ok_leaves (scalar.Text text) (rest ts))
       plain_eats None None ts = stop_eats (missing ts) ts
 
       plain_follows : (o : Option ℕ) (p : Option (List ℕ)) (s : Terminal) (same : List Terminal) → Follows t t' m m' Ordinary (plain_by o p (s ∷ (same ++ t ∷ m))) (plain_by o p (s ∷ (same ++ t' ∷ m')))
-      plain_follows (Some n) p s same = choice_follows (ltb n (2 ^ 63)) (ok_follows (scalar.Int (pos n)) same) (stop_follows Expected Expected (s ∷ same))
+      plain_follows (Some n) p s same = choice_follows (ltb n greatest_number) (ok_follows (scalar.Int (pos n)) same) (stop_follows Expected Expected (s ∷ same))
       plain_follows None (Some text) s same = ok_follows (scalar.Text text) same
       plain_follows None None s same = stop_follows (missing (s ∷ (same ++ t ∷ m))) (missing (s ∷ (same ++ t' ∷ m'))) (s ∷ same)
 

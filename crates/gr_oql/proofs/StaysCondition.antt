@@ -6,12 +6,12 @@ use Rattle.gr_oql.specs.declared.condition.Relation.TheVariants as relation
 use Rattle.gr_oql.specs.declared.condition.Operand.{Operand}
 use Rattle.gr_oql.specs.declared.condition.Operand.TheVariants as operand
 use Rattle.gr_oql.specs.declared.condition.Test.TheVariants as tests
-use Rattle.gr_oql.specs.declared.stop.Wrong.{Wrong}
-use Rattle.gr_oql.specs.declared.stop.Wrong.TheVariants.{Expected, TooDeep}
+use Rattle.gr_oql.specs.declared.halt.Wrong.{Wrong}
+use Rattle.gr_oql.specs.declared.halt.Wrong.TheVariants.{Expected, TooDeep}
 use Rattle.gr_oql.specs.Tree.{Tree, any, all, negation, test}
 use Rattle.gr_oql.specs.View.{in_order}
 use Rattle.gr_oql.specs.Terminals.{Terminal, begins, rest, is_symbol, is_keyword}
-use Rattle.gr_oql.specs.Reading.{Reading, ◌>>=◌, read_as, stop, more_at, separated_at, relation_at, like_at, among_at, compare_at, behind_operand, behind_first, bracketed_at, test_at, all_at, any_at, bracket_at, part_at, condition_at}
+use Rattle.gr_oql.specs.Reader.Reading.{Reading, ◌>>=◌, read_as, stop, more_at, separated_at, relation_at, like_at, among_at, compare_at, behind_operand, behind_first, bracketed_at, test_at, all_at, any_at, bracket_at, part_at, condition_at}
 use Rattle.gr_oql.proofs.Readings.{wrong_is}
 use Rattle.gr_oql.proofs.Ahead.{raised}
 use Rattle.gr_oql.proofs.Trees.{part_at_test}

@@ -1,13 +1,13 @@
 -- What the reader of a query makes of a list of terminals, where the terminals from one on are others.
 use Rattle.std.proofs.Common.{◌≡◌, ℕ, List, [], ◌∷◌, ◌++◌, length, leb, Ok, Option, Some, None, Bool, true, false, if◌then◌else◌, refl, sym, subst}
 use Rattle.gr_lex.specs.declared.token.Symbol.TheVariants as symbols
-use Rattle.gr_oql.specs.Grammar.{Asked}
+use Rattle.gr_oql.specs.Question.{Asked}
 use Rattle.gr_oql.specs.declared.keyword.Keyword.TheVariants as word
 use Rattle.gr_oql.specs.declared.fault.Part.TheVariants as part
-use Rattle.gr_oql.specs.declared.stop.Wrong.{Wrong}
-use Rattle.gr_oql.specs.declared.stop.Wrong.TheVariants.{Expected, NotACq}
+use Rattle.gr_oql.specs.declared.halt.Wrong.{Wrong}
+use Rattle.gr_oql.specs.declared.halt.Wrong.TheVariants.{Expected, NotACq}
 use Rattle.gr_oql.specs.Terminals.{Terminal, begins, front, rest, is_symbol, is_keyword, as_name, is_tail}
-use Rattle.gr_oql.specs.Reading.{Reading, ◌>>=◌, stop, symbol_at, keyword_at, star_at, region_by, region_at, alias_by, alias_at, end_at, bare_end_at, where_at, source_at, query_within}
+use Rattle.gr_oql.specs.Reader.Reading.{Reading, ◌>>=◌, stop, symbol_at, keyword_at, star_at, region_by, region_at, alias_by, alias_at, end_at, bare_end_at, where_at, source_at, query_within}
 use Rattle.gr_oql.proofs.Ahead.{raised}
 use Rattle.gr_oql.proofs.Stays.{Stays, Alike, Follows, Leaves, limited, stop_leaves, ok_leaves, choice_leaves, stop_follows, choice_follows, stays_by, leaves_of, follows_of, equal_stays, pure_stays, stop_stays, bind_stays, as_stays, if_stays, front_stays, limited_stays, symbol_stays, keyword_stays, name_stays}
 use Rattle.gr_oql.proofs.StaysCondition.{condition_stays}

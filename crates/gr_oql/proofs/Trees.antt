@@ -4,13 +4,13 @@ use Rattle.std.proofs.lemmas.List.{map_push}
 use Rattle.gr_lex.specs.declared.token.Symbol.TheVariants as symbols
 use Rattle.gr_oql.specs.declared.condition.Condition.{Condition, Any, All, the_lemmas}
 use Rattle.gr_oql.specs.declared.keyword.Keyword.TheVariants as word
-use Rattle.gr_oql.specs.declared.stop.Stop.{Stop}
-use Rattle.gr_oql.specs.declared.stop.Stop.TheVariants as stops
+use Rattle.gr_oql.specs.declared.halt.Halt.{Halt}
+use Rattle.gr_oql.specs.declared.halt.Halt.TheVariants as stops
 use Rattle.gr_oql.specs.Tree.{any, all, test}
 use Rattle.gr_oql.specs.View.{tree_of, in_order}
-use Rattle.gr_oql.specs.Gives.{Stops}
+use Rattle.gr_oql.specs.Reader.Gives.{Stops}
 use Rattle.gr_oql.specs.Terminals.{Terminal, begins, is_keyword, is_symbol}
-use Rattle.gr_oql.specs.Reading.{Reading, read_as, part_at, test_at}
+use Rattle.gr_oql.specs.Reader.Reading.{Reading, read_as, part_at, test_at}
 
 pub tree_of-All : (parts : Vec Condition Global) → tree_of (All parts) ≡ all (in_order (map tree_of parts.items))
 tree_of-All parts = search (rules, the_lemmas)
@@ -33,6 +33,6 @@ module _ {A B : Type 0} (make : A → B) where
   pub made : (read : Reading A) (x : A) (left : List Terminal) → read ≡ Ok (x, left) → read_as make read ≡ Ok (make x, left)
   made read x left is = rw is refl
 
-  pub made_stops : (stop : Stop) (left : List Terminal) (read : Reading A) → Stops stop left read → Stops stop left (read_as make read)
+  pub made_stops : (stop : Halt) (left : List Terminal) (read : Reading A) → Stops stop left read → Stops stop left (read_as make read)
   made_stops stops.Memory left read is = tt
   made_stops (stops.Wrong wrong) left read is = rw is refl

@@ -1,20 +1,22 @@
 -- Where the tokens of a text cease to begin a query, and which fault that is. It goes by the grammar alone.
-use Rattle.std.specs.Prelude.{◌≡◌, ◌⊎◌, ◌≤◌, ℕ, suc, List, [], ◌∷◌, ◌++◌, length, ◌^◌, Bool, false, ◌==◌, if◌then◌else◌, IsTrue, Option, None, Some}
+use Rattle.std.specs.Prelude.{◌≡◌, ◌⊎◌, ◌≤◌, ℕ, suc, List, [], ◌∷◌, ◌++◌, length, Bool, false, ◌==◌, if◌then◌else◌, IsTrue, Option, None, Some}
 use Rattle.std.specs.List.{AllByRecursion}
 use Rattle.gr_lex.specs.declared.token.Symbol.TheVariants as symbols
 use Rattle.gr_lex.specs.declared.token.Token.{Token}
 use Rattle.gr_lex.specs.declared.fault.LexFault.{LexFault}
 use Rattle.gr_lex.specs.declared.fault.LexFault.TheVariants as lex
+use Rattle.gr_lex.specs.Bytes.{greatest_number}
 use Rattle.gr_lex.specs.Layout.{IsToken, IsLaidOut}
 use Rattle.gr_lex.specs.Faults as lexical
 use Rattle.gr_oql.specs.declared.keyword.Keyword.TheVariants as word
 use Rattle.gr_oql.specs.declared.fault.Part.TheVariants as part
 use Rattle.gr_oql.specs.declared.fault.OqlFault.{OqlFault}
 use Rattle.gr_oql.specs.declared.fault.OqlFault.TheVariants as fault
-use Rattle.gr_oql.specs.declared.stop.Wrong.{Wrong}
-use Rattle.gr_oql.specs.declared.stop.Wrong.TheVariants.{Expected, NotACq, TooDeep}
+use Rattle.gr_oql.specs.declared.halt.Wrong.{Wrong}
+use Rattle.gr_oql.specs.declared.halt.Wrong.TheVariants.{Expected, NotACq, TooDeep}
 use Rattle.gr_oql.specs.Terminals.{Terminal, symbol, quoted, is_symbol, is_keyword, begins, front, as_number, is_tail, terminal_of, terminals_of}
-use Rattle.gr_oql.specs.Grammar.{most_depth, has_backslash, Asked, One, IsQueryWithin, IsQuery}
+use Rattle.gr_oql.specs.Grammar.{most_depth, has_backslash, One, IsQueryWithin, IsQuery}
+use Rattle.gr_oql.specs.Question.{Asked}
 
 -- a terminal that a token of some text is
 abbrev pub IsSpelled : Terminal → Type 0
@@ -68,10 +70,10 @@ abbrev pub place_of : List ℕ → List Token → ℕ
 place_of text [] = length text
 place_of text (t ∷ ts) = t.start
 
--- 2 ^ 63, which is a whole number behind a sign alone
+-- the one that is a whole number behind a sign alone
 abbrev pub is_greatest : Option ℕ → Bool
 is_greatest None = false
-is_greatest (Some n) = n == 2 ^ 63
+is_greatest (Some n) = n == greatest_number
 
 abbrev pub named : Wrong → ℕ → OqlFault
 named Expected place = fault.Expected place

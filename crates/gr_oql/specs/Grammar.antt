@@ -1,5 +1,5 @@
 -- The grammar of queries: which terminals spell what. Nothing here says how they are read.
-use Rattle.std.specs.Prelude.{◌≡◌, ◌⊎◌, ℕ, zero, suc, ◌<◌, ◌≤◌, ◌^◌, pos, neg_ℤ, List, [], ◌∷◌, ◌++◌, length, Bool, true, false, IsTrue, IsFalse, Option, Some, None, ◌==◌, bytes_eq}
+use Rattle.std.specs.Prelude.{◌≡◌, ◌⊎◌, ℕ, zero, suc, ◌<◌, ◌≤◌, pos, neg_ℤ, List, [], ◌∷◌, ◌++◌, length, Bool, true, false, IsTrue, IsFalse, Option, Some, None, ◌==◌, bytes_eq}
 use Rattle.std.specs.List.{list_any}
 use Rattle.gr_value.specs.declared.scalar.Scalar.{Scalar}
 use Rattle.gr_value.specs.declared.scalar.Scalar.TheVariants as scalar
@@ -12,8 +12,9 @@ use Rattle.gr_oql.specs.declared.condition.Operand.TheVariants as operand
 use Rattle.gr_oql.specs.declared.condition.Test.{Test}
 use Rattle.gr_oql.specs.declared.condition.Test.TheVariants as tests
 use Rattle.gr_lex.specs.declared.token.Token.{Token}
+use Rattle.gr_lex.specs.Bytes.{greatest_number}
 use Rattle.gr_lex.specs.Layout.{IsLaidOut}
-use Rattle.gr_oql.specs.Question.{Question}
+use Rattle.gr_oql.specs.Question.{Asked, Question}
 use Rattle.gr_oql.specs.Tree.{Tree, any, all, negation, test}
 use Rattle.gr_oql.specs.View.{in_order}
 use Rattle.gr_oql.specs.Terminals.{Terminal, is_symbol, is_keyword, as_name, as_word, as_number, as_quoted, terminals_of}
@@ -55,8 +56,8 @@ Literal (scalar.Bool true) ts = One (is_keyword word.True) ts
 Literal (scalar.Bool false) ts = One (is_keyword word.False) ts
 Literal (scalar.Text text) ts = Is as_quoted text ts
 Literal (scalar.Int z) ts =
-    ((n : ℕ) × (n < 2 ^ 63) × (z ≡ pos n) × Is as_number n ts)
-    ⊎ ((n : ℕ) × (n ≤ 2 ^ 63) × (z ≡ neg_ℤ (pos n)) × (One (is_symbol symbols.Minus) then Is as_number n) ts)
+    ((n : ℕ) × (n < greatest_number) × (z ≡ pos n) × Is as_number n ts)
+    ⊎ ((n : ℕ) × (n ≤ greatest_number) × (z ≡ neg_ℤ (pos n)) × (One (is_symbol symbols.Minus) then Is as_number n) ts)
 
 abbrev pub IsOperand : Option (List ℕ) → Operand → List Terminal → Type 0
 IsOperand alias (operand.Field f) ts = Field alias f ts
@@ -119,12 +120,6 @@ abbrev pub IsWhere : ℕ → Option (List ℕ) → Option Tree → List Terminal
 IsWhere depth alias None ts = ts ≡ []
 IsWhere depth alias (Some c) ts = (One (is_keyword word.Where) then IsCondition depth alias c) ts
 
--- what a query asks, apart from its text
-pub record Asked : Type 0 where
-  pub region : List ℕ
-  pub alias : Option (List ℕ)
-  pub condition : Option Tree
-
 -- query = SELECT "*" FROM "/" name [ [ AS ] name ] [ WHERE or ]
 abbrev pub IsQueryWithin : ℕ → Asked → List Terminal → Type 0
 IsQueryWithin depth q ts =
@@ -134,10 +129,6 @@ IsQueryWithin depth q ts =
 abbrev pub IsQuery : Asked → List Terminal → Type 0
 IsQuery q ts = IsQueryWithin most_depth q ts
 
--- what a question asks
-abbrev pub asked_by : Question → Asked
-asked_by q = record { region = q.region; alias = q.alias; condition = q.condition }
-
 -- The tokens of which the text is laid out spell the question.
 abbrev pub Spells : List ℕ → Question → Type 0
-Spells text q = (tokens : List Token) × IsLaidOut text 0 tokens × (q.text ≡ text) × IsQuery (asked_by q) (terminals_of text tokens)
+Spells text q = (tokens : List Token) × IsLaidOut text 0 tokens × (q.text ≡ text) × IsQuery q.asked (terminals_of text tokens)

@@ -6,14 +6,9 @@ pub mod Events
 pub mod Like
 pub mod Matching
 pub mod Truth
-pub mod Walk
 pub mod Words
 pub mod Terminals
-pub mod Lexemes
-pub mod Names
 pub mod Grammar
 pub mod FirstFault
-pub mod Reading
-pub mod Gives
-pub mod Sources
-pub mod Faults
+-- how the code reads and matches, which private clauses alone cite
+pub mod Reader

@@ -62,4 +62,4 @@ condition_truth None fields = Holds
 condition_truth (Some condition) fields = tree_truth fields condition
 
 abbrev pub matches : Question → List Field → Truth
-matches question fields = condition_truth question.condition fields
+matches question fields = condition_truth question.asked.condition fields

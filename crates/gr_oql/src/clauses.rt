@@ -2,20 +2,22 @@
 
 ghost use Rattle.std.specs.Prelude.{◌≡◌, ◌≤◌, length, option_map, Option, List, ℕ, IfOk, IfErr, ◌∷◌};
 ghost use Rattle.gr_value.specs.KeyBytes.{IsKey};
-ghost use Rattle.gr_oql.specs.Grammar.{Asked, most_depth};
-ghost use Rattle.gr_oql.specs.Gives.{Gives};
-ghost use Rattle.gr_oql.specs.Reading.{star_at, region_at, alias_at, end_at, bare_end_at, where_at, source_at, query_at};
+ghost use Rattle.gr_oql.specs.Grammar.{most_depth};
+ghost use Rattle.gr_oql.specs.Question.{Asked};
+ghost use Rattle.gr_oql.specs.Reader.Gives.{Gives, alias_of};
+ghost use Rattle.gr_oql.specs.Reader.Reading.{star_at, region_at, alias_at, end_at, bare_end_at, where_at, source_at, query_at};
 ghost use Rattle.gr_oql.specs.View.{tree_of};
-ghost use Rattle.gr_oql.specs.Sources.{asked};
+ghost use Rattle.gr_oql.specs.Reader.Asking.{asked};
 ghost use Rattle.gr_oql.specs.Terminals.{begins, is_tail};
-ghost use Rattle.gr_oql.specs.declared.stop.Stop.TheVariants as stops;
+ghost use Rattle.gr_oql.specs.declared.halt.Halt.TheVariants as stops;
 
+use crate::Part;
+use crate::condition::Condition;
 use crate::conditions::condition;
-use crate::cursor::Cursor;
+use crate::cursor::TokenCursor;
 use crate::keyword::Keyword;
-use crate::stop::{Stop, Wrong};
+use crate::halt::{Halt, Wrong};
 use crate::terms::{keyword_due, name_due, symbol_due};
-use crate::{Condition, Part};
 use gr_lex::Symbol;
 use gr_value::{Key, KeyFault, Text};
 use std::alloc::Global;
@@ -25,29 +27,29 @@ const MOST_REGION_BYTES: usize = 254;
 
 /// What a query asks.
 #[derive(Drop)]
-pub(crate) struct Source {
+pub(crate) struct Clauses {
     pub(crate) region: Key,
     pub(crate) alias: Option<Text>,
     pub(crate) condition: Option<Condition>,
 }
 
-fn star(cursor: &mut Cursor) -> Result<(), Stop>
+fn star(cursor: &mut TokenCursor) -> Result<(), Halt>
     ensures exact { Gives (λ x. x) result cursor.new (star_at cursor.old) }
     ensures within { length cursor.new ≤ length cursor.old }
 {
     if cursor.takes_symbol(Symbol::Star) {
         Ok(())
     } else if cursor.is_keyword(Keyword::Distinct) {
-        Err(Stop::Wrong(Wrong::NotACq(Part::Distinct)))
+        Err(Halt::Wrong(Wrong::NotACq(Part::Distinct)))
     } else if cursor.len() > 0 {
-        Err(Stop::Wrong(Wrong::NotACq(Part::Projection)))
+        Err(Halt::Wrong(Wrong::NotACq(Part::Projection)))
     } else {
-        Err(Stop::Wrong(Wrong::Expected))
+        Err(Halt::Wrong(Wrong::Expected))
     }
 }
 
 /// A region's name, with a slash before it.
-fn region_key(alloc: Global, name: &str) -> Result<Key, Stop>
+fn region_key(alloc: Global, name: &str) -> Result<Key, Halt>
     requires { IsKey (0x2F ∷ name.now) }
     ensures ok { IfOk result (λ key. key ≡ 0x2F ∷ name.now) }
     ensures err { IfErr result (λ stop. stop ≡ stops.Memory) }
@@ -57,12 +59,12 @@ fn region_key(alloc: Global, name: &str) -> Result<Key, Stop>
     bytes.extend_from_slice(name.as_bytes())?;
     match Key::read(alloc, &bytes) {
         Ok(key) => Ok(key),
-        Err(KeyFault::Memory) => Err(Stop::Memory),
+        Err(KeyFault::Memory) => Err(Halt::Memory),
         Err(_) => unreachable!(),
     }
 }
 
-fn region(cursor: &mut Cursor, alloc: Global) -> Result<Key, Stop>
+fn region(cursor: &mut TokenCursor, alloc: Global) -> Result<Key, Halt>
     ensures exact { Gives (λ x. x) result cursor.new (region_at cursor.old) }
     ensures within { length cursor.new ≤ length cursor.old }
 {
@@ -72,11 +74,11 @@ fn region(cursor: &mut Cursor, alloc: Global) -> Result<Key, Stop>
             cursor.advance();
             Ok(key)
         }
-        _ => Err(Stop::Wrong(Wrong::Expected)),
+        _ => Err(Halt::Wrong(Wrong::Expected)),
     }
 }
 
-fn alias<'a>(cursor: &mut Cursor<'a>) -> Result<Option<&'a str>, Stop>
+fn alias<'a>(cursor: &mut TokenCursor<'a>) -> Result<Option<&'a str>, Halt>
     ensures exact { Gives (option_map (λ x. x.now)) result cursor.new (alias_at cursor.old) }
     ensures within { length cursor.new ≤ length cursor.old }
 {
@@ -93,7 +95,7 @@ fn alias<'a>(cursor: &mut Cursor<'a>) -> Result<Option<&'a str>, Stop>
     }
 }
 
-fn is_tail(cursor: &Cursor) -> bool
+fn is_tail(cursor: &TokenCursor) -> bool
     ensures { result ≡ begins is_tail cursor.now }
 {
     cursor.is_keyword(Keyword::Order)
@@ -103,24 +105,24 @@ fn is_tail(cursor: &Cursor) -> bool
 }
 
 /// The end of a query.
-fn end(cursor: &Cursor) -> Result<(), Stop>
+fn end(cursor: &TokenCursor) -> Result<(), Halt>
     ensures { Gives (λ x. x) result cursor.now (end_at cursor.now) }
 {
     if cursor.len() == 0 {
         Ok(())
     } else if is_tail(cursor) {
-        Err(Stop::Wrong(Wrong::NotACq(Part::Tail)))
+        Err(Halt::Wrong(Wrong::NotACq(Part::Tail)))
     } else {
-        Err(Stop::Wrong(Wrong::Expected))
+        Err(Halt::Wrong(Wrong::Expected))
     }
 }
 
 /// The end of a query without a condition.
-fn bare_end(cursor: &Cursor) -> Result<(), Stop>
+fn bare_end(cursor: &TokenCursor) -> Result<(), Halt>
     ensures { Gives (λ x. x) result cursor.now (bare_end_at cursor.now) }
 {
     if cursor.is_symbol(Symbol::Comma) {
-        Err(Stop::Wrong(Wrong::NotACq(Part::Join)))
+        Err(Halt::Wrong(Wrong::NotACq(Part::Join)))
     } else {
         end(cursor)
     }
@@ -128,11 +130,11 @@ fn bare_end(cursor: &Cursor) -> Result<(), Stop>
 
 /// The condition behind WHERE, if there is one, up to the query's end.
 fn condition_to_end(
-    cursor: &mut Cursor,
+    cursor: &mut TokenCursor,
     alloc: Global,
     alias: Option<&str>,
-) -> Result<Option<Condition>, Stop>
-    ensures exact { Gives (option_map tree_of) result cursor.new (where_at most_depth (option_map (λ a. a.now) alias.entry) cursor.old) }
+) -> Result<Option<Condition>, Halt>
+    ensures exact { Gives (option_map tree_of) result cursor.new (where_at most_depth (alias_of alias.entry) cursor.old) }
     ensures within { length cursor.new ≤ length cursor.old }
 {
     if cursor.takes_keyword(Keyword::Where) {
@@ -145,8 +147,8 @@ fn condition_to_end(
     }
 }
 
-fn owned(alloc: Global, alias: Option<&str>) -> Result<Option<Text>, Stop>
-    ensures ok { IfOk result (λ text. text ≡ option_map (λ a. a.now) alias.entry) }
+fn owned(alloc: Global, alias: Option<&str>) -> Result<Option<Text>, Halt>
+    ensures ok { IfOk result (λ text. text ≡ alias_of alias.entry) }
     ensures err { IfErr result (λ stop. stop ≡ stops.Memory) }
 {
     match alias {
@@ -156,7 +158,7 @@ fn owned(alloc: Global, alias: Option<&str>) -> Result<Option<Text>, Stop>
 }
 
 /// What stands behind the slash.
-fn behind_slash(cursor: &mut Cursor, alloc: Global) -> Result<Source, Stop>
+fn behind_slash(cursor: &mut TokenCursor, alloc: Global) -> Result<Clauses, Halt>
     ensures exact { Gives asked result cursor.new (source_at most_depth cursor.old) }
     ensures within { length cursor.new ≤ length cursor.old }
 {
@@ -164,19 +166,19 @@ fn behind_slash(cursor: &mut Cursor, alloc: Global) -> Result<Source, Stop>
     let alias = alias(cursor)?;
     let condition = condition_to_end(cursor, alloc, alias)?;
     let alias = owned(alloc, alias)?;
-    Ok(Source {
+    Ok(Clauses {
         region,
         alias,
         condition,
     })
 }
 
-pub(crate) fn query(cursor: &mut Cursor, alloc: Global) -> Result<Source, Stop>
+pub(crate) fn query(cursor: &mut TokenCursor, alloc: Global) -> Result<Clauses, Halt>
     ensures exact { Gives asked result cursor.new (query_at cursor.old) }
     ensures within { length cursor.new ≤ length cursor.old }
 {
     if cursor.is_keyword(Keyword::Import) {
-        return Err(Stop::Wrong(Wrong::NotACq(Part::Import)));
+        return Err(Halt::Wrong(Wrong::NotACq(Part::Import)));
     }
     keyword_due(cursor, Keyword::Select)?;
     star(cursor)?;

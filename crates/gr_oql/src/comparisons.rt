@@ -1,23 +1,24 @@
 //! Tests of one value: a relation, a pattern, a set, and whether a field is there.
 
-ghost use Rattle.std.specs.Prelude.{◌≡◌, ◌≤◌, length, option_map, List, ℕ, IfOk};
+ghost use Rattle.std.specs.Prelude.{◌≡◌, ◌≤◌, length, List, ℕ, IfOk};
 ghost use Rattle.gr_value.specs.declared.scalar.Scalar.{Scalar};
 ghost use Rattle.gr_oql.specs.Grammar.{has_backslash};
-ghost use Rattle.gr_oql.specs.Gives.{Gives};
-ghost use Rattle.gr_oql.specs.Reading.{relation_at, pattern_by, like_at, separated_at, literal_at, among_at, compare_at, behind_operand, behind_first, bracketed_at, test_at};
+ghost use Rattle.gr_oql.specs.Reader.Gives.{Gives, alias_of};
+ghost use Rattle.gr_oql.specs.Reader.Reading.{relation_at, pattern_by, like_at, separated_at, literal_at, among_at, compare_at, behind_operand, behind_first, bracketed_at, test_at};
 ghost use Rattle.gr_oql.specs.Terminals.{is_symbol, front, as_quoted};
 ghost use Rattle.gr_lex.specs.declared.token.Symbol.TheVariants as symbols;
 
-use crate::cursor::Cursor;
+use crate::Part;
+use crate::condition::{Operand, Relation, Test};
+use crate::cursor::TokenCursor;
 use crate::keyword::Keyword;
-use crate::stop::{Stop, Wrong};
+use crate::halt::{Halt, Wrong};
 use crate::terms::{field, keyword_due, literal, operand, symbol_due, unquoted};
-use crate::{Operand, Part, Relation, Test};
 use gr_lex::Symbol;
 use gr_value::{ItemList, Scalar, Text};
 use std::alloc::Global;
 
-fn relation(cursor: &mut Cursor) -> Result<Relation, Stop>
+fn relation(cursor: &mut TokenCursor) -> Result<Relation, Halt>
     ensures exact { Gives (λ x. x) result cursor.new (relation_at cursor.old) }
     ensures within { length cursor.new ≤ length cursor.old }
 {
@@ -36,7 +37,7 @@ fn relation(cursor: &mut Cursor) -> Result<Relation, Stop>
     } else if cursor.takes_symbol(Symbol::GreaterEqual) {
         Ok(Relation::GreaterOrEqual)
     } else {
-        Err(Stop::Wrong(Wrong::Expected))
+        Err(Halt::Wrong(Wrong::Expected))
     }
 }
 
@@ -47,7 +48,7 @@ fn has_backslash(text: &str) -> bool
 }
 
 /// The pattern behind LIKE.
-fn pattern(cursor: &mut Cursor, alloc: Global) -> Result<Text, Stop>
+fn pattern(cursor: &mut TokenCursor, alloc: Global) -> Result<Text, Halt>
     ensures exact { Gives (λ x. x) result cursor.new (pattern_by (front as_quoted cursor.old) cursor.old) }
     ensures within { length cursor.new ≤ length cursor.old }
 {
@@ -55,17 +56,17 @@ fn pattern(cursor: &mut Cursor, alloc: Global) -> Result<Text, Stop>
         Some(inside) => {
             let text = unquoted(alloc, inside)?;
             if has_backslash(text.as_str()) {
-                Err(Stop::Wrong(Wrong::NotACq(Part::Escape)))
+                Err(Halt::Wrong(Wrong::NotACq(Part::Escape)))
             } else {
                 cursor.advance();
                 Ok(text)
             }
         }
-        None => Err(Stop::Wrong(Wrong::Expected)),
+        None => Err(Halt::Wrong(Wrong::Expected)),
     }
 }
 
-fn like(cursor: &mut Cursor, alloc: Global, field: Text) -> Result<Test, Stop>
+fn like(cursor: &mut TokenCursor, alloc: Global, field: Text) -> Result<Test, Halt>
     ensures exact { Gives (λ x. x) result cursor.new (like_at field cursor.old) }
     ensures within { length cursor.new ≤ length cursor.old }
 {
@@ -74,7 +75,7 @@ fn like(cursor: &mut Cursor, alloc: Global, field: Text) -> Result<Test, Stop>
 }
 
 /// Literals with commas between them.
-fn literals(cursor: &mut Cursor, alloc: Global) -> Result<ItemList<Scalar>, Stop>
+fn literals(cursor: &mut TokenCursor, alloc: Global) -> Result<ItemList<Scalar>, Halt>
     ensures exact { Gives (λ x. x) result cursor.new (separated_at (is_symbol symbols.Comma) literal_at cursor.old) }
     ensures within { length cursor.new ≤ length cursor.old }
 {
@@ -89,7 +90,7 @@ fn literals(cursor: &mut Cursor, alloc: Global) -> Result<ItemList<Scalar>, Stop
 }
 
 /// The set that an operand is to be among.
-fn among(cursor: &mut Cursor, alloc: Global, operand: Operand) -> Result<Test, Stop>
+fn among(cursor: &mut TokenCursor, alloc: Global, operand: Operand) -> Result<Test, Halt>
     ensures exact { Gives (λ x. x) result cursor.new (among_at operand cursor.old) }
     ensures within { length cursor.new ≤ length cursor.old }
 {
@@ -101,12 +102,12 @@ fn among(cursor: &mut Cursor, alloc: Global, operand: Operand) -> Result<Test, S
 }
 
 fn compare(
-    cursor: &mut Cursor,
+    cursor: &mut TokenCursor,
     alloc: Global,
     alias: Option<&str>,
     left: Operand,
-) -> Result<Test, Stop>
-    ensures exact { Gives (λ x. x) result cursor.new (compare_at (option_map (λ a. a.now) alias.entry) left cursor.old) }
+) -> Result<Test, Halt>
+    ensures exact { Gives (λ x. x) result cursor.new (compare_at (alias_of alias.entry) left cursor.old) }
     ensures within { length cursor.new ≤ length cursor.old }
 {
     let relation = relation(cursor)?;
@@ -119,12 +120,12 @@ fn compare(
 }
 
 fn behind_operand(
-    cursor: &mut Cursor,
+    cursor: &mut TokenCursor,
     alloc: Global,
     alias: Option<&str>,
     left: Operand,
-) -> Result<Test, Stop>
-    ensures exact { Gives (λ x. x) result cursor.new (behind_operand (option_map (λ a. a.now) alias.entry) left cursor.old) }
+) -> Result<Test, Halt>
+    ensures exact { Gives (λ x. x) result cursor.new (behind_operand (alias_of alias.entry) left cursor.old) }
     ensures within { length cursor.new ≤ length cursor.old }
 {
     if cursor.takes_keyword(Keyword::In) {
@@ -136,12 +137,12 @@ fn behind_operand(
 
 /// What stands behind a test's first operand.
 fn behind_first(
-    cursor: &mut Cursor,
+    cursor: &mut TokenCursor,
     alloc: Global,
     alias: Option<&str>,
     left: Operand,
-) -> Result<Test, Stop>
-    ensures exact { Gives (λ x. x) result cursor.new (behind_first (option_map (λ a. a.now) alias.entry) left cursor.old) }
+) -> Result<Test, Halt>
+    ensures exact { Gives (λ x. x) result cursor.new (behind_first (alias_of alias.entry) left cursor.old) }
     ensures within { length cursor.new ≤ length cursor.old }
 {
     match left {
@@ -162,8 +163,8 @@ fn behind_first(
 }
 
 /// A field in brackets.
-fn bracketed(cursor: &mut Cursor, alloc: Global, alias: Option<&str>) -> Result<Text, Stop>
-    ensures exact { Gives (λ x. x) result cursor.new (bracketed_at (option_map (λ a. a.now) alias.entry) cursor.old) }
+fn bracketed(cursor: &mut TokenCursor, alloc: Global, alias: Option<&str>) -> Result<Text, Halt>
+    ensures exact { Gives (λ x. x) result cursor.new (bracketed_at (alias_of alias.entry) cursor.old) }
     ensures within { length cursor.new ≤ length cursor.old }
 {
     symbol_due(cursor, Symbol::LeftBracket)?;
@@ -172,8 +173,8 @@ fn bracketed(cursor: &mut Cursor, alloc: Global, alias: Option<&str>) -> Result<
     Ok(field)
 }
 
-pub(crate) fn test(cursor: &mut Cursor, alloc: Global, alias: Option<&str>) -> Result<Test, Stop>
-    ensures exact { Gives (λ x. x) result cursor.new (test_at (option_map (λ a. a.now) alias.entry) cursor.old) }
+pub(crate) fn test(cursor: &mut TokenCursor, alloc: Global, alias: Option<&str>) -> Result<Test, Halt>
+    ensures exact { Gives (λ x. x) result cursor.new (test_at (alias_of alias.entry) cursor.old) }
     ensures within { length cursor.new ≤ length cursor.old }
 {
     if cursor.takes_keyword(Keyword::IsDefined) {

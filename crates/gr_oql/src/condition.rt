@@ -1,8 +1,8 @@
 use gr_value::{ItemList, Scalar, Text};
 
-/// What a value must meet. Contracts see it as a tree: `view` of its specs.
+/// What a value must meet. Contracts see it as a tree.
 #[derive(Drop)]
-pub enum Condition {
+pub(crate) enum Condition {
     /// One of these, joined by OR.
     Any(Vec<Condition>),
     /// Each of these, joined by AND.
@@ -13,7 +13,7 @@ pub enum Condition {
 
 /// A condition with no other condition within.
 #[derive(Drop)]
-pub enum Test {
+pub(crate) enum Test {
     Defined(Text),
     Undefined(Text),
     Like {
@@ -33,13 +33,13 @@ pub enum Test {
 
 /// What a test looks at: a value's field, or a scalar.
 #[derive(Drop)]
-pub enum Operand {
+pub(crate) enum Operand {
     Field(Text),
     Literal(Scalar),
 }
 
 #[derive(Clone, Copy, Debug, PartialEq, Eq)]
-pub enum Relation {
+pub(crate) enum Relation {
     Equal,
     Different,
     Less,

@@ -1,17 +1,17 @@
 //! Conditions: tests under AND, OR, NOT and brackets.
 
-ghost use Rattle.std.specs.Prelude.{◌≡◌, ◌≤◌, length, option_map};
+ghost use Rattle.std.specs.Prelude.{◌≡◌, ◌≤◌, length};
 ghost use Rattle.gr_oql.specs.Grammar.{most_depth};
 ghost use Rattle.gr_oql.specs.View.{tree_of};
-ghost use Rattle.gr_oql.specs.Gives.{Gives};
-ghost use Rattle.gr_oql.specs.Reading.{all_at, any_at, bracket_at, part_at, condition_at, read_as, test_at};
+ghost use Rattle.gr_oql.specs.Reader.Gives.{Gives, alias_of};
+ghost use Rattle.gr_oql.specs.Reader.Reading.{all_at, any_at, bracket_at, part_at, condition_at, read_as, test_at};
 ghost use Rattle.gr_oql.specs.Tree.{test};
 
-use crate::Condition;
 use crate::comparisons::test;
-use crate::cursor::Cursor;
+use crate::condition::Condition;
+use crate::cursor::TokenCursor;
 use crate::keyword::Keyword;
-use crate::stop::{Stop, Wrong};
+use crate::halt::{Halt, Wrong};
 use crate::terms::symbol_due;
 use gr_lex::Symbol;
 use std::alloc::Global;
@@ -20,8 +20,8 @@ use std::alloc::Global;
 const MOST_DEPTH: u32 = 64;
 
 /// A test as a condition.
-fn tested(cursor: &mut Cursor, alloc: Global, alias: Option<&str>) -> Result<Condition, Stop>
-    ensures exact { Gives tree_of result cursor.new (read_as test (test_at (option_map (λ a. a.now) alias.entry) cursor.old)) }
+fn tested(cursor: &mut TokenCursor, alloc: Global, alias: Option<&str>) -> Result<Condition, Halt>
+    ensures exact { Gives tree_of result cursor.new (read_as test (test_at (alias_of alias.entry) cursor.old)) }
     ensures within { length cursor.new ≤ length cursor.old }
 {
     let test = test(cursor, alloc, alias)?;
@@ -32,17 +32,17 @@ fn tested(cursor: &mut Cursor, alloc: Global, alias: Option<&str>) -> Result<Con
 #[tactic(auto, using(crate::proofs::Trees::part_at_test))]
 #[cycle(conditions)]
 fn part(
-    cursor: &mut Cursor,
+    cursor: &mut TokenCursor,
     alloc: Global,
     alias: Option<&str>,
     depth: u32,
-) -> Result<Condition, Stop>
-    ensures exact { Gives tree_of result cursor.new (part_at (option_map (λ a. a.now) alias.entry) depth cursor.old) }
+) -> Result<Condition, Halt>
+    ensures exact { Gives tree_of result cursor.new (part_at (alias_of alias.entry) depth cursor.old) }
     ensures within { length cursor.new ≤ length cursor.old }
 {
     if depth == 0 {
         if cursor.is_keyword(Keyword::Not) || cursor.is_symbol(Symbol::LeftBracket) {
-            Err(Stop::Wrong(Wrong::TooDeep))
+            Err(Halt::Wrong(Wrong::TooDeep))
         } else {
             tested(cursor, alloc, alias)
         }
@@ -59,12 +59,12 @@ fn part(
 /// What stands in brackets, and the bracket that ends it.
 #[cycle(conditions)]
 fn bracket(
-    cursor: &mut Cursor,
+    cursor: &mut TokenCursor,
     alloc: Global,
     alias: Option<&str>,
     depth: u32,
-) -> Result<Condition, Stop>
-    ensures exact { Gives tree_of result cursor.new (bracket_at (part_at (option_map (λ a. a.now) alias.entry) depth) cursor.old) }
+) -> Result<Condition, Halt>
+    ensures exact { Gives tree_of result cursor.new (bracket_at (part_at (alias_of alias.entry) depth) cursor.old) }
     ensures within { length cursor.new ≤ length cursor.old }
 {
     let condition = any(cursor, alloc, alias, depth)?;
@@ -75,12 +75,12 @@ fn bracket(
 /// Parts with AND between them.
 #[cycle(conditions)]
 fn all(
-    cursor: &mut Cursor,
+    cursor: &mut TokenCursor,
     alloc: Global,
     alias: Option<&str>,
     depth: u32,
-) -> Result<Condition, Stop>
-    ensures exact { Gives tree_of result cursor.new (all_at (part_at (option_map (λ a. a.now) alias.entry) depth) cursor.old) }
+) -> Result<Condition, Halt>
+    ensures exact { Gives tree_of result cursor.new (all_at (part_at (alias_of alias.entry) depth) cursor.old) }
     ensures within { length cursor.new ≤ length cursor.old }
 {
     let mut parts = Vec::new(alloc);
@@ -96,12 +96,12 @@ fn all(
 /// Conditions with OR between them.
 #[cycle(conditions)]
 fn any(
-    cursor: &mut Cursor,
+    cursor: &mut TokenCursor,
     alloc: Global,
     alias: Option<&str>,
     depth: u32,
-) -> Result<Condition, Stop>
-    ensures exact { Gives tree_of result cursor.new (any_at (part_at (option_map (λ a. a.now) alias.entry) depth) cursor.old) }
+) -> Result<Condition, Halt>
+    ensures exact { Gives tree_of result cursor.new (any_at (part_at (alias_of alias.entry) depth) cursor.old) }
     ensures within { length cursor.new ≤ length cursor.old }
 {
     let mut parts = Vec::new(alloc);
@@ -114,13 +114,13 @@ fn any(
     Ok(Condition::Any(parts))
 }
 
-#[tactic(auto, unfolding(crate::specs::Reading::condition_at))]
+#[tactic(auto, unfolding(crate::specs::Reader::Reading::condition_at))]
 pub(crate) fn condition(
-    cursor: &mut Cursor,
+    cursor: &mut TokenCursor,
     alloc: Global,
     alias: Option<&str>,
-) -> Result<Condition, Stop>
-    ensures exact { Gives tree_of result cursor.new (condition_at most_depth (option_map (λ a. a.now) alias.entry) cursor.old) }
+) -> Result<Condition, Halt>
+    ensures exact { Gives tree_of result cursor.new (condition_at most_depth (alias_of alias.entry) cursor.old) }
     ensures within { length cursor.new ≤ length cursor.old }
 {
     any(cursor, alloc, alias, MOST_DEPTH)

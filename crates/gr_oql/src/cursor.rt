@@ -1,7 +1,7 @@
 ghost use Rattle.std.specs.Prelude.{◌≡◌, ◌<◌, ◌≤◌, length, if◌then◌else◌, option_map, IfSome};
 ghost use Rattle.std.specs.Bool.{OnTrue};
-ghost use Rattle.gr_oql.specs.Lexemes.{terminals};
-ghost use Rattle.gr_oql.specs.Names.{AreNamed, HasWordBytes};
+ghost use Rattle.gr_oql.specs.Reader.Lexemes.{terminals};
+ghost use Rattle.gr_oql.specs.Reader.Names.{AreNamed, HasWordBytes};
 ghost use Rattle.gr_oql.specs.Terminals.{symbol_eq, is_symbol, is_keyword, begins, front, rest, as_name, as_word, as_number, as_quoted, undoubled};
 
 use crate::keyword::Keyword;
@@ -11,15 +11,15 @@ use std::marker::Model;
 
 /// What is left of a query's tokens. Contracts see it as their list.
 #[derive(Drop)]
-pub(crate) struct Cursor<'a> {
+pub(crate) struct TokenCursor<'a> {
     left: &'a [Lexeme<'a>],
 }
 
-impl<'a> Model for Cursor<'a> {
+impl<'a> Model for TokenCursor<'a> {
     ghost use Rattle.std.specs.Prelude.{List};
     ghost use Rattle.gr_oql.specs.Terminals.{Terminal};
-    ghost use Rattle.gr_oql.specs.Lexemes.{terminals};
-    ghost use Rattle.gr_oql.specs.Names.{AreNamed};
+    ghost use Rattle.gr_oql.specs.Reader.Lexemes.{terminals};
+    ghost use Rattle.gr_oql.specs.Reader.Names.{AreNamed};
 
     ghost Value = { List Terminal };
 
@@ -34,12 +34,12 @@ fn same_symbol(one: Symbol, other: Symbol) -> bool
     one == other
 }
 
-impl<'a> Cursor<'a> {
-    pub(crate) fn new(left: &'a [Lexeme<'a>]) -> Cursor<'a>
+impl<'a> TokenCursor<'a> {
+    pub(crate) fn new(left: &'a [Lexeme<'a>]) -> TokenCursor<'a>
         requires { AreNamed (terminals left.now) }
         ensures { result ≡ terminals left.now }
     {
-        Cursor { left }
+        TokenCursor { left }
     }
 
     /// How many tokens are left.

@@ -1,6 +1,6 @@
 ghost use Rattle.std.specs.Prelude.{◌≡◌, IfOk, All};
 ghost use Rattle.gr_lex.specs.Layout.{IsToken};
-ghost use Rattle.gr_oql.specs.Lexemes.{terminal, terminals};
+ghost use Rattle.gr_oql.specs.Reader.Lexemes.{terminal, terminals};
 ghost use Rattle.gr_oql.specs.Terminals.{terminal_of, terminals_of, word_terminal};
 ghost use Rattle.gr_oql.specs.Words.{keyword_of};
 

@@ -8,18 +8,17 @@ mod conditions;
 mod cursor;
 mod event;
 mod fault;
+mod halt;
 mod keyword;
 mod lexeme;
 mod like;
 mod matching;
 mod query;
-mod stop;
 mod terms;
 #[cfg(test)]
 mod tests;
 mod truth;
 
-pub use condition::{Condition, Operand, Relation, Test};
 pub use event::{BaseOp, Event, EventList, QueryOp, classify};
 pub use fault::{OqlFault, Part};
 pub use query::Query;

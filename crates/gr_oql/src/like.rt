@@ -1,7 +1,7 @@
 ghost use Rattle.std.specs.Prelude.{◌≡◌, ◌∷◌, ◌<◌, ◌≤◌, [], length, MatchOption, IfSome, IsUtf8};
 ghost use Rattle.std.specs.Str.{chars};
 ghost use Rattle.gr_oql.specs.Like.{is_like, has_end_like, stands_for};
-ghost use Rattle.gr_oql.specs.Walk.{LeadsTo, Shortens, Takes, StepShortens};
+ghost use Rattle.gr_oql.specs.Reader.Walk.{LeadsTo, Shortens, Takes, StepShortens};
 
 /// How far a pattern and a text agree, taken character by character.
 enum Walk<'a> {

@@ -6,7 +6,8 @@ ghost use Rattle.gr_oql.specs.View.{tree_of};
 
 use crate::like::is_like;
 use crate::truth::both_compared;
-use crate::{Condition, Operand, Query, Relation, Test, Truth};
+use crate::condition::{Condition, Operand, Relation, Test};
+use crate::{Query, Truth};
 use gr_value::{Scalar, Value};
 
 impl Operand {
@@ -98,7 +99,7 @@ impl Query {
     pub fn matches(&self, value: &Value) -> Truth
         ensures { result ≡ matches self.now value.now }
     {
-        match &self.parts.condition {
+        match &self.parts.clauses.condition {
             None => Truth::Holds,
             Some(condition) => condition.truth(value),
         }

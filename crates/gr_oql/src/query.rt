@@ -1,28 +1,25 @@
 ghost use Rattle.std.specs.Prelude.{◌≡◌, ◌⊎◌, ◌≤◌, length, drop, IfOk, IfErr, All, List, ℕ, option_map, Ok, Err};
-ghost use Rattle.gr_oql.specs.Faults.{fault_of, question_of, answer, Answers};
-ghost use Rattle.gr_oql.specs.Reading.{query_at};
+ghost use Rattle.gr_oql.specs.Reader.Answers.{fault_of, answer, answer_of_tokens, Answers};
+ghost use Rattle.gr_oql.specs.Reader.Reading.{query_at};
 ghost use Rattle.gr_oql.specs.Terminals.{terminals_of};
 ghost use Rattle.gr_oql.specs.View.{tree_of};
-ghost use Rattle.gr_lex.specs.Layout.{IsToken};
+ghost use Rattle.gr_lex.specs.Layout.{IsToken, IsLaidOut};
 ghost use Rattle.gr_oql.specs.Grammar.{Spells};
 ghost use Rattle.gr_oql.specs.FirstFault.{IsFault, place_of, named, is_greatest};
 ghost use Rattle.gr_oql.specs.Question.{Question};
-ghost use Rattle.gr_oql.specs.Sources.{asked};
+ghost use Rattle.gr_oql.specs.Reader.Asking.{question};
 ghost use Rattle.gr_oql.specs.declared.fault.OqlFault.TheVariants as oql_fault;
 
-use crate::clauses::{Source, query};
-use crate::cursor::Cursor;
+use crate::clauses::{Clauses, query};
+use crate::cursor::TokenCursor;
 use crate::lexeme::lexemes;
-use crate::stop::{Stop, Wrong};
-use crate::{Condition, OqlFault};
-use gr_lex::{LexFault, Token, tokens};
+use crate::halt::{Halt, Wrong};
+use crate::OqlFault;
+use gr_lex::{LexFault, Token, TokenList, tokens};
 use gr_value::{Copied, Key, Memory, Text};
 use std::alloc::Global;
 use std::marker::Model;
 use std::sync::Arc;
-
-/// The whole number that is too large without a sign before it.
-const GREATEST_NUMBER: u64 = 9223372036854775808;
 
 /// A query. Its parts are shared by its copies.
 #[derive(Drop)]
@@ -33,26 +30,22 @@ pub struct Query {
 #[derive(Drop)]
 pub(crate) struct Parts {
     pub(crate) text: Text,
-    pub(crate) region: Key,
-    pub(crate) alias: Option<Text>,
-    pub(crate) condition: Option<Condition>,
+    pub(crate) clauses: Clauses,
 }
 
 impl Model for Query {
-    ghost use Rattle.std.specs.Prelude.{option_map};
     ghost use Rattle.gr_oql.specs.Question.{Question, question_code};
-    ghost use Rattle.gr_oql.specs.View.{tree_of};
+    ghost use Rattle.gr_oql.specs.Grammar.{Spells};
+    ghost use Rattle.gr_oql.specs.Reader.Asking.{question};
 
     ghost Value = { Question };
 
     ghost coded = { question_code };
 
-    ghost view = { λ q. record {
-      text = q.parts.value.text;
-      region = q.parts.value.region;
-      alias = q.parts.value.alias;
-      condition = option_map tree_of q.parts.value.condition;
-    } };
+    ghost view = { λ q. question q.parts.value.text q.parts.value.clauses };
+
+    // The text spells what the query asks.
+    ghost invariant = { λ q. Spells q.parts.value.text (question q.parts.value.text q.parts.value.clauses) };
 }
 
 /// The first byte of the first of the tokens, or the end of the text.
@@ -79,13 +72,13 @@ fn is_greatest(number: Option<u64>) -> bool
     ensures { result ≡ is_greatest number }
 {
     match number {
-        Some(number) => number == GREATEST_NUMBER,
+        Some(number) => number == Token::GREATEST_NUMBER,
         None => false,
     }
 }
 
 /// The fault of a text whose tokens cease to begin a query where the cursor stands.
-fn fault_of(text: &str, tokens: &[Token], left: &Cursor, wrong: Wrong) -> OqlFault
+fn fault_of(text: &str, tokens: &[Token], left: &TokenCursor, wrong: Wrong) -> OqlFault
     requires { length left.now ≤ length tokens.now }
     ensures { result ≡ fault_of text.now tokens.now wrong left.now }
 {
@@ -97,15 +90,14 @@ fn fault_of(text: &str, tokens: &[Token], left: &Cursor, wrong: Wrong) -> OqlFau
     }
 }
 
-fn query_of(alloc: Global, text: &str, source: Source) -> Result<Query, OqlFault>
-    ensures ok { IfOk result (λ q. q ≡ record { text = text.now; region = source.region; alias = source.alias; condition = option_map tree_of source.condition }) }
+fn query_of(alloc: Global, text: &str, clauses: Clauses) -> Result<Query, OqlFault>
+    requires { Spells text.now (question text.now clauses) }
+    ensures ok { IfOk result (λ q. q ≡ question text.now clauses) }
     ensures err { IfErr result (λ fault. fault ≡ oql_fault.Memory) }
 {
     let parts = Parts {
         text: Text::new(alloc, text)?,
-        region: source.region,
-        alias: source.alias,
-        condition: source.condition,
+        clauses,
     };
     Ok(Query {
         parts: Arc::new(alloc, parts)?,
@@ -114,22 +106,26 @@ fn query_of(alloc: Global, text: &str, source: Source) -> Result<Query, OqlFault
 
 /// What the tokens of a text ask.
 fn asked_by(alloc: Global, text: &str, tokens: &[Token]) -> Result<Query, OqlFault>
-    requires { All (IsToken text.now) tokens.now }
+    requires each { All (IsToken text.now) tokens.now }
+    requires laid_out { IsLaidOut text.now 0 tokens.now }
     ensures { Answers result (answer text.now tokens.now (query_at (terminals_of text.now tokens.now))) }
 {
     let lexemes = lexemes(alloc, text, tokens)?;
-    let mut cursor = Cursor::new(&lexemes);
+    let mut cursor = TokenCursor::new(&lexemes);
     match query(&mut cursor, alloc) {
-        Ok(source) => query_of(alloc, text, source),
-        Err(Stop::Memory) => Err(OqlFault::Memory),
-        Err(Stop::Wrong(wrong)) => Err(fault_of(text, tokens, &cursor, wrong)),
+        Ok(clauses) => query_of(alloc, text, clauses),
+        Err(Halt::Memory) => Err(OqlFault::Memory),
+        Err(Halt::Wrong(wrong)) => Err(fault_of(text, tokens, &cursor, wrong)),
     }
 }
 
-fn parsed(alloc: Global, text: &str) -> Result<Query, OqlFault>
-    ensures { Answers result (question_of text.now) }
+/// What a text asks, by its tokens or their fault.
+fn asked(alloc: Global, text: &str, lexed: Result<TokenList, LexFault>) -> Result<Query, OqlFault>
+    requires each { IfOk lexed (λ ts. All (IsToken text.now) ts) }
+    requires laid_out { IfOk lexed (λ ts. IsLaidOut text.now 0 ts) }
+    ensures { Answers result (answer_of_tokens text.now lexed) }
 {
-    match tokens(alloc, text) {
+    match lexed {
         Ok(tokens) => asked_by(alloc, text, tokens.as_slice()),
         Err(LexFault::Memory) => Err(OqlFault::Memory),
         Err(fault) => Err(OqlFault::Lex(fault)),
@@ -138,31 +134,32 @@ fn parsed(alloc: Global, text: &str) -> Result<Query, OqlFault>
 
 impl Query {
     /// Reads a query. A fault of its tokens comes before any other.
-    #[tactic(auto, using(crate::proofs::Exact::spelled, crate::proofs::Exact::only, crate::proofs::Exact::stops, crate::proofs::Exact::only_fault))]
+    #[tactic(auto, using(crate::proofs::Exact::spelled, crate::proofs::Exact::stops))]
     pub fn parse(alloc: Global, text: &str) -> Result<Query, OqlFault>
-        // What the text asks, or which fault it has and where.
-        ensures exact { Answers result (question_of text.now) }
         // What is read is spelled so.
         ensures spelled { IfOk result (Spells text.now) }
-        // What is spelled so is read.
-        ensures only { (q : Question) → Spells text.now q → Answers result (Ok q) }
+        // What is spelled so is read, unless memory is refused.
+        ensures only { (q : Question) → Spells text.now q → (result ≡ Ok q) ⊎ (result ≡ Err oql_fault.Memory) }
         // A fault is the first that the grammar has, at the first token with which no query goes on.
         ensures stops { IfErr result (λ fault. (fault ≡ oql_fault.Memory) ⊎ IsFault text.now fault) }
-        // A text with such a fault has that answer.
-        ensures only_fault { (fault : OqlFault) → IsFault text.now fault → Answers result (Err fault) }
+        // A text with such a fault has that answer, unless memory is refused.
+        ensures only_fault { (fault : OqlFault) → IsFault text.now fault → (result ≡ Err fault) ⊎ (result ≡ Err oql_fault.Memory) }
     {
-        parsed(alloc, text)
+        let lexed = tokens(alloc, text);
+        asked(alloc, text, lexed)
     }
 
     /// The region's name, with a slash before it.
     pub fn region(&self) -> &Key
-        ensures { result.now ≡ self.now.region }
+        ensures { result.now ≡ self.now.asked.region }
     {
-        &self.parts.region
+        &self.parts.clauses.region
     }
 
+    /// The text that was read. Read again it gives this query.
     pub fn text(&self) -> &str
-        ensures { result.now ≡ self.now.text }
+        ensures text { result.now ≡ self.now.text }
+        ensures spelled { Spells self.now.text self.now }
     {
         self.parts.text.as_str()
     }

@@ -1,44 +1,44 @@
 //! Fields, literals and operands.
 
-ghost use Rattle.std.specs.Prelude.{◌≡◌, ◌≤◌, length, ℤ, pos, neg_ℤ, ◌^◌, nat_le, nat_lt, if◌then◌else◌, Some, None, Option, IfOk, List, ℕ, option_map, MatchOption};
+ghost use Rattle.std.specs.Prelude.{◌≡◌, ◌≤◌, length, ℤ, pos, neg_ℤ, nat_le, nat_lt, if◌then◌else◌, Some, None, Option, IfOk, List, ℕ, MatchOption};
+ghost use Rattle.gr_lex.specs.Bytes.{greatest_number};
 ghost use Rattle.gr_oql.specs.Grammar.{is_alias};
-ghost use Rattle.gr_oql.specs.Gives.{Gives};
-ghost use Rattle.gr_oql.specs.Reading.{symbol_at, keyword_at, name_at, member_at, field_of_name, field_at, negative_at, literal_at, operand_at, missing, plain_by};
+ghost use Rattle.gr_oql.specs.Reader.Gives.{Gives, alias_of};
+ghost use Rattle.gr_oql.specs.Reader.Reading.{symbol_at, keyword_at, name_at, member_at, field_of_name, field_at, negative_at, literal_at, operand_at, missing, plain_by};
 ghost use Rattle.gr_oql.specs.Terminals.{undoubled, front, as_number, as_quoted, SplitsAtQuotes};
 
-use crate::cursor::Cursor;
+use crate::Part;
+use crate::condition::Operand;
+use crate::cursor::TokenCursor;
 use crate::keyword::Keyword;
-use crate::stop::{Stop, Wrong};
-use crate::{Operand, Part};
-use gr_lex::Symbol;
+use crate::halt::{Halt, Wrong};
+use gr_lex::{Symbol, Token};
 use gr_value::{Memory, Scalar, Text};
 use std::alloc::Global;
 
-const LEAST_MAGNITUDE: u64 = 9223372036854775808;
-
-pub(crate) fn symbol_due(cursor: &mut Cursor, symbol: Symbol) -> Result<(), Stop>
+pub(crate) fn symbol_due(cursor: &mut TokenCursor, symbol: Symbol) -> Result<(), Halt>
     ensures exact { Gives (λ x. x) result cursor.new (symbol_at symbol cursor.old) }
     ensures within { length cursor.new ≤ length cursor.old }
 {
     if cursor.takes_symbol(symbol) {
         Ok(())
     } else {
-        Err(Stop::Wrong(Wrong::Expected))
+        Err(Halt::Wrong(Wrong::Expected))
     }
 }
 
-pub(crate) fn keyword_due(cursor: &mut Cursor, keyword: Keyword) -> Result<(), Stop>
+pub(crate) fn keyword_due(cursor: &mut TokenCursor, keyword: Keyword) -> Result<(), Halt>
     ensures exact { Gives (λ x. x) result cursor.new (keyword_at keyword cursor.old) }
     ensures within { length cursor.new ≤ length cursor.old }
 {
     if cursor.takes_keyword(keyword) {
         Ok(())
     } else {
-        Err(Stop::Wrong(Wrong::Expected))
+        Err(Halt::Wrong(Wrong::Expected))
     }
 }
 
-pub(crate) fn name_due<'a>(cursor: &mut Cursor<'a>) -> Result<&'a str, Stop>
+pub(crate) fn name_due<'a>(cursor: &mut TokenCursor<'a>) -> Result<&'a str, Halt>
     ensures exact { Gives (λ x. x.now) result cursor.new (name_at cursor.old) }
     ensures within { length cursor.new ≤ length cursor.old }
 {
@@ -47,12 +47,12 @@ pub(crate) fn name_due<'a>(cursor: &mut Cursor<'a>) -> Result<&'a str, Stop>
             cursor.advance();
             Ok(word)
         }
-        None => Err(Stop::Wrong(Wrong::Expected)),
+        None => Err(Halt::Wrong(Wrong::Expected)),
     }
 }
 
 fn is_alias(alias: Option<&str>, word: &str) -> bool
-    ensures { result ≡ is_alias (option_map (λ a. a.now) alias.entry) word.now }
+    ensures { result ≡ is_alias (alias_of alias.entry) word.now }
 {
     match alias {
         Some(alias) => alias == word,
@@ -61,7 +61,7 @@ fn is_alias(alias: Option<&str>, word: &str) -> bool
 }
 
 /// The member behind an alias.
-fn member<'a>(cursor: &mut Cursor<'a>) -> Result<&'a str, Stop>
+fn member<'a>(cursor: &mut TokenCursor<'a>) -> Result<&'a str, Halt>
     ensures exact { Gives (λ x. x.now) result cursor.new (member_at cursor.old) }
     ensures within { length cursor.new ≤ length cursor.old }
 {
@@ -71,17 +71,17 @@ fn member<'a>(cursor: &mut Cursor<'a>) -> Result<&'a str, Stop>
             cursor.advance();
             Ok(word)
         }
-        None => Err(Stop::Wrong(Wrong::Expected)),
+        None => Err(Halt::Wrong(Wrong::Expected)),
     }
 }
 
 /// The field that a name begins.
 fn field_of_name<'a>(
-    cursor: &mut Cursor<'a>,
+    cursor: &mut TokenCursor<'a>,
     alias: Option<&str>,
     word: &'a str,
-) -> Result<&'a str, Stop>
-    ensures exact { Gives (λ x. x.now) result cursor.new (field_of_name (option_map (λ a. a.now) alias.entry) word.now cursor.old) }
+) -> Result<&'a str, Halt>
+    ensures exact { Gives (λ x. x.now) result cursor.new (field_of_name (alias_of alias.entry) word.now cursor.old) }
     ensures within { length cursor.new ≤ length cursor.old }
 {
     if is_alias(alias, word) {
@@ -91,8 +91,8 @@ fn field_of_name<'a>(
     }
 }
 
-pub(crate) fn field<'a>(cursor: &mut Cursor<'a>, alias: Option<&str>) -> Result<&'a str, Stop>
-    ensures exact { Gives (λ x. x.now) result cursor.new (field_at (option_map (λ a. a.now) alias.entry) cursor.old) }
+pub(crate) fn field<'a>(cursor: &mut TokenCursor<'a>, alias: Option<&str>) -> Result<&'a str, Halt>
+    ensures exact { Gives (λ x. x.now) result cursor.new (field_at (alias_of alias.entry) cursor.old) }
     ensures within { length cursor.new ≤ length cursor.old }
 {
     match cursor.name() {
@@ -100,7 +100,7 @@ pub(crate) fn field<'a>(cursor: &mut Cursor<'a>, alias: Option<&str>) -> Result<
             cursor.advance();
             field_of_name(cursor, alias, word)
         }
-        None => Err(Stop::Wrong(Wrong::Expected)),
+        None => Err(Halt::Wrong(Wrong::Expected)),
     }
 }
 
@@ -134,18 +134,18 @@ pub(crate) fn unquoted(alloc: Global, inside: &str) -> Result<Text, Memory>
 
 /// The number behind a sign.
 fn negated(number: u64) -> Option<i64>
-    ensures { result ≡ (if nat_le number (2 ^ 63) then Some (neg_ℤ (pos number)) else None) }
+    ensures { result ≡ (if nat_le number greatest_number then Some (neg_ℤ (pos number)) else None) }
 {
-    if number < LEAST_MAGNITUDE {
+    if number < Token::GREATEST_NUMBER {
         Some(-(number as i64))
-    } else if number == LEAST_MAGNITUDE {
+    } else if number == Token::GREATEST_NUMBER {
         Some(i64::MIN)
     } else {
         None
     }
 }
 
-fn negative(cursor: &mut Cursor) -> Result<Scalar, Stop>
+fn negative(cursor: &mut TokenCursor) -> Result<Scalar, Halt>
     ensures exact { Gives (λ x. x) result cursor.new (negative_at cursor.old) }
     ensures within { length cursor.new ≤ length cursor.old }
 {
@@ -155,14 +155,14 @@ fn negative(cursor: &mut Cursor) -> Result<Scalar, Stop>
                 cursor.advance();
                 Ok(Scalar::Int(whole))
             }
-            None => Err(Stop::Wrong(Wrong::Expected)),
+            None => Err(Halt::Wrong(Wrong::Expected)),
         },
-        None => Err(Stop::Wrong(Wrong::Expected)),
+        None => Err(Halt::Wrong(Wrong::Expected)),
     }
 }
 
 /// What is wrong where an operand or a literal is due.
-fn missing(cursor: &Cursor) -> Wrong
+fn missing(cursor: &TokenCursor) -> Wrong
     ensures { result ≡ missing cursor.now }
 {
     if cursor.is_symbol(Symbol::Dollar) {
@@ -173,27 +173,27 @@ fn missing(cursor: &Cursor) -> Wrong
 }
 
 /// A number or a text.
-fn plain(cursor: &mut Cursor, alloc: Global) -> Result<Scalar, Stop>
+fn plain(cursor: &mut TokenCursor, alloc: Global) -> Result<Scalar, Halt>
     ensures exact { Gives (λ x. x) result cursor.new (plain_by (front as_number cursor.old) (front as_quoted cursor.old) cursor.old) }
     ensures within { length cursor.new ≤ length cursor.old }
 {
     if let Some(number) = cursor.number() {
-        if number < LEAST_MAGNITUDE {
+        if number < Token::GREATEST_NUMBER {
             cursor.advance();
             Ok(Scalar::Int(number as i64))
         } else {
-            Err(Stop::Wrong(Wrong::Expected))
+            Err(Halt::Wrong(Wrong::Expected))
         }
     } else if let Some(inside) = cursor.quoted() {
         let text = unquoted(alloc, inside)?;
         cursor.advance();
         Ok(Scalar::Text(text))
     } else {
-        Err(Stop::Wrong(missing(cursor)))
+        Err(Halt::Wrong(missing(cursor)))
     }
 }
 
-pub(crate) fn literal(cursor: &mut Cursor, alloc: Global) -> Result<Scalar, Stop>
+pub(crate) fn literal(cursor: &mut TokenCursor, alloc: Global) -> Result<Scalar, Halt>
     ensures exact { Gives (λ x. x) result cursor.new (literal_at cursor.old) }
     ensures within { length cursor.new ≤ length cursor.old }
 {
@@ -211,11 +211,11 @@ pub(crate) fn literal(cursor: &mut Cursor, alloc: Global) -> Result<Scalar, Stop
 }
 
 pub(crate) fn operand(
-    cursor: &mut Cursor,
+    cursor: &mut TokenCursor,
     alloc: Global,
     alias: Option<&str>,
-) -> Result<Operand, Stop>
-    ensures exact { Gives (λ x. x) result cursor.new (operand_at (option_map (λ a. a.now) alias.entry) cursor.old) }
+) -> Result<Operand, Halt>
+    ensures exact { Gives (λ x. x) result cursor.new (operand_at (alias_of alias.entry) cursor.old) }
     ensures within { length cursor.new ≤ length cursor.old }
 {
     match cursor.name() {

@@ -2,7 +2,7 @@ ghost use Rattle.std.specs.Prelude.{◌≡◌};
 ghost use Rattle.std.specs.Option.{option_copied};
 ghost use Rattle.gr_oql.specs.Truth.{not_truth, and_truth, or_truth, truth_of, by_order, by_sameness, compared, both_compared};
 
-use crate::Relation;
+use crate::condition::Relation;
 use gr_value::Scalar;
 use std::cmp::Ordering;
 

@@ -8,5 +8,6 @@ pub answers_from-push : (client seq : ℕ) (before : List Answer) (told : Answer
 answers_from-push client seq [] told = append-nil _ ∙ ap (λ n. answer_line client n told) (sym (add-zero seq))
 answers_from-push client seq (first ∷ before) told =
     let later : seq + 1 + length before ≡ seq + length (first ∷ before) = omega arith in
-    ap (λ rest. answer_line client seq first ++ rest) (answers_from-push client (seq + 1) before told ∙ ap (λ n. answers_from client (seq + 1) before ++ answer_line client n told) later)
+    ap (λ rest. answer_line client seq first ++ rest) (answers_from-push client (seq + 1) before told
+    ∙ ap (λ n. answers_from client (seq + 1) before ++ answer_line client n told) later)
     ∙ sym (append_assoc (answer_line client seq first) (answers_from client (seq + 1) before) _)

@@ -30,4 +30,4 @@ answers_from client seq (told ∷ rest) = answer_line client seq told ++ answers
 
 -- Steps are numbered from 1.
 abbrev pub client_text : ClientRecord → List ℕ
-client_text left = answers_from left.client 1 left.answers
+client_text client_record = answers_from client_record.client 1 client_record.answers

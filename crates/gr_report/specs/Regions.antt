@@ -6,6 +6,7 @@ use Rattle.gr_stamp.specs.declared.change.Kind.{Kind}
 use Rattle.gr_stamp.specs.declared.change.Kind.TheVariants.{Put, Remove}
 use Rattle.gr_stamp.specs.Version.{Version}
 use Rattle.gr_history.specs.declared.record.MemberRecord.{MemberRecord}
+use Rattle.gr_history.specs.declared.record.ShardRecord.{ShardRecord}
 use Rattle.gr_report.specs.declared.counts.Counts.{Counts}
 use Rattle.gr_report.specs.Counts.{counts_of}
 
@@ -29,9 +30,10 @@ member_line member counts =
     counted (codes "member ") member ++ counted (codes " entries ") counts.entries ++ counted (codes " tombstones ") counts.tombstones
     ++ counted (codes " conflated ") counts.conflated ++ counted (codes " repeats ") counts.repeats ++ codes "\n"
 
--- the rows of all shards
-abbrev pub rows_text : MemberRecord → List ℕ
-rows_text left = flat_map (λ shard. flat_map row_line shard.region.rows) left.shards
+-- the rows of a shard
+abbrev pub shard_text : ShardRecord → List ℕ
+shard_text shard = flat_map row_line shard.region.rows
 
 abbrev pub member_text : MemberRecord → List ℕ
-member_text left = member_line left.member (counts_of left.shards) ++ rows_text left
+member_text member_record =
+    member_line member_record.member (counts_of member_record.shards) ++ flat_map shard_text member_record.shards

@@ -5,5 +5,6 @@ use Rattle.gr_report.specs.Answers.{client_text}
 use Rattle.gr_report.specs.Regions.{member_text}
 
 abbrev pub record_text : Record → List ℕ
-record_text left =
-    codes "replies\n" ++ flat_map client_text left.clients ++ codes "regions\n" ++ flat_map member_text left.members ++ codes "end\n"
+record_text record_of =
+    codes "replies\n" ++ flat_map client_text record_of.clients ++ codes "regions\n" ++ flat_map member_text record_of.members
+    ++ codes "end\n"

@@ -2,6 +2,7 @@ ghost use Rattle.std.specs.Prelude.{◌≡◌, ◌++◌, OnOk};
 ghost use Rattle.gr_report.specs.Answers.{reply_text, answer_text, answer_line, client_text};
 
 use crate::put::{put_number, put_text};
+use crate::written::Written;
 use gr_history::{Answer, ClientRecord, Reply};
 use gr_value::Memory;
 use std::alloc::Global;
@@ -46,12 +47,13 @@ fn put_answer_line(
     put_text(out, "\n")
 }
 
-/// Puts the lines of a client's answers last.
-pub fn put_client(alloc: Global, out: &mut Vec<u8>, left: &ClientRecord) -> Result<(), Memory>
-    ensures { OnOk result (out.new.items ≡ out.old.items ++ client_text left.now) }
-{
-    for (place, answer) in left.answers.as_slice().iter().enumerate() {
-        put_answer_line(alloc, out, left.client, place as u64 + 1, answer)?;
+impl Written for ClientRecord {
+    ghost text = { client_text };
+
+    fn put(&self, alloc: Global, out: &mut Vec<u8>) -> Result<(), Memory> {
+        for (place, answer) in self.answers.as_slice().iter().enumerate() {
+            put_answer_line(alloc, out, self.client, place as u64 + 1, answer)?;
+        }
+        Ok(())
     }
-    Ok(())
 }

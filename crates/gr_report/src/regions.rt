@@ -1,9 +1,10 @@
 ghost use Rattle.std.specs.Prelude.{◌≡◌, ◌++◌, OnOk, flat_map};
-ghost use Rattle.gr_report.specs.Regions.{stamp_text, put_text as text_of_put, row_line, rows_text, counted, member_line, member_text};
+ghost use Rattle.gr_report.specs.Regions.{stamp_text, put_text as text_of_put, row_line, shard_text, counted, member_line, member_text};
 
 use crate::counts::{Counts, count_all};
 use crate::put::{put_number, put_text};
-use gr_history::MemberRecord;
+use crate::written::{Written, put_all};
+use gr_history::{MemberRecord, ShardRecord};
 use gr_stamp::{Change, Kind, Stamp};
 use gr_value::Memory;
 use std::alloc::Global;
@@ -27,25 +28,26 @@ fn put_kind(alloc: Global, out: &mut Vec<u8>, kind: &Kind) -> Result<(), Memory>
     }
 }
 
-#[tactic(auto, unfolding(crate::specs::Regions::row_line))]
-fn put_row(alloc: Global, out: &mut Vec<u8>, row: &Change) -> Result<(), Memory>
-    ensures { OnOk result (out.new.items ≡ out.old.items ++ row_line row.now) }
-{
-    out.extend_from_slice(row.key.bytes())?;
-    put_text(out, " ")?;
-    put_kind(alloc, out, &row.kind)?;
-    put_text(out, " ")?;
-    put_stamp(out, &row.stamp)?;
-    put_text(out, "\n")
+impl Written for Change {
+    ghost text = { row_line };
+
+    #[tactic(auto, unfolding(crate::specs::Regions::row_line))]
+    fn put(&self, alloc: Global, out: &mut Vec<u8>) -> Result<(), Memory> {
+        out.extend_from_slice(self.key.bytes())?;
+        put_text(out, " ")?;
+        put_kind(alloc, out, &self.kind)?;
+        put_text(out, " ")?;
+        put_stamp(out, &self.stamp)?;
+        put_text(out, "\n")
+    }
 }
 
-fn put_rows(alloc: Global, out: &mut Vec<u8>, rows: &[Change]) -> Result<(), Memory>
-    ensures { OnOk result (out.new.items ≡ out.old.items ++ flat_map row_line rows.now) }
-{
-    for row in rows {
-        put_row(alloc, out, row)?;
+impl Written for ShardRecord {
+    ghost text = { shard_text };
+
+    fn put(&self, alloc: Global, out: &mut Vec<u8>) -> Result<(), Memory> {
+        put_all(alloc, out, self.region.rows.as_slice())
     }
-    Ok(())
 }
 
 fn put_counted(out: &mut Vec<u8>, word: &str, number: u128) -> Result<(), Memory>
@@ -67,19 +69,11 @@ fn put_member_line(out: &mut Vec<u8>, member: u8, counts: Counts) -> Result<(), 
     put_text(out, "\n")
 }
 
-fn put_all_rows(alloc: Global, out: &mut Vec<u8>, left: &MemberRecord) -> Result<(), Memory>
-    ensures { OnOk result (out.new.items ≡ out.old.items ++ rows_text left.now) }
-{
-    for shard in left.shards.as_slice() {
-        put_rows(alloc, out, shard.region.rows.as_slice())?;
-    }
-    Ok(())
-}
+impl Written for MemberRecord {
+    ghost text = { member_text };
 
-/// Puts a member's line and its rows last.
-pub fn put_member(alloc: Global, out: &mut Vec<u8>, left: &MemberRecord) -> Result<(), Memory>
-    ensures { OnOk result (out.new.items ≡ out.old.items ++ member_text left.now) }
-{
-    put_member_line(out, left.member, count_all(left.shards.as_slice()))?;
-    put_all_rows(alloc, out, left)
+    fn put(&self, alloc: Global, out: &mut Vec<u8>) -> Result<(), Memory> {
+        put_member_line(out, self.member, count_all(self.shards.as_slice()))?;
+        put_all(alloc, out, self.shards.as_slice())
+    }
 }

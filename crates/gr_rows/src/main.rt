@@ -1,5 +1,6 @@
-//! Runs whole scripts through the top call, over sources and sinks in memory, and says of each whether
-//! what comes out is what its files say. Then compares the answers to queries with two tables.
+//! Runs whole scripts through the program, over sources and sinks in memory, and says of each whether
+//! what comes out is what its files say. Then compares the lines of the causes, and the answers to
+//! queries with two tables.
 #![tactic(auto)]
 
 mod files;
@@ -8,24 +9,20 @@ mod row;
 
 use files::lines_of;
 use queries::{Table, compare};
-use row::{is_same, is_too_large};
+use row::{are_causes_so, is_same, is_too_large};
 use std::io;
+
+fn answer(is_so: bool) -> &'static str {
+    if is_so { "same" } else { "differs" }
+}
 
 fn main(rt: HostRuntime) -> io::Result<()> {
     for name in lines_of(&rt, "rows.txt")? {
-        let answer = if is_same(&rt, name.as_str())? {
-            "same"
-        } else {
-            "differs"
-        };
-        println!(rt; "{name}: {answer}")?;
+        let same = answer(is_same(&rt, name.as_str())?);
+        println!(rt; "{name}: {same}")?;
     }
-    let answer = if is_too_large(rt.alloc())? {
-        "same"
-    } else {
-        "differs"
-    };
-    println!(rt; "too-large: {answer}")?;
+    println!(rt; "too-large: {}", answer(is_too_large(rt.alloc())?))?;
+    println!(rt; "causes: {}", answer(are_causes_so(rt.alloc())?))?;
     compare(&rt, Table::Queries)?;
     compare(&rt, Table::Matches)
 }

@@ -1,5 +1,6 @@
 -- What a shard keeps stays tied to its history by a call.
-use Rattle.std.proofs.Common.{◌≡◌, ◌∙◌, ap, sym, refl, subst, add-zero, ℕ, ◌+◌, ◌<◌, List, [], ◌∷◌, length, Bool, true, false, if◌then◌else◌, max, Option, Some, None, option_map, bytes_eq, arith, cond}
+use Rattle.std.proofs.Common.{◌≡◌, ◌∙◌, ap, sym, refl, subst, add-zero, ℕ, ◌+◌, ◌<◌, List, [], ◌∷◌, length, Bool, true, false}
+use Rattle.std.proofs.Common.{if◌then◌else◌, max, Option, Some, None, option_map, bytes_eq, arith, cond}
 use Rattle.std.specs.Option.{option_to_list}
 use Rattle.std.specs.declared.cmp.Ordering.{Ordering}
 use Rattle.std.specs.declared.cmp.Ordering.TheVariants.{Less, Equal, Greater}
@@ -34,7 +35,8 @@ keys-insert_entry : (entries : List (List ℕ × Held)) (key : List ℕ) (held :
 keys-insert_entry [] key held = refl
 keys-insert_entry (entry ∷ entries) key held = at_order (slice_cmp nat_cmp key entry.0) (keys-insert_entry entries key held) where
   at_order : (o : Ordering) → keys_in (insert_entry (slice_cmp nat_cmp) entries key held) ≡ with_key key (keys_in entries)
-      → keys_in (match_ordering o ((key, held) ∷ entry ∷ entries) ((entry.0, held) ∷ entries) (entry ∷ insert_entry (slice_cmp nat_cmp) entries key held))
+      → keys_in (match_ordering o ((key, held) ∷ entry ∷ entries) ((entry.0, held) ∷ entries)
+      (entry ∷ insert_entry (slice_cmp nat_cmp) entries key held))
       ≡ match_ordering o (key ∷ entry.0 ∷ keys_in entries) (entry.0 ∷ keys_in entries) (entry.0 ∷ with_key key (keys_in entries))
   at_order Less later = refl
   at_order Equal later = refl
@@ -57,7 +59,8 @@ stands_after q change past false is win = rw is refl
 entry_after : (q key : List ℕ) (held : Held) (old new : Entries) (same : Bool) → bytes_eq key q ≡ same
     → Updates (slice_cmp nat_cmp) old new key (Some held)
     → get (slice_cmp nat_cmp) new q ≡ (if same then Some held else get (slice_cmp nat_cmp) old q)
-entry_after q key held old new same is updates = updates.0 q ∙ ap (λ b. cond b (Some held) (get (slice_cmp nat_cmp) old q)) (is_eq-slice_cmp key q ∙ is)
+entry_after q key held old new same is updates = updates.0 q
+    ∙ ap (λ b. cond b (Some held) (get (slice_cmp nat_cmp) old q)) (is_eq-slice_cmp key q ∙ is)
 
 held_or : (same : Bool) (change : Change) (before : Option Change)
     → (if same then Some (held_of change) else option_map held_of before) ≡ option_map held_of (if same then Some change else before)
@@ -88,10 +91,12 @@ module _ (id : Identity) (opening floor_now : ℕ) (old new : Entries) (made : �
   }
   kept_after reply (Some change) to kept here gives entered =
       let answer = told ask (present (key_of ask) past) in
-      let is : IsMade id opening past (key_of ask) change = made_by_given id opening past (key_of ask) answer.reply answer.change change (ap (λ d. d.made) (sym gives)) in
+      let is : IsMade id opening past (key_of ask) change =
+      made_by_given id opening past (key_of ask) answer.reply answer.change change (ap (λ d. d.made) (sym gives)) in
       let win : (q : List ℕ) → bytes_eq change.key q ≡ true → wins change (standing q past) ≡ true = λ q same.
       let here_is : key_of ask ≡ q = sym is.key_is ∙ (bytes_eq-Decides change.key q).0 same in
-      makes_win id opening past (key_of ask) change is (standing q past) (subst (λ k. change.stamp.ver ≡ 1 + max (ver_of (standing k past)) (floor opening past)) here_is is.ver_is) in
+      makes_win id opening past (key_of ask) change is (standing q past)
+      (subst (λ k. change.stamp.ver ≡ 1 + max (ver_of (standing k past)) (floor opening past)) here_is is.ver_is) in
       record {
         place = kept.place;
         lawful = (gives, kept.lawful);
@@ -100,7 +105,8 @@ module _ (id : Identity) (opening floor_now : ℕ) (old new : Entries) (made : �
             ∙ ap (λ held. if bytes_eq change.key q then Some (held_of change) else held) (kept.stands q)
             ∙ held_or (bytes_eq change.key q) change (standing q past)
             ∙ ap (option_map held_of) (sym (stands_after q change past (bytes_eq change.key q) refl (win q)));
-        in_order = ap keys_in entered.1 ∙ keys-insert_entry old.entries change.key (held_of change) ∙ ap (with_key change.key) kept.in_order;
+        in_order = ap keys_in entered.1 ∙ keys-insert_entry old.entries change.key (held_of change)
+            ∙ ap (with_key change.key) kept.in_order;
         counted = ap (λ n. n + 1) kept.counted ∙ top_of-more id.member change (changes past) is.member_is is.rv_is;
         within = let below : greatest id opening past (key_of ask) < LIMIT = is.below in let counted = kept.counted in omega arith;
         floored = kept.floored;

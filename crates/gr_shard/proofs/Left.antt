@@ -22,7 +22,8 @@ use Rattle.gr_shard.specs.Entries.{Entries, held_of, change_of, changes_in, puts
 use Rattle.gr_shard.specs.View.{IsKept}
 
 -- a change of this key that is held as this is the change of the two
-is_held : (key : List ℕ) (held : Held) (past : List Change) (found : Option Change) → MatchOption found (HasNoChange key past) (IsUnbeaten key past)
+is_held : (key : List ℕ) (held : Held) (past : List Change) (found : Option Change)
+    → MatchOption found (HasNoChange key past) (IsUnbeaten key past)
     → option_map held_of found ≡ Some held → found ≡ Some (change_of key held)
 is_held key held past None match is = cc
 is_held key held past (Some change) match is =
@@ -36,9 +37,11 @@ found_all : (find : List ℕ → Option Change) (entries : List (List ℕ × Hel
     → filter_map find (keys_in entries) ≡ changes_in entries
 found_all find [] at = refl
 found_all find (entry ∷ entries) at =
-    rw (at 0 entry.0 entry.1 refl) (ap (λ rest. change_of entry.0 entry.1 ∷ rest) (found_all find entries (λ i key held is. at (suc i) key held is)))
+    rw (at 0 entry.0 entry.1 refl) (ap (λ rest. change_of entry.0 entry.1 ∷ rest)
+    (found_all find entries (λ i key held is. at (suc i) key held is)))
 
-pub changes_in-kept : (id : Identity) (opening floor : ℕ) (entries : Entries) (made : ℕ) (past : List Deed) → IsKept id opening floor entries made past
+pub changes_in-kept : (id : Identity) (opening floor : ℕ) (entries : Entries) (made : ℕ) (past : List Deed)
+    → IsKept id opening floor entries made past
     → IsOrdered (slice_cmp nat_cmp) entries → changes_in entries.entries ≡ all_standing past
 changes_in-kept id opening floor entries made past kept ordered =
     sym (found_all (λ key. standing key past) entries.entries (λ i key held is.
@@ -46,10 +49,12 @@ changes_in-kept id opening floor entries made past kept ordered =
     (sym (kept.stands key) ∙ btree_map_get_place (lists_total nat_cmp_total) entries i key held ordered is)))
     ∙ ap (filter_map (λ key. standing key past)) kept.in_order
 
-pub region-kept : (id : Identity) (opening floor : ℕ) (entries : Entries) (made : ℕ) (past : List Deed) → IsKept id opening floor entries made past
+pub region-kept : (id : Identity) (opening floor : ℕ) (entries : Entries) (made : ℕ) (past : List Deed)
+    → IsKept id opening floor entries made past
     → IsOrdered (slice_cmp nat_cmp) entries → (region : Region)
     → region ≡ record { rows = puts_of (changes_in entries.entries); tombstones = removals_of (changes_in entries.entries); floor = floor }
     → region ≡ region_of opening past
 region-kept id opening floor entries made past kept ordered region is =
     let made_of : List Change → ℕ → Region = λ all f. record { rows = puts_of all; tombstones = removals_of all; floor = f } in
-    is ∙ ap (λ all. made_of all floor) (changes_in-kept id opening floor entries made past kept ordered) ∙ ap (made_of (all_standing past)) kept.floored
+    is ∙ ap (λ all. made_of all floor) (changes_in-kept id opening floor entries made past kept ordered)
+    ∙ ap (made_of (all_standing past)) kept.floored

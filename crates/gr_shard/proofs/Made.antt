@@ -1,5 +1,6 @@
 -- What a call makes, and whom it goes to.
-use Rattle.std.proofs.Common.{◌≡◌, ◌∙◌, ap, sym, refl, ℕ, ◌+◌, ◌^◌, ◌<◌, ◌≤◌, List, Bool, true, false, if◌then◌else◌, nat_le, max, Option, Some, None, option_map, option_and_then, add-one, add-zero, arith, add_comm}
+use Rattle.std.proofs.Common.{◌≡◌, ◌∙◌, ap, sym, refl, ℕ, ◌+◌, ◌^◌, ◌<◌, ◌≤◌, List, Bool, true, false, if◌then◌else◌, nat_le, max, Option}
+use Rattle.std.proofs.Common.{Some, None, option_map, option_and_then, add-one, add-zero, arith, add_comm}
 use Rattle.std.proofs.lemmas.Bool.Decides.{nat_tests}
 use Rattle.gr_stamp.specs.declared.change.Change.{Change}
 use Rattle.gr_stamp.specs.declared.change.Kind.{Kind}
@@ -19,11 +20,15 @@ use Rattle.gr_shard.specs.Entries.{held_of, held_ver}
 bits_at : (test : ℕ → Bool) (n bit : ℕ) → bit ≡ 2 ^ n → member_bits test (n + 1) ≡ member_bits test n + (if test (n + 1) then bit else 0)
 bits_at test n bit is = rw (add-one, is) refl
 
-pub member_bits-set : (test : ℕ → Bool) (n to bit : ℕ) → to ≡ member_bits test n → bit ≡ 2 ^ n → test (n + 1) ≡ true → to + bit ≡ member_bits test (n + 1)
-member_bits-set test n to bit so_far is set = rw so_far (sym (bits_at test n bit is ∙ ap (λ b. member_bits test n + (if b then bit else 0)) set))
+pub member_bits-set : (test : ℕ → Bool) (n to bit : ℕ) → to ≡ member_bits test n → bit ≡ 2 ^ n → test (n + 1) ≡ true
+    → to + bit ≡ member_bits test (n + 1)
+member_bits-set test n to bit so_far is set =
+    rw so_far (sym (bits_at test n bit is ∙ ap (λ b. member_bits test n + (if b then bit else 0)) set))
 
-pub member_bits-unset : (test : ℕ → Bool) (n to bit : ℕ) → to ≡ member_bits test n → bit ≡ 2 ^ n → test (n + 1) ≡ false → to ≡ member_bits test (n + 1)
-member_bits-unset test n to bit so_far is unset = so_far ∙ sym (bits_at test n bit is ∙ ap (λ b. member_bits test n + (if b then bit else 0)) unset ∙ add-zero _)
+pub member_bits-unset : (test : ℕ → Bool) (n to bit : ℕ) → to ≡ member_bits test n → bit ≡ 2 ^ n → test (n + 1) ≡ false
+    → to ≡ member_bits test (n + 1)
+member_bits-unset test n to bit so_far is unset = so_far
+    ∙ sym (bits_at test n bit is ∙ ap (λ b. member_bits test n + (if b then bit else 0)) unset ∙ add-zero _)
 
 pub power-one_more : (n : ℕ) → 2 ^ (n + 1) ≡ 2 ^ n + 2 ^ n
 power-one_more n = rw add-one (omega arith)
@@ -32,7 +37,8 @@ pub held_ver-held_of : (held : Option Change) → held_ver (option_map held_of h
 held_ver-held_of None = refl
 held_ver-held_of (Some change) = refl
 
-pub value-held_of : (held : Option Change) → option_and_then (λ h. put_value h.kind) (option_map held_of held) ≡ option_and_then (λ change. put_value change.kind) held
+pub value-held_of : (held : Option Change)
+    → option_and_then (λ h. put_value h.kind) (option_map held_of held) ≡ option_and_then (λ change. put_value change.kind) held
 value-held_of None = refl
 value-held_of (Some change) = refl
 
@@ -40,14 +46,21 @@ value-held_of (Some change) = refl
 pub given-made : (id : Identity) (opening : ℕ) (past : List Deed) (key : List ℕ) (reply : Reply) (kind : Kind) (version : Version)
     → IsInRange (max (ver_of (standing key past)) (floor opening past) + 1) id.member (top id.member past + 1)
     → record { ver = max (ver_of (standing key past)) (floor opening past) + 1; member = id.member; rv = top id.member past + 1 } ≡ version
-    → record { reply = reply; made = Some record { key = key; kind = kind; stamp = version }; to = recipients id past } ≡ given id opening past key reply (Some kind)
+    → record { reply = reply; made = Some record { key = key; kind = kind; stamp = version }; to = recipients id past }
+    ≡ given id opening past key reply (Some kind)
 given-made id opening past key reply kind version range is =
     let ver = max (ver_of (standing key past)) (floor opening past) in
     let rv = top id.member past in
     let within : nat_le LIMIT (greatest id opening past key) ≡ false = grind (arith, nat_tests) in
     let stamp : ℕ → ℕ → Version = λ v r. record { ver = v; member = id.member; rv = r } in
-    let done : Version → Done = λ v. record { reply = reply; made = Some record { key = key; kind = kind; stamp = v }; to = recipients id past } in
-    let same : version ≡ stamp (1 + ver) (1 + rv) = sym is ∙ ap (λ v. stamp v (rv + 1)) (add_comm ver 1) ∙ ap (stamp (1 + ver)) (add_comm rv 1) in
+    let done : Version → Done = λ v. record {
+      reply = reply;
+      made = Some record { key = key; kind = kind; stamp = v };
+      to =
+          recipients id past;
+    } in
+    let same : version ≡ stamp (1 + ver) (1 + rv) = sym is ∙ ap (λ v. stamp v (rv + 1)) (add_comm ver 1)
+    ∙ ap (stamp (1 + ver)) (add_comm rv 1) in
     rw within (ap done same)
 
 -- Where a number would pass its limit, nothing is made.
@@ -66,7 +79,9 @@ pub record IsMade (id : Identity) (opening : ℕ) (past : List Deed) (key : List
 
 made_by : (id : Identity) (opening : ℕ) (past : List Deed) (key : List ℕ) (reply : Reply) (kind : Kind) (change : Change) (spent : Bool)
     → nat_le LIMIT (greatest id opening past key) ≡ spent
-    → (let done : Done = if spent then record { reply = Limit; made = None; to = 0 } else record { reply = reply; made = Some (made_change id opening past key kind); to = recipients id past } in done.made ≡ Some change)
+    → (let done : Done = if spent then record { reply = Limit; made = None; to = 0 }
+    else record { reply = reply; made = Some (made_change id opening past key kind); to = recipients id past } in
+    done.made ≡ Some change)
     → IsMade id opening past key change
 made_by id opening past key reply kind change true spent is = cc
 made_by id opening past key reply kind change false spent is =
@@ -85,14 +100,18 @@ made_by_given id opening past key reply None change is = cc
 made_by_given id opening past key reply (Some kind) change is = made_by id opening past key reply kind change _ refl is
 
 -- The same of what the code has at hand: the version to pass, the count of changes, the copy of the key.
-pub made_here : (id : Identity) (opening : ℕ) (past : List Deed) (key copy : List ℕ) (reply : Reply) (kind : Kind) (version : Version) (base made to : ℕ)
+pub made_here : (id : Identity) (opening : ℕ) (past : List Deed) (key copy : List ℕ) (reply : Reply) (kind : Kind) (version : Version)
+    (base made to : ℕ)
     → base ≡ max (ver_of (standing key past)) (floor opening past) → made ≡ top id.member past → to ≡ recipients id past → copy ≡ key
     → IsInRange (base + 1) id.member (made + 1) × (record { ver = base + 1; member = id.member; rv = made + 1 } ≡ version)
-    → record { reply = reply; made = Some record { key = copy; kind = kind; stamp = version }; to = to } ≡ given id opening past key reply (Some kind)
+    → record { reply = reply; made = Some record { key = copy; kind = kind; stamp = version }; to = to }
+    ≡ given id opening past key reply (Some kind)
 made_here id opening past key copy reply kind version base made to base_is made_is to_is copy_is fits =
-    let range : IsInRange (max (ver_of (standing key past)) (floor opening past) + 1) id.member (top id.member past + 1) = rw (← base_is, ← made_is) fits.0 in
+    let range : IsInRange (max (ver_of (standing key past)) (floor opening past) + 1) id.member (top id.member past + 1) =
+    rw (← base_is, ← made_is) fits.0 in
     let stamp : ℕ → ℕ → Version = λ v r. record { ver = v + 1; member = id.member; rv = r + 1 } in
-    let is : stamp (max (ver_of (standing key past)) (floor opening past)) (top id.member past) ≡ version = rw (← base_is, ← made_is) fits.1 in
+    let is : stamp (max (ver_of (standing key past)) (floor opening past)) (top id.member past) ≡ version =
+    rw (← base_is, ← made_is) fits.1 in
     rw (to_is, copy_is) (given-made id opening past key reply kind version range is)
 
 not_in_range : (id : Identity) (opening : ℕ) (past : List Deed) (key : List ℕ) (base made : ℕ) (spent : Bool)
@@ -102,7 +121,15 @@ not_in_range : (id : Identity) (opening : ℕ) (past : List Deed) (key : List �
 not_in_range id opening past key base made true base_is made_is from to out is = refl
 not_in_range id opening past key base made false base_is made_is from to out is =
     let below : greatest id opening past key < LIMIT = grind (arith, nat_tests) in
-    absurd (out record { ver_from = omega arith; ver_to = omega arith; member_from = from; member_to = to; rv_from = omega arith; rv_to = omega arith })
+    absurd (out record {
+      ver_from = omega arith;
+      ver_to = omega arith;
+      member_from = from;
+      member_to = to;
+      rv_from = omega arith;
+      rv_to =
+          omega arith;
+    })
 
 pub spent_here : (id : Identity) (opening : ℕ) (past : List Deed) (key : List ℕ) (reply : Reply) (kind : Kind) (base made : ℕ)
     → base ≡ max (ver_of (standing key past)) (floor opening past) → made ≡ top id.member past

@@ -12,7 +12,8 @@ use Rattle.gr_shard.specs.Entries.{change_of, changes_in, puts_of, removals_of}
 pub puts_of-push : (changes : List Change) (change : Change) → puts_of (changes ++ change ∷ []) ≡ puts_of changes ++ puts_of (change ∷ [])
 puts_of-push changes change = filter-append (λ c. puts c.kind) changes (change ∷ [])
 
-pub changes_in-push : (entries : List (List ℕ × Held)) (key : List ℕ) (held : Held) → changes_in (entries ++ (key, held) ∷ []) ≡ changes_in entries ++ change_of key held ∷ []
+pub changes_in-push : (entries : List (List ℕ × Held)) (key : List ℕ) (held : Held)
+    → changes_in (entries ++ (key, held) ∷ []) ≡ changes_in entries ++ change_of key held ∷ []
 changes_in-push entries key held = map-append _ entries ((key, held) ∷ [])
 
 pub length-changes_in : (entries : List (List ℕ × Held)) → length (changes_in entries) ≡ length entries

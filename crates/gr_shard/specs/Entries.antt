@@ -21,7 +21,8 @@ Entries = BTreeMap (List ℕ) Held
 -- the new entries are the old ones with what was made, if anything was
 abbrev pub Entered : Entries → Entries → Option Change → Type 0
 Entered old new None = new.entries ≡ old.entries
-Entered old new (Some change) = Updates (slice_cmp nat_cmp) old new change.key (Some (held_of change)) × (new.entries ≡ insert_entry (slice_cmp nat_cmp) old.entries change.key (held_of change))
+Entered old new (Some change) = Updates (slice_cmp nat_cmp) old new change.key (Some (held_of change))
+    × (new.entries ≡ insert_entry (slice_cmp nat_cmp) old.entries change.key (held_of change))
 
 -- the change that is held at a key
 abbrev pub change_of : List ℕ → Held → Change

@@ -5,6 +5,6 @@ use Rattle.gr_history.specs.Regions.{region_of}
 use Rattle.gr_shard.specs.View.{Account}
 
 -- its history, and the region that stands after it
-pub record IsRecordOf (account : Account) (left : ShardRecord) : Type 0 where
-  pub deeds : left.history.deeds ≡ account.deeds
-  pub region : left.region ≡ region_of account.opening (reverse account.deeds)
+pub record IsRecordOf (account : Account) (shard : ShardRecord) : Type 0 where
+  pub deeds : shard.history.deeds ≡ account.deeds
+  pub region : shard.region ≡ region_of account.opening (reverse account.deeds)

@@ -114,7 +114,7 @@ impl Shard {
 
     /// What this shard leaves.
     pub fn into_record(self, alloc: Global) -> Result<ShardRecord, Memory>
-        ensures left { IfOk result (IsRecordOf self) }
+        ensures record_of { IfOk result (IsRecordOf self) }
         ensures lawful { OnOk result (IsLawful self.id self.opening (reverse self.deeds)) }
     {
         let region = region(alloc, &self.entries, self.floor)?;

@@ -51,12 +51,12 @@ fn limit_at_one_shard(rt: HostRuntime) -> Result<(), Fail> {
     assert_eq!(rt; shard.history().len(), 1);
     let done = shard.call(alloc, 1, 2, &get(alloc)?)?;
     assert!(rt; matches!(&done.reply, Reply::Null));
-    let left = shard.into_record(alloc)?;
+    let shard_record = shard.into_record(alloc)?;
     assert_eq!(rt;
         (
-            left.history.len(),
-            left.region.rows.len(),
-            left.region.floor
+            shard_record.history.len(),
+            shard_record.region.rows.len(),
+            shard_record.region.floor
         ),
         (2, 0, GREATEST)
     );
@@ -78,11 +78,11 @@ fn one_below_the_limit(rt: HostRuntime) -> Result<(), Fail> {
         0
     );
     assert!(rt; shard.ready());
-    let left = shard.taken_out(alloc)?;
+    let shard_record = shard.taken_out(alloc)?;
     assert_eq!(rt;
         (
-            left.region.rows.len(),
-            left.region.tombstones,
+            shard_record.region.rows.len(),
+            shard_record.region.tombstones,
             shard.floor()
         ),
         (1, 0, GREATEST - 1)

@@ -1,5 +1,6 @@
 -- The winner of a key, by the order of stamps.
-use Rattle.std.proofs.Common.{◌≡◌, ◌&&◌, ℕ, Bool, true, false, List, [], ◌∷◌, Option, Some, None, bytes_eq, if◌then◌else◌, refl, suc, arith}
+use Rattle.std.proofs.Common.{◌≡◌, ◌&&◌, ℕ, Bool, true, false, List, [], ◌∷◌, Option, Some, None, bytes_eq, if◌then◌else◌, refl, suc}
+use Rattle.std.proofs.Common.{arith}
 use Rattle.std.specs.Prelude.{MatchOption, Contains}
 use Rattle.std.specs.List.{AllByRecursion}
 use Rattle.gr_stamp.specs.declared.change.Change.{Change}
@@ -21,7 +22,8 @@ overtaken : (key : List ℕ) (change before : Change) (past : List Change) → b
     → AllByRecursion (λ c. bytes_eq c.key key ≡ true → beats c.stamp before.stamp ≡ false) past
     → AllByRecursion (λ c. bytes_eq c.key key ≡ true → beats c.stamp change.stamp ≡ false) past
 overtaken key change before [] win h = tt
-overtaken key change before (c ∷ past) win h = (λ same. beats-greater c.stamp change.stamp before.stamp win (h.0 same), overtaken key change before past win h.1)
+overtaken key change before (c ∷ past) win h =
+    (λ same. beats-greater c.stamp change.stamp before.stamp win (h.0 same), overtaken key change before past win h.1)
 
 nothing_beats : (key : List ℕ) (change : Change) (past : List Change) → HasNoChange key past
     → AllByRecursion (λ c. bytes_eq c.key key ≡ true → beats c.stamp change.stamp ≡ false) past
@@ -54,6 +56,7 @@ one_more key change past (Some b) false win same e h = record {
   unbeaten = (λ it. cc, h.unbeaten);
 }
 
-pub winner-found : (key : List ℕ) (changes : List Change) → MatchOption (winner key changes) (HasNoChange key changes) (IsUnbeaten key changes)
+pub winner-found : (key : List ℕ) (changes : List Change)
+    → MatchOption (winner key changes) (HasNoChange key changes) (IsUnbeaten key changes)
 winner-found key [] = tt
 winner-found key (change ∷ past) = one_more key change past (winner key past) _ _ refl refl (winner-found key past)

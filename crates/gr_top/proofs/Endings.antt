@@ -1,22 +1,26 @@
 -- How a call ends where the words are understood.
-use Rattle.std.proofs.Common.{◌≡◌, Result, Ok, Err}
+use Rattle.std.proofs.Common.{◌≡◌, ℕ, List, ◌++◌, append_assoc, codes, decimal, refl, Result, Ok, Err}
 use Rattle.gr_script.specs.declared.fault.Reason.{Reason}
 use Rattle.gr_script.specs.declared.fault.Reason.TheVariants.{NotBuilt}
 use Rattle.gr_script.specs.declared.fault.ScriptFault.{ScriptFault}
 use Rattle.gr_script.specs.Reading.{fault_at}
+use Rattle.gr_script.specs.Reasons.{name_of, number_of}
+use Rattle.gr_top.specs.CauseTexts.{text_of_cause}
 use Rattle.gr_top.specs.declared.cause.Cause.{Cause}
-use Rattle.gr_top.specs.declared.cause.Cause.TheVariants.{Finished, Usage, ReadFault, TooLarge, Script, WriteFault, Memory}
-use Rattle.gr_top.specs.Outcomes.{Stream, ReadEnds, StartEnds}
+use Rattle.gr_top.specs.declared.cause.Cause.TheVariants.{Script}
 
 pub fault_is : {A : Type 0} (read : Result A Reason) (fault : ScriptFault) → fault_at 0 read ≡ Err fault → fault ≡ record { line = 0; reason = NotBuilt }
 fault_is (Ok x) fault is = cc
 fault_is (Err NotBuilt) fault is = cc
 
-pub starts : (source : Stream) (cause : Cause) → ReadEnds source cause → StartEnds source cause
-starts source Finished ends = ends
-starts source (Usage place) ends = absurd ends
-starts source ReadFault ends = ends
-starts source (TooLarge bytes lines) ends = ends
-starts source (Script fault) ends = ends
-starts source WriteFault ends = ends
-starts source Memory ends = ends
+-- seven texts, joined from either end
+in_turn : (a b c d e f g : List ℕ) → a ++ b ++ c ++ d ++ e ++ f ++ g ≡ a ++ (b ++ (c ++ (d ++ (e ++ (f ++ g)))))
+in_turn a b c d e f g = simp append_assoc refl
+
+-- the line of a fault of a script, in its pieces
+pub script_line : (cause : Cause) (fault : ScriptFault) (line number name : List ℕ) → cause ≡ Script fault → line ≡ decimal fault.line
+    → number ≡ decimal (number_of fault.reason) → name ≡ name_of fault.reason
+    → text_of_cause cause ≡ codes "georep: line " ++ (line ++ (codes ": " ++ (number ++ (codes " " ++ (name ++ codes "\n")))))
+script_line cause fault line number name is at of called =
+    rw (is, at, of, called)
+      (in_turn (codes "georep: line ") (decimal fault.line) (codes ": ") (decimal (number_of fault.reason)) (codes " ") (name_of fault.reason) (codes "\n"))

@@ -1,9 +1,9 @@
 -- What each cause says of the words, the source, the sink and the record.
-use Rattle.std.specs.Prelude.{◌≡◌, ℕ, ◌+◌, ◌≤◌, List, length, Option, Some, None, IfSome}
+use Rattle.std.specs.Prelude.{◌≡◌, ◌↔◌, ◌⊎◌, ℕ, ◌+◌, ◌≤◌, List, length, Option, Some, None, IfSome, IsSomeAnd}
 use Rattle.std.specs.Io.KnownBytes.{IsAtEnd, Appends, Consumes}
 use Rattle.gr_history.specs.declared.record.Record.{Record}
 use Rattle.gr_io.specs.Faults.{Rose}
-use Rattle.gr_io.specs.Ends.{AppendsPart}
+use Rattle.gr_io.specs.Ends.{AppendsPart, TakesAtMost}
 use Rattle.gr_report.specs.Report.{record_text}
 use Rattle.gr_script.specs.declared.fault.Reason.TheVariants.{NotBuilt}
 use Rattle.gr_script.specs.declared.fault.ScriptFault.{ScriptFault}
@@ -15,6 +15,9 @@ use Rattle.gr_script.specs.Spelling.{IsSpelled}
 use Rattle.gr_world.specs.Replayed.{IsReplayed}
 use Rattle.gr_top.specs.declared.cause.Cause.{Cause}
 use Rattle.gr_top.specs.declared.cause.Cause.TheVariants.{Finished, Usage, ReadFault, TooLarge, Script, WriteFault, Memory}
+use Rattle.gr_top.specs.Causes.{status_of}
+use Rattle.gr_top.specs.CauseTexts.{text_of_cause}
+use Rattle.gr_top.specs.Words.{misfit}
 
 -- The most bytes of a script.
 abbrev pub most_bytes : ℕ
@@ -37,7 +40,7 @@ pub record IsUntouched (stream : Stream) : Type 0 where
 
 -- The text is all that the source had, and no longer than a script may be.
 pub record IsWhole (source : Stream) (text : List ℕ) : Type 0 where
-  pub all : IfSome source.bytes_before (λ left. text ≡ left)
+  pub taken : Consumes source.bytes_before source.bytes_after text
   pub ended : IsAtEnd source.bytes_after
   pub fits : length text ≤ most_bytes
 
@@ -56,16 +59,6 @@ pub record IsScriptOf (source : Stream) (script : TheScript) : Type 0 where
   pub whole : IsWhole source text
   pub spelled : IsSpelled text (heading_of script) script.lines
 
--- What a cause says where a text gave no script.
-abbrev pub ParseEnds : List ℕ → Cause → Type 0
-ParseEnds text (Script fault) = IsNoScript text × (fault ≡ record { line = 0; reason = NotBuilt })
-ParseEnds text Memory = Unit {0}
-ParseEnds text (Usage place) = ⊥
-ParseEnds text ReadFault = ⊥
-ParseEnds text (TooLarge bytes lines) = ⊥
-ParseEnds text Finished = ⊥
-ParseEnds text WriteFault = ⊥
-
 -- What the source had is no script.
 pub record IsRefused (source : Stream) (fault : ScriptFault) : Type 0 where
   pub text : List ℕ
@@ -81,43 +74,48 @@ pub record IsTooLarge (source : Stream) (bytes lines : ℕ) : Type 0 where
   pub one_more : bytes ≡ most_bytes + 1
   pub no_lines : lines ≡ 0
 
--- What a cause says where the words are understood and no script was replayed.
-abbrev pub ReadEnds : Stream → Cause → Type 0
-ReadEnds source (Usage place) = ⊥
-ReadEnds source ReadFault = Rose source.faults_before source.faults_after
-ReadEnds source (TooLarge bytes lines) = IsTooLarge source bytes lines
-ReadEnds source (Script fault) = IsRefused source fault
-ReadEnds source Memory = Unit {0}
-ReadEnds source Finished = ⊥
-ReadEnds source WriteFault = ⊥
-
--- What a cause says of the sink, where a script was replayed and left this record.
-abbrev pub PrintEnds : Stream → Record → Cause → Type 0
-PrintEnds sink left Finished = Appends sink.bytes_before sink.bytes_after (record_text left)
-PrintEnds sink left WriteFault = AppendsPart sink.bytes_before sink.bytes_after (record_text left) × Rose sink.faults_before sink.faults_after
-PrintEnds sink left Memory = IsUntouched sink
-PrintEnds sink left (Usage place) = ⊥
-PrintEnds sink left ReadFault = ⊥
-PrintEnds sink left (TooLarge bytes lines) = ⊥
-PrintEnds sink left (Script fault) = ⊥
-
 -- The record is that of a script, which is all that the source had.
 pub record IsReplayOf (source : Stream) (left : Record) : Type 0 where
   pub text : List ℕ
   pub whole : IsWhole source text
   pub record_of : IsRecordOf text left
 
--- Where the words aren't understood nothing is read.
-abbrev pub StartEnds : Stream → Cause → Type 0
-StartEnds source (Usage place) = IsUntouched source
-StartEnds source ReadFault = ReadEnds source ReadFault
-StartEnds source (TooLarge bytes lines) = ReadEnds source (TooLarge bytes lines)
-StartEnds source (Script fault) = ReadEnds source (Script fault)
-StartEnds source Memory = ReadEnds source Memory
-StartEnds source Finished = ⊥
-StartEnds source WriteFault = ⊥
+-- No more was taken of the source than a script may have.
+abbrev pub IsWithin : Stream → Type 0
+IsWithin source = TakesAtMost most_bytes source.bytes_before source.bytes_after
 
--- What the cause says, with the record that was kept.
+abbrev pub Counted : Stream → Type 0
+Counted stream = Rose stream.faults_before stream.faults_after
+
+-- What each cause says of the source, the sink and the record that was kept.
 abbrev pub Explains : Stream → Stream → Option Record → Cause → Type 0
-Explains source sink None cause = StartEnds source cause × IsUntouched sink
-Explains source sink (Some left) cause = IsReplayOf source left × PrintEnds sink left cause
+Explains source sink kept Finished = IsSomeAnd kept (λ left. IsReplayOf source left × Appends sink.bytes_before sink.bytes_after (record_text left))
+Explains source sink kept (Usage place) = (kept ≡ None) × IsUntouched source × IsUntouched sink
+Explains source sink kept ReadFault = (kept ≡ None) × Counted source × IsWithin source × IsUntouched sink
+Explains source sink kept (TooLarge bytes lines) = (kept ≡ None) × IsTooLarge source bytes lines × IsUntouched sink
+Explains source sink kept (Script fault) = (kept ≡ None) × IsRefused source fault × IsUntouched sink
+Explains source sink kept WriteFault =
+    IsSomeAnd kept (λ left. IsReplayOf source left × AppendsPart sink.bytes_before sink.bytes_after (record_text left)) × Counted sink
+Explains source sink kept Memory = IfSome kept (IsReplayOf source) × IsWithin source × IsUntouched sink
+
+-- The cause explains it whatever sink stood by untouched, with no record kept.
+abbrev pub Stops : Stream → Cause → Type 0
+Stops source cause = (sink : Stream) → IsUntouched sink → Explains source sink None cause
+
+-- The words aren't the cause.
+abbrev pub IsNoUsage : Cause → Type 0
+IsNoUsage cause = (place : ℕ) → cause ≡ Usage place → ⊥
+
+-- The cause's line was written, or a part of it where the sink's count rose.
+abbrev pub IsTold : Stream → Cause → Type 0
+IsTold errors cause = Appends errors.bytes_before errors.bytes_after (text_of_cause cause)
+    ⊎ (AppendsPart errors.bytes_before errors.bytes_after (text_of_cause cause) × Counted errors)
+
+-- How the program answered its words: for one cause, which its status, its line and all that it read, wrote and kept agree with.
+pub record IsAnswered (words : List (List ℕ)) (source sink errors : Stream) (status : ℕ) : Type 0 where
+  pub cause : Cause
+  pub kept : Option Record
+  pub status_is : status ≡ status_of cause
+  pub usage : (place : ℕ) → (cause ≡ Usage place) ↔ (misfit words ≡ Some place)
+  pub explained : Explains source sink kept cause
+  pub told : IsTold errors cause

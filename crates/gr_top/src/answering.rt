@@ -1,8 +1,6 @@
-ghost use Rattle.std.specs.Prelude.{◌≡◌, ◌↔◌, ℕ, map, string_bytes, length, Some, None, MatchResult, ◌^◌, ◌<◌};
-ghost use Rattle.gr_script.specs.Scripts.{heading_of};
-ghost use Rattle.gr_script.specs.Spelling.{IsSpelled};
+ghost use Rattle.std.specs.Prelude.{◌≡◌, ◌↔◌, ℕ, map, string_bytes, Some, None, MatchResult, IfErr};
 ghost use Rattle.gr_top.specs.Causes.{status_of};
-ghost use Rattle.gr_top.specs.Outcomes.{Explains, IsReplayOf, IsScriptOf, ParseEnds, PrintEnds, ReadEnds, stream};
+ghost use Rattle.gr_top.specs.Outcomes.{Explains, IsNoUsage, IsReplayOf, IsScriptOf, Stops, Stream, stream};
 ghost use Rattle.gr_top.specs.Words.{misfit};
 
 use crate::words::misfit;
@@ -17,47 +15,45 @@ use std::alloc::Global;
 /// The most bytes of a script.
 const MOST_BYTES: u64 = 8_388_608;
 
-fn script_in(alloc: Global, bytes: &[u8]) -> Result<Script, Cause>
-    requires { length bytes.now < 2 ^ 32 }
-    ensures { MatchResult result (λ script. IsSpelled bytes.now (heading_of script) script.lines) (ParseEnds bytes.now) }
+fn script_from<S: Source>(alloc: Global, source: &mut S) -> Result<Script, Cause>
+    ensures explained { MatchResult result (IsScriptOf (stream (S.left source.old) (S.left source.new) (S.faults source.old) (S.faults source.new)))
+        (Stops (stream (S.left source.old) (S.left source.new) (S.faults source.old) (S.faults source.new))) }
+    ensures understood { IfErr result IsNoUsage }
 {
-    match read(alloc, bytes, Form::Replay) {
+    let bytes = match read_all(alloc, source, MOST_BYTES) {
+        Ok(bytes) => bytes,
+        Err(ReadEnd::Fault) => return Err(Cause::ReadFault),
+        Err(ReadEnd::TooLarge(bytes)) => {
+            return Err(Cause::TooLarge {
+                bytes: bytes.len() as u64,
+                lines: 0,
+            });
+        }
+        Err(ReadEnd::Memory) => return Err(Cause::Memory),
+    };
+    match read(alloc, bytes.as_slice(), Form::Replay) {
         Ok(script) => Ok(script),
         Err(ScriptEnd::Fault(fault)) => Err(Cause::Script(fault)),
         Err(ScriptEnd::Memory) => Err(Cause::Memory),
     }
 }
 
-fn script_from<S: Source>(alloc: Global, source: &mut S) -> Result<Script, Cause>
-    ensures { MatchResult result (IsScriptOf (stream (S.left source.old) (S.left source.new) (S.faults source.old) (S.faults source.new)))
-        (ReadEnds (stream (S.left source.old) (S.left source.new) (S.faults source.old) (S.faults source.new))) }
-{
-    match read_all(alloc, source, MOST_BYTES) {
-        Ok(bytes) => script_in(alloc, bytes.as_slice()),
-        Err(ReadEnd::Fault) => Err(Cause::ReadFault),
-        Err(ReadEnd::TooLarge(bytes)) => Err(Cause::TooLarge {
-            bytes: bytes.len() as u64,
-            lines: 0,
-        }),
-        Err(ReadEnd::Memory) => Err(Cause::Memory),
-    }
-}
-
 fn record_from<S: Source>(alloc: Global, source: &mut S) -> Result<Record, Cause>
-    ensures { MatchResult result (IsReplayOf (stream (S.left source.old) (S.left source.new) (S.faults source.old) (S.faults source.new)))
-        (ReadEnds (stream (S.left source.old) (S.left source.new) (S.faults source.old) (S.faults source.new))) }
+    ensures explained { MatchResult result (IsReplayOf (stream (S.left source.old) (S.left source.new) (S.faults source.old) (S.faults source.new)))
+        (Stops (stream (S.left source.old) (S.left source.new) (S.faults source.old) (S.faults source.new))) }
+    ensures understood { IfErr result IsNoUsage }
 {
-    match script_from(alloc, source) {
-        Err(cause) => Err(cause),
-        Ok(script) => match replay(alloc, &script) {
-            Ok(left) => Ok(left),
-            Err(_) => Err(Cause::Memory),
-        },
+    let script = script_from(alloc, source)?;
+    match replay(alloc, &script) {
+        Ok(left) => Ok(left),
+        Err(_) => Err(Cause::Memory),
     }
 }
 
 fn print<K: Sink>(alloc: Global, sink: &mut K, left: &Record) -> Cause
-    ensures { PrintEnds (stream (K.held sink.old) (K.held sink.new) (K.faults sink.old) (K.faults sink.new)) left.now result }
+    ensures explained { (source : Stream) → IsReplayOf source left.now
+        → Explains source (stream (K.held sink.old) (K.held sink.new) (K.faults sink.old) (K.faults sink.new)) (Some left.now) result }
+    ensures understood { IsNoUsage result }
 {
     match report(alloc, left) {
         Err(_) => Cause::Memory,

@@ -2,10 +2,16 @@
 #![tactic(auto)]
 
 mod answering;
+mod arguments;
 mod cause;
 mod cause_texts;
+mod concluding;
+#[cfg(test)]
+mod tests;
 mod words;
 
 pub use answering::replay_words;
+pub use arguments::given_words;
 pub use cause::{Cause, Outcome};
 pub use cause_texts::cause_text;
+pub use concluding::{conclude, program};

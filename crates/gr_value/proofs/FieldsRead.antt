@@ -1,5 +1,6 @@
 -- The fields of members, read one after another.
-use Rattle.std.proofs.Common.{◌≡◌, ◌∙◌, ap, subst, ℕ, ◌+◌, arith, List, [], ◌∷◌, ◌++◌, length, map, Result, Ok, Err, String, Global, string_bytes, string_cmp, nat_cmp, Less, refl, sym, append_assoc, append-nil}
+use Rattle.std.proofs.Common.{◌≡◌, ◌∙◌, ap, subst, ℕ, ◌+◌, arith, List, [], ◌∷◌, ◌++◌, length, map, Result, Ok, Err, String, Global}
+use Rattle.std.proofs.Common.{string_bytes, string_cmp, nat_cmp, Less, refl, sym, append_assoc, append-nil}
 use Rattle.std.specs.Cmp.Lexicographic.{slice_cmp}
 use Rattle.std.specs.List.{AllByRecursion}
 use Rattle.std.specs.List.Sorted.{IsStrictlySortedBy}
@@ -45,22 +46,27 @@ field_last : (done : List Field) (name : List ℕ) (scalar : Scalar) (rest : Res
 field_last done name scalar (Ok rest) = ap Ok (sym (append_assoc done (record { name = name; scalar = scalar } ∷ []) rest))
 field_last done name scalar (Err fault) = refl
 
-pub readable_push : (done : List Field) (field : Field) → AllByRecursion IsField done → IsField field → AllByRecursion IsField (done ++ field ∷ [])
+pub readable_push : (done : List Field) (field : Field) → AllByRecursion IsField done → IsField field
+    → AllByRecursion IsField (done ++ field ∷ [])
 readable_push [] field h is = (is, tt)
 readable_push (first ∷ done) field h is = (h.0, readable_push done field h.1 is)
 
-names_push : (done : List Field) (field : Field) (left : List (List ℕ)) → names (done ++ field ∷ []) ++ left ≡ names done ++ field.name ∷ left
+names_push : (done : List Field) (field : Field) (left : List (List ℕ)) → names (done ++ field ∷ []) ++ left ≡ names done
+    ++ field.name ∷ left
 names_push [] field left = refl
 names_push (first ∷ done) field left = ap (λ rest. first.name ∷ rest) (names_push done field left)
 
 -- the next member is a field
-pub read_more : (entries : List Entry) (done : List Field) (place : ℕ) (entry : Entry) (left : List Entry) (field : Field) → HasRead entries done place (entry ∷ left)
-    → field.name ≡ string_bytes entry.0 → scalar_at place (view entry.1) ≡ Ok field.scalar → IsField field → HasRead entries (done ++ field ∷ []) (place + 1) left
+pub read_more : (entries : List Entry) (done : List Field) (place : ℕ) (entry : Entry) (left : List Entry) (field : Field)
+    → HasRead entries done place (entry ∷ left)
+    → field.name ≡ string_bytes entry.0 → scalar_at place (view entry.1) ≡ Ok field.scalar → IsField field
+    → HasRead entries (done ++ field ∷ []) (place + 1) left
 read_more entries done place entry left field h named is ok =
     let after = fields_from (place + 1) (members_view left) in
     record {
       read =
-          h.read ∙ ap (λ found. before done (with_field (string_bytes entry.0) found after)) is ∙ ap (λ name. before done (with_field name (Ok field.scalar) after)) (sym named)
+          h.read ∙ ap (λ found. before done (with_field (string_bytes entry.0) found after)) is
+          ∙ ap (λ name. before done (with_field name (Ok field.scalar) after)) (sym named)
           ∙ field_last done field.name field.scalar after;
       readable = readable_push done field h.readable ok;
       named = names_push done field (entry_names left) ∙ ap (λ name. names done ++ name ∷ entry_names left) named ∙ h.named;
@@ -68,7 +74,8 @@ read_more entries done place entry left field h named is ok =
     }
 
 -- the next member is at fault
-pub read_fault : (entries : List Entry) (done : List Field) (place : ℕ) (entry : Entry) (left : List Entry) (fault : ValueFault) → HasRead entries done place (entry ∷ left)
+pub read_fault : (entries : List Entry) (done : List Field) (place : ℕ) (entry : Entry) (left : List Entry) (fault : ValueFault)
+    → HasRead entries done place (entry ∷ left)
     → scalar_at place (view entry.1) ≡ Err fault → fields_from 0 (members_view entries) ≡ Err fault
 read_fault entries done place entry left fault h is =
     h.read ∙ ap (λ found. before done (with_field (string_bytes entry.0) found (fields_from (place + 1) (members_view left)))) is
@@ -78,7 +85,8 @@ keys_below : (key : String Global) (entries : List Entry) → AllByRecursion (λ
 keys_below key [] h = tt
 keys_below key (entry ∷ entries) h = (h.0, keys_below key entries h.1)
 
-ascending : (entries : List Entry) → IsStrictlySortedBy string_cmp (keys_of entries) → IsStrictlySortedBy (slice_cmp nat_cmp) (entry_names entries)
+ascending : (entries : List Entry) → IsStrictlySortedBy string_cmp (keys_of entries)
+    → IsStrictlySortedBy (slice_cmp nat_cmp) (entry_names entries)
 unfolding IsStrictlySortedBy
 ascending [] h = tt
 ascending (entry ∷ entries) h = (keys_below entry.0 entries h.0, ascending entries h.1)
@@ -88,9 +96,11 @@ pub record HasReadAll (entries : List Entry) (done : List Field) : Type 0 where
   pub readable : AllByRecursion IsField done
   pub ascending : HasAscendingNames done
 
-pub read_all : (entries : List Entry) (done : List Field) (place : ℕ) → HasRead entries done place [] → IsStrictlySortedBy string_cmp (keys_of entries) → HasReadAll entries done
+pub read_all : (entries : List Entry) (done : List Field) (place : ℕ) → HasRead entries done place []
+    → IsStrictlySortedBy string_cmp (keys_of entries) → HasReadAll entries done
 read_all entries done place h ordered = record {
   value = h.read ∙ ap Ok (append-nil done);
   readable = h.readable;
-  ascending = let e : entry_names entries ≡ names done = sym h.named ∙ append-nil (names done) in subst (IsStrictlySortedBy (slice_cmp nat_cmp)) e (ascending entries ordered);
+  ascending = let e : entry_names entries ≡ names done = sym h.named ∙ append-nil (names done) in
+      subst (IsStrictlySortedBy (slice_cmp nat_cmp)) e (ascending entries ordered);
 }

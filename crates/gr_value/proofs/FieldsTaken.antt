@@ -1,5 +1,7 @@
 -- Fields that a text begins with.
-use Rattle.std.proofs.Common.{◌≡◌, ◌∙◌, ap, ℕ, ◌+◌, ◌<◌, ◌≤◌, arith, List, [], ◌∷◌, ◌++◌, length, get_or, Ordering, Less, Equal, Greater, true, false, bytes_eq, is_ge, nat_cmp, ◌-◌, ◌⊎◌, inl, inr, refl, sym, append_assoc, append-nil, length-append}
+use Rattle.std.proofs.Common.{◌≡◌, ◌∙◌, ap, ℕ, ◌+◌, ◌<◌, ◌≤◌, arith, List, [], ◌∷◌, ◌++◌, length, get_or, Ordering, Less, Equal, Greater}
+use Rattle.std.proofs.Common.{true, false, bytes_eq, is_ge, nat_cmp, ◌-◌, ◌⊎◌, inl, inr, refl, sym, append_assoc, append-nil}
+use Rattle.std.proofs.Common.{length-append}
 use Rattle.std.proofs.lemmas.List.{get_or-map}
 use Rattle.std.proofs.lemmas.Bool.{cases_lt, true≢false}
 use Rattle.std.proofs.lemmas.Cmp.{nat_list_cmp_total}
@@ -21,27 +23,34 @@ pub record HasTaken (text : List ℕ) (fields : List Field) (rest : List ℕ) : 
   pub taken : text ≡ join_by field_text (codes ",") fields ++ rest
   pub readable : AllByRecursion IsField fields
 
-pub taken_first : (text : List ℕ) (field : Field) (rest : List ℕ) → text ≡ field_text field ++ rest → IsField field → HasTaken text (field ∷ []) rest
-taken_first text field rest e ok = record { some = omega arith; taken = e ∙ ap (λ front. front ++ rest) (sym (append-nil (field_text field))); readable = (ok, tt) }
+pub taken_first : (text : List ℕ) (field : Field) (rest : List ℕ) → text ≡ field_text field ++ rest → IsField field
+    → HasTaken text (field ∷ []) rest
+taken_first text field rest e ok =
+    record { some = omega arith; taken = e ∙ ap (λ front. front ++ rest) (sym (append-nil (field_text field))); readable = (ok, tt) }
 
-join_push : (fields : List Field) (field : Field) → 0 < length fields → join_by field_text (codes ",") (fields ++ field ∷ []) ≡ join_by field_text (codes ",") fields ++ 44 ∷ field_text field
+join_push : (fields : List Field) (field : Field) → 0 < length fields
+    → join_by field_text (codes ",") (fields ++ field ∷ []) ≡ join_by field_text (codes ",") fields ++ 44 ∷ field_text field
 join_push [] field some = absurd (omega arith)
 join_push (first ∷ fields) field some =
     let f : Field → List ℕ = λ other. codes "," ++ field_text other in
-    ap (λ rest. field_text first ++ rest) (flat_map-append f fields (field ∷ []) ∙ ap (λ last. flat_map f fields ++ last) (append-nil (44 ∷ field_text field)))
+    ap (λ rest. field_text first ++ rest) (flat_map-append f fields (field ∷ [])
+    ∙ ap (λ last. flat_map f fields ++ last) (append-nil (44 ∷ field_text field)))
     ∙ sym (append_assoc (field_text first) (flat_map f fields) (44 ∷ field_text field))
 
-pub taken_more : (text : List ℕ) (fields : List Field) (field : Field) (before after rest : List ℕ) → HasTaken text fields before → before ≡ 44 ∷ after → after ≡ field_text field ++ rest → IsField field
+pub taken_more : (text : List ℕ) (fields : List Field) (field : Field) (before after rest : List ℕ) → HasTaken text fields before
+    → before ≡ 44 ∷ after → after ≡ field_text field ++ rest → IsField field
     → HasTaken text (fields ++ field ∷ []) rest
 taken_more text fields field before after rest h comma e ok = record {
   some = omega (arith, length-append fields (field ∷ []));
   taken =
       h.taken ∙ ap (λ left. join_by field_text (codes ",") fields ++ left) (comma ∙ ap (λ left. 44 ∷ left) e)
-      ∙ sym (append_assoc (join_by field_text (codes ",") fields) (44 ∷ field_text field) rest) ∙ ap (λ front. front ++ rest) (sym (join_push fields field h.some));
+      ∙ sym (append_assoc (join_by field_text (codes ",") fields) (44 ∷ field_text field) rest)
+      ∙ ap (λ front. front ++ rest) (sym (join_push fields field h.some));
   readable = readable_push fields field h.readable ok;
 }
 
-pub taken_shorter : (field : Field) (before after rest : List ℕ) → before ≡ 44 ∷ after → after ≡ field_text field ++ rest → length rest < length before
+pub taken_shorter : (field : Field) (before after rest : List ℕ) → before ≡ 44 ∷ after → after ≡ field_text field ++ rest
+    → length rest < length before
 taken_shorter field before after rest comma e = omega (arith, ap length comma, ap length e, length-append (field_text field) rest)
 
 abbrev pub AreBelow : ℕ → List Field → Type 0
@@ -56,7 +65,8 @@ name_at : (fields : List Field) (k : ℕ) (d : Field) → k < length fields → 
 name_at fields k d h = get_or-map (λ (field : Field). field.name) fields k d [] h
 
 -- the next name is above the one before
-pub below_next : (n : ℕ) (fields : List Field) (d e : Field) (before next : List ℕ) → 1 ≤ n → n < length fields → AreBelow n fields → before ≡ (get_or fields (n - 1) d).name → next ≡ (get_or fields n e).name
+pub below_next : (n : ℕ) (fields : List Field) (d e : Field) (before next : List ℕ) → 1 ≤ n → n < length fields → AreBelow n fields
+    → before ≡ (get_or fields (n - 1) d).name → next ≡ (get_or fields n e).name
     → false ≡ is_ge (slice_cmp nat_cmp before next) → AreBelow (n + 1) fields
 below_next n fields d e before next some within below is_before is_next test k less = go (cases_lt (k + 1) n)
   where
@@ -65,8 +75,10 @@ below_next n fields d e before next some within below is_before is_next test k l
     go (inr upper) =
         let here : k ≡ n - 1 = omega arith in
         let there : k + 1 ≡ n = omega arith in
-        let one : get_or (names fields) k [] ≡ before = name_at fields k d (omega arith) ∙ ap (λ i. (get_or fields i d).name) here ∙ sym is_before in
-        let two : get_or (names fields) (k + 1) [] ≡ next = name_at fields (k + 1) e (omega arith) ∙ ap (λ i. (get_or fields i e).name) there ∙ sym is_next in
+        let one : get_or (names fields) k [] ≡ before = name_at fields k d (omega arith) ∙ ap (λ i. (get_or fields i d).name) here
+        ∙ sym is_before in
+        let two : get_or (names fields) (k + 1) [] ≡ next = name_at fields (k + 1) e (omega arith)
+        ∙ ap (λ i. (get_or fields i e).name) there ∙ sym is_next in
         (λ i. slice_cmp nat_cmp (one i) (two i)) ∙ is_less _ test
 
 length-names : (fields : List Field) → length (names fields) ≡ length fields
@@ -74,16 +86,19 @@ length-names [] = refl
 length-names (field ∷ fields) = omega (arith, length-names fields)
 
 pub ascending : (n : ℕ) (fields : List Field) → length fields ≤ n → AreBelow n fields → HasAscendingNames fields
-ascending n fields h below = sorted_from_all_adjacent nat_list_cmp_total (names fields) [] (λ k less. below k (omega (arith, length-names fields)))
+ascending n fields h below = sorted_from_all_adjacent nat_list_cmp_total (names fields) []
+    (λ k less. below k (omega (arith, length-names fields)))
 
 no_bytes : (bytes : List ℕ) → length bytes ≡ 0 → bytes ≡ []
 no_bytes [] e = refl
 no_bytes (x ∷ xs) e = absurd (omega arith)
 
-pub value_taken : (text first second last : List ℕ) (fields : List Field) → text ≡ 123 ∷ first → first ≡ join_by field_text (codes ",") fields ++ second → second ≡ 125 ∷ last → length last ≡ 0 → text ≡ value_text fields
+pub value_taken : (text first second last : List ℕ) (fields : List Field) → text ≡ 123 ∷ first
+    → first ≡ join_by field_text (codes ",") fields ++ second → second ≡ 125 ∷ last → length last ≡ 0 → text ≡ value_text fields
 unfolding value_text
 value_taken text first second last fields open_brace taken close_brace none =
-    open_brace ∙ ap (λ rest. 123 ∷ rest) (taken ∙ ap (λ rest. join_by field_text (codes ",") fields ++ rest) (close_brace ∙ ap (λ rest. 125 ∷ rest) (no_bytes last none)))
+    open_brace ∙ ap (λ rest. 123 ∷ rest) (taken
+    ∙ ap (λ rest. join_by field_text (codes ",") fields ++ rest) (close_brace ∙ ap (λ rest. 125 ∷ rest) (no_bytes last none)))
 
 -- the value with no fields
 pub braces_taken : (text braces : List ℕ) → braces ≡ 123 ∷ 125 ∷ [] → true ≡ bytes_eq text braces → text ≡ value_text []

@@ -1,5 +1,7 @@
 -- What the lexer finds in a text, printed, is no longer than the text.
-use Rattle.std.proofs.Common.{◌≡◌, ◌∙◌, ℕ, zero, suc, ◌+◌, ◌-◌, ◌≤◌, Bool, true, false, cond, ◌||◌, ◌==◌, nat_le, List, [], ◌∷◌, length, take, drop, Option, Some, None, option_and_then, MatchOption, inl, inr, refl, ap, arith, length-append, length-take-le}
+use Rattle.std.proofs.Common.{◌≡◌, ◌∙◌, ℕ, zero, suc, ◌+◌, ◌-◌, ◌≤◌, Bool, true, false, cond, ◌||◌, ◌==◌, nat_le, List, [], ◌∷◌, length}
+use Rattle.std.proofs.Common.{take, drop, Option, Some, None, option_and_then, MatchOption, inl, inr, refl, ap, arith, length-append}
+use Rattle.std.proofs.Common.{length-take-le}
 use Rattle.std.proofs.lemmas.Bool.{true≢false, false≢true, eqb-true, leb-true, ne_eqb, and_parts, or_cases}
 use Rattle.std.proofs.lemmas.Slice.Eq.{bytes_eq-Decides}
 use Rattle.std.specs.Char.{is_ascii_digit}
@@ -7,11 +9,13 @@ use Rattle.std.specs.List.{prefix_len}
 use Rattle.std.specs.Prelude.{⊤}
 use Rattle.json.specs.Align.{span_byte, span}
 use Rattle.json.specs.Ascii as ascii
-use Rattle.json.specs.Lex.{Lexeme, token, comma, colon, Class, quote, backslash, operator, space, other, class, operator_lexeme, string_token, Mode, between, in_word, in_string, in_escape, lex_byte, lex}
+use Rattle.json.specs.Lex.{Lexeme, token, comma, colon, Class, quote, backslash, operator, space, other, class, operator_lexeme}
+use Rattle.json.specs.Lex.{string_token, Mode, between, in_word, in_string, in_escape, lex_byte, lex}
 use Rattle.json.specs.Print.{escape, token_text}
 use Rattle.json.specs.Text.{content, plain}
 use Rattle.json.specs.Token.{Token, boolean, null, bad}
-use Rattle.json.specs.Word.{head, ends_word, after_digits, after_minus, after_sign, after_whole, after_fraction, after_exponent, after_number, number_before, literal, word}
+use Rattle.json.specs.Word.{head, ends_word, after_digits, after_minus, after_sign, after_whole, after_fraction, after_exponent}
+use Rattle.json.specs.Word.{after_number, number_before, literal, word}
 use Rattle.gr_value.proofs.Quoting.{FitsIn, content_fits}
 
 -- ---- words
@@ -69,7 +73,8 @@ digit_is_other x h =
 drop_next : (n x : ℕ) (xs : List ℕ) → drop (1 + n) (x ∷ xs) ≡ drop n xs
 drop_next n x xs = let e : 1 + n ≡ suc n = omega arith in ap (λ k. drop k (x ∷ xs)) e
 
-digits_more : (b : Bool) (n x : ℕ) (xs : List ℕ) → (b ≡ true → is_other (class x) ≡ true) → Passes xs (drop n xs) → Passes (x ∷ xs) (drop (cond b (1 + n) 0) (x ∷ xs))
+digits_more : (b : Bool) (n x : ℕ) (xs : List ℕ) → (b ≡ true → is_other (class x) ≡ true) → Passes xs (drop n xs)
+    → Passes (x ∷ xs) (drop (cond b (1 + n) 0) (x ∷ xs))
 digits_more true n x xs e h = rw drop_next (omega (arith, pass_one x xs (e refl), h))
 digits_more false n x xs e h = omega arith
 
@@ -81,7 +86,8 @@ if_passes : (t : List ℕ) (b : Bool) (r s : Option (List ℕ)) → (b ≡ true 
 if_passes t true r s f g = f refl
 if_passes t false r s f g = g
 
-passes_then : (t : List ℕ) (f : List ℕ → Option (List ℕ)) (o : Option (List ℕ)) → PassesTo t o → ((u : List ℕ) → PassesTo u (f u)) → PassesTo t (option_and_then f o)
+passes_then : (t : List ℕ) (f : List ℕ → Option (List ℕ)) (o : Option (List ℕ)) → PassesTo t o → ((u : List ℕ) → PassesTo u (f u))
+    → PassesTo t (option_and_then f o)
 passes_then t f None h g = tt
 passes_then t f (Some u) h g = through (f u) (g u)
   where
@@ -104,21 +110,27 @@ pass_after_whole : (t : List ℕ) → PassesTo t (after_whole t)
 pass_after_whole t = if_passes t (head t == 48) (Some (drop 1 t)) _ (pass_head 48 t refl) (pass_after_digits t)
 
 pass_after_fraction : (t : List ℕ) → PassesTo t (after_fraction t)
-pass_after_fraction t = if_passes t (head t == 46) _ (Some t) (λ e. pass_after t (drop 1 t) _ (pass_head 46 t refl e) (pass_after_digits (drop 1 t))) (omega arith)
+pass_after_fraction t = if_passes t (head t == 46) _ (Some t)
+    (λ e. pass_after t (drop 1 t) _ (pass_head 46 t refl e) (pass_after_digits (drop 1 t))) (omega arith)
 
-one_of : (a b : ℕ) (t : List ℕ) → is_other (class a) ≡ true → is_other (class b) ≡ true → ((head t == a) || (head t == b)) ≡ true → Passes t (drop 1 t)
+one_of : (a b : ℕ) (t : List ℕ) → is_other (class a) ≡ true → is_other (class b) ≡ true → ((head t == a) || (head t == b)) ≡ true
+    → Passes t (drop 1 t)
 one_of a b t p q e = elim (or_cases _ _ e) [ inl f ↦ pass_head a t p f | inr f ↦ pass_head b t q f ]
 
 pass_after_exponent : (t : List ℕ) → PassesTo t (after_exponent t)
 pass_after_exponent t =
     let u = drop 1 t in
     if_passes t ((head t == 101) || (head t == 69)) _ (Some t)
-    (λ e. pass_after t u _ (one_of 101 69 t refl refl e) (pass_after u (after_sign u) _ (if_drop u ((head u == 45) || (head u == 43)) (one_of 45 43 u refl refl)) (pass_after_digits (after_sign u)))) (omega arith)
+    (λ e. pass_after t u _ (one_of 101 69 t refl refl e)
+    (pass_after u (after_sign u) _ (if_drop u ((head u == 45) || (head u == 43)) (one_of 45 43 u refl refl))
+    (pass_after_digits (after_sign u)))) (omega arith)
 
 pass_after_number : (t : List ℕ) → PassesTo t (after_number t)
 unfolding after_number
 pass_after_number t =
-    passes_then t after_exponent _ (passes_then t after_fraction _ (pass_after t (after_minus t) _ (if_drop t (head t == 45) (pass_head 45 t refl)) (pass_after_whole (after_minus t))) pass_after_fraction)
+    passes_then t after_exponent _ (passes_then t after_fraction _
+    (pass_after t (after_minus t) _ (if_drop t (head t == 45) (pass_head 45 t refl))
+    (pass_after_whole (after_minus t))) pass_after_fraction)
     pass_after_exponent
 
 -- the text of a token, as long as a word goes on
@@ -131,7 +143,8 @@ if_within n false t u f g = g
 
 number_within : (t : List ℕ) (o : Option (List ℕ)) → PassesTo t o → IsWithin (run t) (number_before t o)
 number_within t None h = omega arith
-number_within t (Some rest) h = if_within (run t) (ends_word rest) _ bad (λ e. omega (arith, length-take-le {A = ℕ} (length t - length rest) t, h)) (omega arith)
+number_within t (Some rest) h =
+    if_within (run t) (ends_word rest) _ bad (λ e. omega (arith, length-take-le {A = ℕ} (length t - length rest) t, h)) (omega arith)
 
 run_le : (b : Bool) (m n : ℕ) → m ≤ n → cond b (1 + m) 0 ≤ cond b (1 + n) 0
 run_le true m n h = omega arith
@@ -142,16 +155,20 @@ run-take zero t = omega arith
 run-take (suc n) [] = omega arith
 run-take (suc n) (x ∷ xs) = run_le (is_other (class x)) (run (take n xs)) (run xs) (run-take n xs)
 
-literal_within : (name : List ℕ) (found : Token) (t : List ℕ) → length (token_text found) ≤ run name → IsWithin (run t) (literal name found t)
+literal_within : (name : List ℕ) (found : Token) (t : List ℕ) → length (token_text found) ≤ run name
+    → IsWithin (run t) (literal name found t)
 literal_within name found t h =
-    if_within (run t) _ found bad (λ e. omega (arith, h, ap run ((bytes_eq-Decides name (take (length name) t)).0 (and_parts _ _ e).0), run-take (length name) t)) (omega arith)
+    if_within (run t) _ found bad (λ e.
+    omega (arith, h, ap run ((bytes_eq-Decides name (take (length name) t)).0 (and_parts _ _ e).0), run-take (length name) t))
+    (omega arith)
 
 word_within : (t : List ℕ) → IsWithin (run t) (word t)
 unfolding word
 word_within t =
     if_within (run t) (head t == 116) _ _ (λ e. literal_within ascii.true_text (boolean true) t (omega arith))
     (if_within (run t) (head t == 102) _ _ (λ e. literal_within ascii.false_text (boolean false) t (omega arith))
-    (if_within (run t) (head t == 110) _ _ (λ e. literal_within ascii.null_text null t (omega arith)) (number_within t (after_number t) (pass_after_number t))))
+    (if_within (run t) (head t == 110) _ _ (λ e. literal_within ascii.null_text null t (omega arith))
+    (number_within t (after_number t) (pass_after_number t))))
 
 -- ---- lexemes
 
@@ -178,7 +195,9 @@ if_single false l m f g = g
 operator_len : (x : ℕ) → lexeme_len (operator_lexeme x) ≤ 1
 operator_len x =
     if_single (x == 123) _ _ (omega arith)
-    (if_single (x == 125) _ _ (omega arith) (if_single (x == 91) _ _ (omega arith) (if_single (x == 93) _ _ (omega arith) (if_single (x == 44) comma colon (omega arith) (omega arith)))))
+    (if_single (x == 125) _ _ (omega arith)
+    (if_single (x == 91) _ _ (omega arith)
+    (if_single (x == 93) _ _ (omega arith) (if_single (x == 44) comma colon (omega arith) (omega arith)))))
 
 string_len : (n : ℕ) (o : Option (List ℕ)) → FitsIn n o → length (token_text (string_token o)) ≤ 1 + n
 string_len n None h = omega arith
@@ -192,7 +211,8 @@ span_is : (m : Mode) (c : Class) (x : ℕ) (xs : List ℕ) → class x ≡ c →
 unfolding span
 span_is m c x xs e = ap (λ d. span_byte m d (λ next. span next xs)) e
 
-byte_len : (m : Mode) (c : Class) (x : ℕ) (xs : List ℕ) → class x ≡ c → ((next : Mode) → lexemes_len (lex next xs) + ahead next xs ≤ length xs)
+byte_len : (m : Mode) (c : Class) (x : ℕ) (xs : List ℕ) → class x ≡ c
+    → ((next : Mode) → lexemes_len (lex next xs) + ahead next xs ≤ length xs)
     → lexemes_len (lex_byte m c x xs (λ next. lex next xs)) + ahead m (x ∷ xs) ≤ suc (length xs)
 byte_len between quote x xs e h = omega (arith, string_len (0 + span in_string xs) (content plain xs) (content_fits plain xs), h in_string)
 byte_len between backslash x xs e h = omega (arith, h in_word)

@@ -1,5 +1,7 @@
 -- The decimal text of a number is no longer than the text that it was read from.
-use Rattle.std.proofs.Common.{◌≡◌, ◌∙◌, ℕ, zero, suc, ◌+◌, ◌-◌, ◌^◌, ◌<◌, ◌≤◌, Bool, true, false, cond, not, ◌&&◌, ◌==◌, nat_lt, nat_le, List, [], ◌∷◌, ◌++◌, length, take, Option, Some, None, MatchOption, pos, neg_ℤ, decimal, refl, sym, ap, subst, arith, append-nil, length-take}
+use Rattle.std.proofs.Common.{◌≡◌, ◌∙◌, ℕ, zero, suc, ◌+◌, ◌-◌, ◌^◌, ◌<◌, ◌≤◌, Bool, true, false, cond, not, ◌&&◌, ◌==◌, nat_lt, nat_le}
+use Rattle.std.proofs.Common.{List, [], ◌∷◌, ◌++◌, length, take, Option, Some, None, MatchOption, pos, neg_ℤ, decimal, refl, sym, ap}
+use Rattle.std.proofs.Common.{subst, arith, append-nil, length-take}
 use Rattle.std.proofs.lemmas.Bool.{true≢false, false≢true, and_parts, leb-true, ltb-true}
 use Rattle.std.proofs.lemmas.Fmt.{length-decimal-le}
 use Rattle.std.proofs.lemmas.Str.{digit_value_digit}
@@ -34,8 +36,10 @@ front_digits : (t : List ℕ) → AllDigits 10 (take (prefix_len is_ascii_digit 
 front_digits [] = tt
 front_digits (x ∷ xs) = go (is_ascii_digit x) (digit_small x) (front_digits xs)
   where
-    go : (b : Bool) → (b ≡ true → digit_value x < 10) → AllDigits 10 (take (prefix_len is_ascii_digit xs) xs) → AllDigits 10 (take (cond b (1 + prefix_len is_ascii_digit xs) 0) (x ∷ xs))
-    go true f h = let e : 1 + prefix_len is_ascii_digit xs ≡ suc (prefix_len is_ascii_digit xs) = omega arith in subst (λ k. AllDigits 10 (take k (x ∷ xs))) (sym e) (f refl, h)
+    go : (b : Bool) → (b ≡ true → digit_value x < 10) → AllDigits 10 (take (prefix_len is_ascii_digit xs) xs)
+        → AllDigits 10 (take (cond b (1 + prefix_len is_ascii_digit xs) 0) (x ∷ xs))
+    go true f h = let e : 1 + prefix_len is_ascii_digit xs ≡ suc (prefix_len is_ascii_digit xs) = omega arith in
+        subst (λ k. AllDigits 10 (take k (x ∷ xs))) (sym e) (f refl, h)
     go false f h = tt
 
 no_fraction : (b : Bool) (xs : List ℕ) → b ≡ false → cond b xs [] ≡ []
@@ -47,7 +51,12 @@ unfolding scan
 scanned t =
     let n = prefix_len is_ascii_digit t in
     let e : (0 + n) - 0 ≡ n = omega arith in
-    record { digits = subst (λ k. AllDigits 10 (take k t)) (sym e) (front_digits t); whole = no_fraction _ _; fits = omega (arith, length-take {A = ℕ} (0 + n - 0) t) }
+    record {
+      digits = subst (λ k. AllDigits 10 (take k t)) (sym e) (front_digits t);
+      whole = no_fraction _ _;
+      fits =
+          omega (arith, length-take {A = ℕ} (0 + n - 0) t);
+    }
 
 float_fits : (n : ℕ) (sign : Bool) (p : Parts) → NumberFits n (float_of sign p)
 float_fits n sign p = go (float_is_finite (nearest binary64 sign p))
@@ -66,7 +75,8 @@ integer_len n p h e small =
     let second = and_parts (nat_lt 0 (length p.whole)) (not p.point) first.0 in
     let none : p.whole ++ p.fraction ≡ p.whole = ap (λ rest. p.whole ++ rest) (h.whole (not-true p.point second.1)) ∙ append-nil p.whole in
     let digits : AllDigits 10 (p.whole ++ p.fraction) = subst (AllDigits 10) (sym none) h.digits in
-    let below : digits_of p < 10 ^ length p.whole = subst (λ ds. digits_of p < 10 ^ length ds) none (digits_value-lt 10 (p.whole ++ p.fraction) digits) in
+    let below : digits_of p < 10 ^ length p.whole =
+    subst (λ ds. digits_of p < 10 ^ length ds) none (digits_value-lt 10 (p.whole ++ p.fraction) digits) in
     omega (arith, length-decimal-le (length p.whole) (digits_of p) (ltb-true 0 (length p.whole) second.0) below small, h.fits)
 
 either : (n : ℕ) (b : Bool) (x y : Option Num) → (b ≡ true → NumberFits n x) → NumberFits n y → NumberFits n (cond b x y)
@@ -95,5 +105,6 @@ number_fits [] = unsigned_fits 0 (scan []) (scanned [])
 number_fits (x ∷ xs) = go (x == 45)
   where
     go : (b : Bool) → NumberFits (suc (length xs)) (cond b (number_from true (scan xs)) (number_from false (scan (x ∷ xs))))
-    go true = let e : 1 + length xs ≡ suc (length xs) = omega arith in subst (λ n. NumberFits n (number_from true (scan xs))) e (negative_fits (length xs) (scan xs) (scanned xs))
+    go true = let e : 1 + length xs ≡ suc (length xs) = omega arith in
+        subst (λ n. NumberFits n (number_from true (scan xs))) e (negative_fits (length xs) (scan xs) (scanned xs))
     go false = unsigned_fits (suc (length xs)) (scan (x ∷ xs)) (scanned (x ∷ xs))

@@ -1,5 +1,6 @@
 -- The text of a value has no byte below a space.
-use Rattle.std.proofs.Common.{◌≡◌, ℕ, ◌+◌, ◌/◌, ◌%◌, ◌^◌, ◌<◌, ◌≤◌, arith, pos, negsuc, suc, List, [], ◌∷◌, ◌++◌, Bool, true, false, cond, ◌==◌, nat_le, nat_lt, get_or, decimal, refl}
+use Rattle.std.proofs.Common.{◌≡◌, ℕ, ◌+◌, ◌/◌, ◌%◌, ◌^◌, ◌<◌, ◌≤◌, arith, pos, negsuc, suc, List, [], ◌∷◌, ◌++◌, Bool, true, false, cond}
+use Rattle.std.proofs.Common.{◌==◌, nat_le, nat_lt, get_or, decimal, refl}
 use Rattle.std.proofs.lemmas.Bool.{and_parts, leb-true, ltb-false}
 use Rattle.std.proofs.lemmas.Fmt.{decimal_is_IsNumeral}
 use Rattle.std.proofs.lemmas.List.Elements.{All-nil, All-cons, All-append, All-from_get_or}
@@ -27,7 +28,8 @@ one_more x xs h k = record { each = All-cons Visible x xs h k.each }
 
 literal : (bytes : List ℕ) → list_all (nat_le 32) bytes ≡ true → AreVisible bytes
 literal [] e = none
-literal (x ∷ xs) e = let both = and_parts (nat_le 32 x) (list_all (nat_le 32) xs) e in one_more x xs (leb-true 32 x both.0) (literal xs both.1)
+literal (x ∷ xs) e = let both = and_parts (nat_le 32 x) (list_all (nat_le 32) xs) e in
+    one_more x xs (leb-true 32 x both.0) (literal xs both.1)
 
 join : (xs ys : List ℕ) → AreVisible xs → AreVisible ys → AreVisible (xs ++ ys)
 join xs ys f g = record { each = All-append Visible xs ys f.each g.each }
@@ -46,9 +48,14 @@ digit_visible d = go (nat_lt d 10)
 escaped_visible : (x : ℕ) → AreVisible (escaped x)
 unfolding escaped
 escaped_visible x =
-    if_visible (x == 34) _ _ (literal _ refl) (λ a. if_visible (x == 92) _ _ (literal _ refl) (λ b. if_visible (x == 8) _ _ (literal _ refl) (λ c. if_visible (x == 9) _ _ (literal _ refl)
-    (λ d. if_visible (x == 10) _ _ (literal _ refl) (λ e. if_visible (x == 12) _ _ (literal _ refl) (λ f. if_visible (x == 13) _ _ (literal _ refl) (λ g. if_visible (nat_lt x 32) _ (x ∷ [])
-    (join (92 ∷ 117 ∷ 48 ∷ 48 ∷ []) _ (literal _ refl) (one_more _ _ (digit_visible (x / 16)) (one_more _ _ (digit_visible (x % 16)) none)))
+    if_visible (x == 34) _ _ (literal _ refl)
+    (λ a. if_visible (x == 92) _ _ (literal _ refl)
+    (λ b. if_visible (x == 8) _ _ (literal _ refl) (λ c. if_visible (x == 9) _ _ (literal _ refl)
+    (λ d. if_visible (x == 10) _ _ (literal _ refl)
+    (λ e. if_visible (x == 12) _ _ (literal _ refl)
+    (λ f. if_visible (x == 13) _ _ (literal _ refl) (λ g. if_visible (nat_lt x 32) _ (x ∷ [])
+    (join (92 ∷ 117 ∷ 48 ∷ 48 ∷ []) _ (literal _ refl)
+    (one_more _ _ (digit_visible (x / 16)) (one_more _ _ (digit_visible (x % 16)) none)))
     (λ h. one_more x [] (ltb-false x 32 h) none))))))))
 
 all_escaped : (text : List ℕ) → AreVisible (flat_map escaped text)
@@ -59,7 +66,11 @@ quoted_visible : (text : List ℕ) → AreVisible (quoted text)
 quoted_visible text = join (34 ∷ []) _ (literal _ refl) (join (flat_map escaped text) (34 ∷ []) (all_escaped text) (literal _ refl))
 
 decimal_visible : (n : ℕ) → n < 2 ^ 64 → AreVisible (decimal n)
-decimal_visible n h = record { each = All-from_get_or Visible (decimal n) 0 (λ i within. let digit = digit_at (decimal n) i (decimal_is_IsNumeral n h).0.1 within in omega (arith, digit)) }
+decimal_visible n h = record {
+  each =
+      All-from_get_or Visible (decimal n) 0 (λ i within. let digit = digit_at (decimal n) i (decimal_is_IsNumeral n h).0.1 within in
+      omega (arith, digit));
+}
 
 scalar_visible : (scalar : Scalar) → IsScalar scalar → AreVisible (scalar_text scalar)
 scalar_visible Null ok = literal _ refl
@@ -70,17 +81,22 @@ scalar_visible (Int (negsuc n)) ok = one_more 45 _ (omega arith) (decimal_visibl
 scalar_visible (Text text) ok = quoted_visible text
 
 field_visible : (field : Field) → IsField field → AreVisible (field_text field)
-field_visible field ok = join (quoted field.name) _ (quoted_visible field.name) (join (58 ∷ []) _ (literal _ refl) (scalar_visible field.scalar ok.1))
+field_visible field ok = join (quoted field.name) _ (quoted_visible field.name)
+    (join (58 ∷ []) _ (literal _ refl) (scalar_visible field.scalar ok.1))
 
-rest_visible : (fields : List Field) → AllByRecursion IsField fields → AreVisible (flat_map (λ field. codes "," ++ field_text field) fields)
+rest_visible : (fields : List Field) → AllByRecursion IsField fields
+    → AreVisible (flat_map (λ field. codes "," ++ field_text field) fields)
 rest_visible [] ok = none
-rest_visible (field ∷ fields) ok = join (44 ∷ field_text field) _ (join (44 ∷ []) _ (literal _ refl) (field_visible field ok.0)) (rest_visible fields ok.1)
+rest_visible (field ∷ fields) ok =
+    join (44 ∷ field_text field) _ (join (44 ∷ []) _ (literal _ refl) (field_visible field ok.0)) (rest_visible fields ok.1)
 
 whole_visible : (fields : List Field) → AllByRecursion IsField fields → AreVisible (value_text fields)
 unfolding value_text
 whole_visible [] ok = literal _ refl
 whole_visible (field ∷ fields) ok =
-    join (123 ∷ []) _ (literal _ refl) (join (field_text field ++ _) (125 ∷ []) (join (field_text field) _ (field_visible field ok.0) (rest_visible fields ok.1)) (literal _ refl))
+    join (123 ∷ []) _ (literal _ refl)
+    (join (field_text field ++ _) (125 ∷ []) (join (field_text field) _ (field_visible field ok.0) (rest_visible fields ok.1))
+    (literal _ refl))
 
 pub text_visible : (fields : List Field) → IsValue fields → All (λ byte. 32 ≤ byte) (value_text fields)
 text_visible fields h = (whole_visible fields h.readable).each

@@ -1,5 +1,7 @@
 -- What is printed for what was read is no longer than what was read.
-use Rattle.std.proofs.Common.{◌≡◌, ◌∙◌, ℕ, ◌+◌, ◌^◌, ◌≤◌, Bool, true, false, cond, ◌&&◌, nat_lt, List, [], ◌∷◌, ◌++◌, length, Option, Some, None, option_map, option_and_then, Result, Ok, Err, MatchOption, IfOk, Ordering, Less, Equal, Greater, pos, decimal, refl, sym, ap, subst, arith, append-nil, length-append}
+use Rattle.std.proofs.Common.{◌≡◌, ◌∙◌, ℕ, ◌+◌, ◌^◌, ◌≤◌, Bool, true, false, cond, ◌&&◌, nat_lt, List, [], ◌∷◌, ◌++◌, length, Option, Some}
+use Rattle.std.proofs.Common.{None, option_map, option_and_then, Result, Ok, Err, MatchOption, IfOk, Ordering, Less, Equal, Greater, pos}
+use Rattle.std.proofs.Common.{decimal, refl, sym, ap, subst, arith, append-nil, length-append}
 use Rattle.std.specs.Prelude.{⊤, flat_map, codes}
 use Rattle.std.specs.Option.{ok_or}
 use Rattle.std.specs.Ordering.{match_ordering}
@@ -9,7 +11,8 @@ use Rattle.json.specs.Print.{quoted, token_text, begins, ends, print_from}
 use Rattle.json.specs.Token.{Token, begin_object, end_object, begin_array, key, string as a_string, number as a_number}
 use Rattle.json.specs.Tree.{json_tokens, items_tokens, members_tokens}
 use Rattle.json.proofs.Unique.Spelling.{value-json_tokens_back}
-use Rattle.serde_json.specs.Data.{Num, unsigned, negative, float, Data, null, boolean, number, string, array, object, Members, no_members, member, put}
+use Rattle.serde_json.specs.Data.{Num, unsigned, negative, float, Data, null, boolean, number, string, array, object, Members, no_members}
+use Rattle.serde_json.specs.Data.{member, put}
 use Rattle.serde_json.specs.Events.{members_len}
 use Rattle.serde_json.specs.Read.{number_of, of_json, of_items, of_members, max_depth, read}
 use Rattle.serde_json.specs.Written.{number_text}
@@ -83,12 +86,19 @@ value_front (json.boolean b) us = omega (arith, printed_more false (Token.boolea
 value_front (json.number text) us = omega (arith, printed_more false (a_number text) us)
 value_front (json.string text) us = omega (arith, printed_more false (a_string text) us)
 value_front (json.array js) us = omega (arith, printed_more false begin_array (items_tokens js ++ us), skip (items_tokens js) us false)
-value_front (json.object ms) us = omega (arith, printed_more false begin_object (members_tokens ms ++ us), skip (members_tokens ms) us false)
+value_front (json.object ms) us =
+    omega (arith, printed_more false begin_object (members_tokens ms ++ us), skip (members_tokens ms) us false)
 
 members_front : (ms : json.Members) → 1 + jsons_len ms ≤ printed_len true (members_tokens ms)
 members_front json.no_members = omega (arith, printed_more true end_object [])
 members_front (json.member name j ms) =
-    omega (arith, printed_more true (key name) (json_tokens j ++ members_tokens ms), length-append (quoted name) (58 ∷ []), value_front j (members_tokens ms), members_front ms)
+    omega (
+      arith,
+      printed_more true (key name) (json_tokens j ++ members_tokens ms),
+      length-append (quoted name) (58 ∷ []),
+      value_front j (members_tokens ms),
+      members_front ms,
+    )
 
 record ObjectLen (ms : json.Members) (n : ℕ) : Type 0 where
   braces : 2 ≤ n
@@ -122,7 +132,8 @@ datas_len (member name d ms) = 2 + length (quoted name) + data_len d + datas_len
 abbrev MapsTo : {A B : Type 0} → Option A → (A → B) → (B → Type 0) → Type 0
 MapsTo found f P = MatchOption (option_map f found) ⊤ P
 
-mapped : {A B : Type 0} (found : Option A) (f : A → B) (P : A → Type 0) (Q : B → Type 0) → ((a : A) → P a → Q (f a)) → MatchOption found ⊤ P → MatchOption (option_map f found) ⊤ Q
+mapped : {A B : Type 0} (found : Option A) (f : A → B) (P : A → Type 0) (Q : B → Type 0) → ((a : A) → P a → Q (f a))
+    → MatchOption found ⊤ P → MatchOption (option_map f found) ⊤ Q
 mapped None f P Q g h = tt
 mapped (Some a) f P Q g h = g a h
 
@@ -136,9 +147,11 @@ data_shorter (json.boolean b) = omega arith
 data_shorter (json.number text) = mapped (number_of text) number _ _ (λ n h. h) (number_fits text)
 data_shorter (json.string text) = omega arith
 data_shorter (json.array js) = mapped (of_items js) array (λ _. ⊤) (λ d. data_len d ≤ 0) (λ ds h. omega arith) (always (of_items js))
-data_shorter (json.object ms) = mapped (of_members ms no_members) object (λ _. ⊤) (λ d. data_len d ≤ 0) (λ ds h. omega arith) (always (of_members ms no_members))
+data_shorter (json.object ms) =
+    mapped (of_members ms no_members) object (λ _. ⊤) (λ d. data_len d ≤ 0) (λ ds h. omega arith) (always (of_members ms no_members))
 
-if_ordered : (o : Ordering) (a b c : Members) (n : ℕ) → datas_len a ≤ n → datas_len b ≤ n → datas_len c ≤ n → datas_len (match_ordering o a b c) ≤ n
+if_ordered : (o : Ordering) (a b c : Members) (n : ℕ) → datas_len a ≤ n → datas_len b ≤ n → datas_len c ≤ n
+    → datas_len (match_ordering o a b c) ≤ n
 if_ordered Less a b c n p q r = p
 if_ordered Equal a b c n p q r = q
 if_ordered Greater a b c n p q r = r
@@ -146,22 +159,27 @@ if_ordered Greater a b c n p q r = r
 put_len : (name : List ℕ) (d : Data) (ms : Members) → datas_len (put name d ms) ≤ 2 + length (quoted name) + data_len d + datas_len ms
 put_len name d no_members = omega arith
 put_len name d (member other e ms) =
-    if_ordered _ (member name d (member other e ms)) (member other d ms) (member other e (put name d ms)) _ (omega arith) (omega arith) (omega (arith, put_len name d ms))
+    if_ordered _ (member name d (member other e ms)) (member other d ms) (member other e (put name d ms)) _ (omega arith) (omega arith)
+    (omega (arith, put_len name d ms))
 
-members_then : (n : ℕ) (found : Option Data) (f : Data → Option Members) (P : Data → Type 0) → MatchOption found ⊤ P → ((d : Data) → P d → MatchOption (f d) ⊤ (λ out. datas_len out ≤ n))
+members_then : (n : ℕ) (found : Option Data) (f : Data → Option Members) (P : Data → Type 0) → MatchOption found ⊤ P
+    → ((d : Data) → P d → MatchOption (f d) ⊤ (λ out. datas_len out ≤ n))
     → MatchOption (option_and_then f found) ⊤ (λ out. datas_len out ≤ n)
 members_then n None f P h g = tt
 members_then n (Some d) f P h g = g d h
 
-members_weaker : (m n : ℕ) (found : Option Members) → m ≤ n → MatchOption found ⊤ (λ out. datas_len out ≤ m) → MatchOption found ⊤ (λ out. datas_len out ≤ n)
+members_weaker : (m n : ℕ) (found : Option Members) → m ≤ n → MatchOption found ⊤ (λ out. datas_len out ≤ m)
+    → MatchOption found ⊤ (λ out. datas_len out ≤ n)
 members_weaker m n None le h = tt
 members_weaker m n (Some out) le h = omega arith
 
-members_shorter : (ms : json.Members) (before : Members) → MatchOption (of_members ms before) ⊤ (λ out. datas_len out ≤ datas_len before + jsons_len ms)
+members_shorter : (ms : json.Members) (before : Members)
+    → MatchOption (of_members ms before) ⊤ (λ out. datas_len out ≤ datas_len before + jsons_len ms)
 members_shorter json.no_members before = omega arith
 members_shorter (json.member name j ms) before =
     members_then _ (of_json j) (λ d. of_members ms (put name d before)) _ (data_shorter j)
-    (λ d h. members_weaker _ _ (of_members ms (put name d before)) (omega (arith, put_len name d before, h)) (members_shorter ms (put name d before)))
+    (λ d h. members_weaker _ _ (of_members ms (put name d before)) (omega (arith, put_len name d before, h))
+    (members_shorter ms (put name d before)))
 
 -- ---- a text that is an object
 
@@ -169,7 +187,8 @@ record IsObjectOf (bytes : List ℕ) (found : Members) : Type 0 where
   braces : 2 ≤ length bytes
   all : 1 + datas_len found ≤ length bytes
 
-not_object : {A : Type 0} (read_so : Option A) (f : A → Data) (found : Members) → ((a : A) → Some (f a) ≡ Some (object found) → ⊥) → option_map f read_so ≡ Some (object found) → ⊥
+not_object : {A : Type 0} (read_so : Option A) (f : A → Data) (found : Members) → ((a : A) → Some (f a) ≡ Some (object found) → ⊥)
+    → option_map f read_so ≡ Some (object found) → ⊥
 not_object None f found never e = cc
 not_object (Some a) f found never e = never a e
 
@@ -177,7 +196,8 @@ the_members : (read_so : Option Members) (found : Members) → option_map object
 the_members None found e = absurd cc
 the_members (Some out) found e = cc
 
-from_object : (bytes : List ℕ) (found : Members) (j : json.Json) → tokens bytes ≡ json_tokens j → of_json j ≡ Some (object found) → IsObjectOf bytes found
+from_object : (bytes : List ℕ) (found : Members) (j : json.Json) → tokens bytes ≡ json_tokens j → of_json j ≡ Some (object found)
+    → IsObjectOf bytes found
 from_object bytes found json.null e is = absurd cc
 from_object bytes found (json.boolean b) e is = absurd cc
 from_object bytes found (json.number text) e is = absurd (not_object (number_of text) number found (λ n never. cc) is)
@@ -188,7 +208,8 @@ from_object bytes found (json.object ms) e is =
     let text : printed_len false (json_tokens (json.object ms)) ≤ length bytes =
     subst (λ ts. printed_len false ts ≤ length bytes) e (tokens_len bytes (subst AreGood (sym e) (json_good (json.object ms)))) in
     let len : datas_len found ≤ 0 + jsons_len ms =
-    subst (λ read_so. MatchOption read_so ⊤ (λ out. datas_len out ≤ 0 + jsons_len ms)) (the_members (of_members ms no_members) found is) (members_shorter ms no_members) in
+    subst (λ read_so. MatchOption read_so ⊤ (λ out. datas_len out ≤ 0 + jsons_len ms)) (the_members (of_members ms no_members) found is)
+    (members_shorter ms no_members) in
     record { braces = omega (arith, text, front.braces); all = omega (arith, text, front.all, len) }
 
 object_read : (bytes : List ℕ) (found : Members) → read bytes ≡ Some (object found) → IsObjectOf bytes found
@@ -197,7 +218,8 @@ object_read bytes found h = go (json.value max_depth (tokens bytes)) refl h
     go : (parsed : Option (json.Json × List Token)) → json.value max_depth (tokens bytes) ≡ parsed
         → option_and_then of_json (option_and_then (λ p. json.if_last p.0 p.1) parsed) ≡ Some (object found) → IsObjectOf bytes found
     go None e is = absurd cc
-    go (Some (j, [])) e is = from_object bytes found j (value-json_tokens_back max_depth (tokens bytes) [] j e ∙ append-nil (json_tokens j)) is
+    go (Some (j, [])) e is = from_object bytes found j (value-json_tokens_back max_depth (tokens bytes) [] j e
+        ∙ append-nil (json_tokens j)) is
     go (Some (j, t ∷ rest)) e is = absurd cc
 
 -- ---- its fields
@@ -212,7 +234,8 @@ few_members bytes found h = omega (arith, members_len-le found, (object_read byt
 whole_len : (n : Num) (place : ℕ) → IfOk (scalar_at place (number n)) (λ scalar. length (scalar_text scalar) ≤ length (number_text n))
 whole_len (unsigned n) place = go (nat_lt n (2 ^ 63))
   where
-    go : (b : Bool) → IfOk (ok_or (option_map Int (cond b (Some (pos n)) None)) (NotWhole place)) (λ scalar. length (scalar_text scalar) ≤ length (decimal n))
+    go : (b : Bool) → IfOk (ok_or (option_map Int (cond b (Some (pos n)) None)) (NotWhole place))
+        (λ scalar. length (scalar_text scalar) ≤ length (decimal n))
     go true = omega arith
     go false = tt
 whole_len (negative z) place = omega arith
@@ -231,19 +254,26 @@ abbrev fields_len : List Field → ℕ
 fields_len [] = 0
 fields_len (field ∷ fields) = 1 + length (field_text field) + fields_len fields
 
-with_field_len : (name : List ℕ) (scalar : Result Scalar ValueFault) (rest : Result (List Field) ValueFault) (m n : ℕ) → IfOk scalar (λ s. length (scalar_text s) ≤ m) → IfOk rest (λ fields. fields_len fields ≤ n)
+with_field_len : (name : List ℕ) (scalar : Result Scalar ValueFault) (rest : Result (List Field) ValueFault) (m n : ℕ)
+    → IfOk scalar (λ s. length (scalar_text s) ≤ m) → IfOk rest (λ fields. fields_len fields ≤ n)
     → IfOk (with_field name scalar rest) (λ fields. fields_len fields ≤ 2 + length (quoted name) + m + n)
 with_field_len name (Err fault) rest m n h k = tt
 with_field_len name (Ok scalar) (Err fault) m n h k = tt
-with_field_len name (Ok scalar) (Ok fields) m n h k = omega (arith, h, k, length-append (value.quoted name) (58 ∷ scalar_text scalar), ap length (quoted_same name))
+with_field_len name (Ok scalar) (Ok fields) m n h k =
+    omega (arith, h, k, length-append (value.quoted name) (58 ∷ scalar_text scalar), ap length (quoted_same name))
 
 fields_from_len : (place : ℕ) (found : Members) → IfOk (fields_from place found) (λ fields. fields_len fields ≤ datas_len found)
 fields_from_len place no_members = omega arith
-fields_from_len place (member name d ms) = with_field_len name (scalar_at place d) (fields_from (place + 1) ms) _ _ (scalar_len place d) (fields_from_len (place + 1) ms)
+fields_from_len place (member name d ms) =
+    with_field_len name (scalar_at place d) (fields_from (place + 1) ms) _ _ (scalar_len place d) (fields_from_len (place + 1) ms)
 
 rest_len : (fields : List Field) → length (flat_map (λ field. codes "," ++ field_text field) fields) ≡ fields_len fields
 rest_len [] = refl
-rest_len (field ∷ fields) = omega (arith, length-append (44 ∷ field_text field) (flat_map (λ other. codes "," ++ field_text other) fields), rest_len fields)
+rest_len (field ∷ fields) = omega (
+  arith,
+  length-append (44 ∷ field_text field) (flat_map (λ other. codes "," ++ field_text other) fields),
+  rest_len fields,
+)
 
 value_text_len : (n : ℕ) (fields : List Field) → 2 ≤ n → 1 + fields_len fields ≤ n → length (value_text fields) ≤ n
 unfolding value_text
@@ -252,7 +282,8 @@ value_text_len n (field ∷ fields) braces all =
     let rest = flat_map (λ other. codes "," ++ field_text other) fields in
     omega (arith, length-append (field_text field ++ rest) (125 ∷ []), length-append (field_text field) rest, rest_len fields)
 
-pub text_shorter : (bytes : List ℕ) (found : Data) (fields : List Field) → read bytes ≡ Some found → value_of (Some found) ≡ Ok fields → length (value_text fields) ≤ length bytes
+pub text_shorter : (bytes : List ℕ) (found : Data) (fields : List Field) → read bytes ≡ Some found → value_of (Some found) ≡ Ok fields
+    → length (value_text fields) ≤ length bytes
 text_shorter bytes null fields h is = absurd cc
 text_shorter bytes (boolean b) fields h is = absurd cc
 text_shorter bytes (number n) fields h is = absurd cc
@@ -260,5 +291,6 @@ text_shorter bytes (string text) fields h is = absurd cc
 text_shorter bytes (array ds) fields h is = absurd cc
 text_shorter bytes (object found) fields h is =
     let whole = object_read bytes found h in
-    let len : fields_len fields ≤ datas_len found = subst (λ read_so. IfOk read_so (λ all. fields_len all ≤ datas_len found)) is (fields_from_len 0 found) in
+    let len : fields_len fields ≤ datas_len found =
+    subst (λ read_so. IfOk read_so (λ all. fields_len all ≤ datas_len found)) is (fields_from_len 0 found) in
     value_text_len (length bytes) fields whole.braces (omega (arith, len, whole.all))

@@ -26,7 +26,8 @@ escaped_same : (x : ℕ) → escaped x ≡ escape_byte x
 unfolding escaped escape_byte
 escaped_same x = go (cases_eq x 34) (cases_eq x 92) (cases_eq x 8) (cases_eq x 9) (cases_eq x 10) (cases_eq x 12) (cases_eq x 13)
   where
-    go : (x ≡ 34) ⊎ (x ≡ 34 → ⊥) → (x ≡ 92) ⊎ (x ≡ 92 → ⊥) → (x ≡ 8) ⊎ (x ≡ 8 → ⊥) → (x ≡ 9) ⊎ (x ≡ 9 → ⊥) → (x ≡ 10) ⊎ (x ≡ 10 → ⊥) → (x ≡ 12) ⊎ (x ≡ 12 → ⊥) → (x ≡ 13) ⊎ (x ≡ 13 → ⊥)
+    go : (x ≡ 34) ⊎ (x ≡ 34 → ⊥) → (x ≡ 92) ⊎ (x ≡ 92 → ⊥) → (x ≡ 8) ⊎ (x ≡ 8 → ⊥) → (x ≡ 9) ⊎ (x ≡ 9 → ⊥) → (x ≡ 10) ⊎ (x ≡ 10 → ⊥)
+        → (x ≡ 12) ⊎ (x ≡ 12 → ⊥) → (x ≡ 13) ⊎ (x ≡ 13 → ⊥)
         → escaped x ≡ escape_byte x
     go (inl e) b c d f g h = rw e refl
     go (inr a) (inl e) c d f g h = rw e refl
@@ -35,7 +36,8 @@ escaped_same x = go (cases_eq x 34) (cases_eq x 92) (cases_eq x 8) (cases_eq x 9
     go (inr a) (inr b) (inr c) (inr d) (inl e) g h = rw e refl
     go (inr a) (inr b) (inr c) (inr d) (inr f) (inl e) h = rw e refl
     go (inr a) (inr b) (inr c) (inr d) (inr f) (inr g) (inl e) = rw e refl
-    go (inr a) (inr b) (inr c) (inr d) (inr f) (inr g) (inr h) = rw (ne_eqb x 34 a, ne_eqb x 92 b, ne_eqb x 8 c, ne_eqb x 9 d, ne_eqb x 10 f, ne_eqb x 12 g, ne_eqb x 13 h) refl
+    go (inr a) (inr b) (inr c) (inr d) (inr f) (inr g) (inr h) =
+        rw (ne_eqb x 34 a, ne_eqb x 92 b, ne_eqb x 8 c, ne_eqb x 9 d, ne_eqb x 10 f, ne_eqb x 12 g, ne_eqb x 13 h) refl
 
 pub quoted_same : (text : List ℕ) → quoted text ≡ json_quoted text
 quoted_same text = λ i. 34 ∷ (flat_map (λ x. escaped_same x i) text ++ 34 ∷ [])
@@ -48,19 +50,24 @@ scalar_text_same (Int (pos n)) = refl
 scalar_text_same (Int (negsuc n)) = refl
 scalar_text_same (Text text) = quoted_same text
 
-field_before : (field : Field) (rest : List ℕ) → field_text field ++ rest ≡ json_quoted field.name ++ 58 ∷ (compact_text (data_of field.scalar) ++ rest)
+field_before : (field : Field) (rest : List ℕ) → field_text field ++ rest ≡ json_quoted field.name
+    ++ 58 ∷ (compact_text (data_of field.scalar) ++ rest)
 field_before field rest =
-    append_assoc (quoted field.name) (58 ∷ scalar_text field.scalar) rest ∙ (λ i. quoted_same field.name i ++ 58 ∷ (scalar_text_same field.scalar i ++ rest))
+    append_assoc (quoted field.name) (58 ∷ scalar_text field.scalar) rest
+    ∙ (λ i. quoted_same field.name i ++ 58 ∷ (scalar_text_same field.scalar i ++ rest))
 
-rest_same : (fields : List Field) → flat_map (λ field. codes "," ++ field_text field) fields ++ 125 ∷ [] ≡ members_text true (members_of fields)
+rest_same : (fields : List Field) → flat_map (λ field. codes "," ++ field_text field) fields
+    ++ 125 ∷ [] ≡ members_text true (members_of fields)
 rest_same [] = refl
 rest_same (field ∷ fields) =
     append_assoc (44 ∷ field_text field) (flat_map (λ other. codes "," ++ field_text other) fields) (125 ∷ [])
-    ∙ ap (λ rest. 44 ∷ (field_text field ++ rest)) (rest_same fields) ∙ ap (λ rest. 44 ∷ rest) (field_before field (members_text true (members_of fields)))
+    ∙ ap (λ rest. 44 ∷ (field_text field ++ rest)) (rest_same fields)
+    ∙ ap (λ rest. 44 ∷ rest) (field_before field (members_text true (members_of fields)))
 
 pub value_text_same : (fields : List Field) → value_text fields ≡ compact_text (object (members_of fields))
 unfolding value_text
 value_text_same [] = refl
 value_text_same (field ∷ fields) =
     ap (λ rest. 123 ∷ rest) (append_assoc (field_text field) (flat_map (λ other. codes "," ++ field_text other) fields) (125 ∷ []))
-    ∙ ap (λ rest. 123 ∷ (field_text field ++ rest)) (rest_same fields) ∙ ap (λ rest. 123 ∷ rest) (field_before field (members_text true (members_of fields)))
+    ∙ ap (λ rest. 123 ∷ (field_text field ++ rest)) (rest_same fields)
+    ∙ ap (λ rest. 123 ∷ rest) (field_before field (members_text true (members_of fields)))

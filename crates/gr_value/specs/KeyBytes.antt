@@ -1,5 +1,6 @@
 -- What a key is, and why bytes are none.
-use Rattle.std.specs.Prelude.{◌≡◌, ℕ, ◌&&◌, List, length, Bool, not, nat_lt, nat_le, position, if◌then◌else◌, ◌==◌, Option, Some, None, option_map}
+use Rattle.std.specs.Prelude.{◌≡◌, ℕ, ◌&&◌, List, length, Bool, not, nat_lt, nat_le, position, if◌then◌else◌, ◌==◌, Option, Some, None}
+use Rattle.std.specs.Prelude.{option_map}
 use Rattle.gr_value.specs.declared.fault.KeyFault.{KeyFault}
 use Rattle.gr_value.specs.declared.fault.KeyFault.TheVariants.{Empty, TooLong, BadByte, Memory}
 

@@ -21,7 +21,8 @@ scalar_eq-Decides _ _ = (λ e. cc, λ e. cc)
 pub field_eq-Decides : (one two : Field) → Decides (field_eq one two) (one ≡ two)
 field_eq-Decides one two =
     let made : List ℕ → Scalar → Field = λ name scalar. record { name = name; scalar = scalar } in
-    Decides-like _ (λ (e : (one.name ≡ two.name) × (one.scalar ≡ two.scalar)). ap (λ name. made name one.scalar) e.0 ∙ ap (made two.name) e.1)
+    Decides-like _ (λ (e : (one.name ≡ two.name) × (one.scalar ≡ two.scalar)). ap (λ name. made name one.scalar) e.0
+    ∙ ap (made two.name) e.1)
     (λ (e : one ≡ two). (ap (λ field. field.name) e, ap (λ field. field.scalar) e))
     (Decides-and _ _ (bytes_eq-Decides one.name two.name) (scalar_eq-Decides one.scalar two.scalar))
 

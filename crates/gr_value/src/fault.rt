@@ -3,7 +3,8 @@ ghost use Rattle.gr_value.specs.declared.fault.KeyFault.TheVariants.{Memory as O
 ghost use Rattle.gr_value.specs.declared.fault.ValueFault.TheVariants.{Memory as NoMemory};
 
 use crate::Memory;
-use std::alloc::{AllocError, AllocFailed};
+use std::error::Error;
+use std::fmt;
 
 /// Why bytes are no key, in the order in which it is looked for.
 #[derive(Clone, Copy, Debug, PartialEq, Eq)]
@@ -24,21 +25,18 @@ impl From<Memory> for KeyFault {
     }
 }
 
-impl From<AllocError> for KeyFault {
-    ghost from_gives = { λ _ fault. fault ≡ OutOfMemory };
-
-    fn from(_: AllocError) -> KeyFault {
-        KeyFault::Memory
+impl fmt::Display for KeyFault {
+    fn fmt<W: fmt::Write>(&self, f: &mut fmt::Formatter<W>) -> fmt::Result {
+        match self {
+            KeyFault::Empty => write!(f, "a key has at least one byte"),
+            KeyFault::TooLong => write!(f, "a key has at most 255 bytes"),
+            KeyFault::BadByte(place) => write!(f, "no byte of a key, at {place}"),
+            KeyFault::Memory => write!(f, "no memory"),
+        }
     }
 }
 
-impl<T: Drop> From<AllocFailed<T>> for KeyFault {
-    ghost from_gives = { λ _ fault. fault ≡ OutOfMemory };
-
-    fn from(_: AllocFailed<T>) -> KeyFault {
-        KeyFault::Memory
-    }
-}
+impl Error for KeyFault {}
 
 /// Why bytes are no value, in the order in which it is looked for. Places count the fields in the
 /// order of their names, from 0; of `Nested` and `NotWhole` the least place is answered.
@@ -63,18 +61,17 @@ impl From<Memory> for ValueFault {
     }
 }
 
-impl From<AllocError> for ValueFault {
-    ghost from_gives = { λ _ fault. fault ≡ NoMemory };
-
-    fn from(_: AllocError) -> ValueFault {
-        ValueFault::Memory
+impl fmt::Display for ValueFault {
+    fn fmt<W: fmt::Write>(&self, f: &mut fmt::Formatter<W>) -> fmt::Result {
+        match self {
+            ValueFault::TooLong => write!(f, "a value has at most 1024 bytes"),
+            ValueFault::NotJson => write!(f, "a value is JSON"),
+            ValueFault::NotObject => write!(f, "a value is an object"),
+            ValueFault::Nested(place) => write!(f, "field {place} holds an array or an object"),
+            ValueFault::NotWhole(place) => write!(f, "field {place} holds no whole number"),
+            ValueFault::Memory => write!(f, "no memory"),
+        }
     }
 }
 
-impl<T: Drop> From<AllocFailed<T>> for ValueFault {
-    ghost from_gives = { λ _ fault. fault ≡ NoMemory };
-
-    fn from(_: AllocFailed<T>) -> ValueFault {
-        ValueFault::Memory
-    }
-}
+impl Error for ValueFault {}

@@ -1,4 +1,4 @@
-ghost use Rattle.std.specs.Prelude.{◌≡◌, ◌≤◌, ◌<◌, IfSome, IsTrue, Some, None, MatchResult, length};
+ghost use Rattle.std.specs.Prelude.{◌≡◌, ◌≤◌, ◌<◌, IfOk, IfSome, IsTrue, Some, None, MatchResult, length};
 ghost use Rattle.gr_value.specs.KeyBytes.{is_key_byte, bad_place, IsKey, key_fault, FaultIs};
 ghost use Rattle.gr_value.specs.Shard.{shard_of};
 
@@ -63,6 +63,13 @@ impl Key {
         if let Some(fault) = fault_of(bytes) {
             return Err(fault);
         }
+        Ok(Key::of_bytes(alloc, bytes)?)
+    }
+
+    fn of_bytes(alloc: Global, bytes: &[u8]) -> Result<Key, Memory>
+        requires { IsKey bytes.now }
+        ensures { IfOk result (λ key. key ≡ bytes.now) }
+    {
         let shared = Arc::new(alloc, Vec::from_slice(alloc, bytes)?)?;
         Ok(Key { shared })
     }

@@ -29,6 +29,21 @@ impl<T> ItemList<T> {
         })
     }
 
+    /// The list with no items, and room for so many.
+    pub(crate) fn with_room(alloc: Global, items: usize) -> Result<ItemList<T>, Memory>
+        ensures { IfOk result (λ list. list ≡ []) }
+    {
+        Ok(ItemList {
+            entries: Vec::with_capacity(alloc, items)?,
+        })
+    }
+
+    pub(crate) fn into_vec(self) -> Vec<T>
+        ensures { result.items ≡ self }
+    {
+        self.entries
+    }
+
     /// Puts one item last. Where memory is refused the item is dropped.
     pub fn push(&mut self, item: T) -> Result<(), Memory>
     where
@@ -77,10 +92,10 @@ impl<T> ItemList<T> {
 
 impl<T: Copied + Drop> Copied for ItemList<T> {
     fn copy(&self, alloc: Global) -> Result<ItemList<T>, Memory> {
-        let mut copies = Vec::with_capacity(alloc, self.entries.len())?;
+        let mut copies = ItemList::with_room(alloc, self.entries.len())?;
         for item in &self.entries {
             copies.push(item.copy(alloc)?)?;
         }
-        Ok(ItemList { entries: copies })
+        Ok(copies)
     }
 }

@@ -1,4 +1,6 @@
 use std::alloc::{AllocError, AllocFailed};
+use std::error::Error;
+use std::fmt;
 
 /// Memory was refused. Nothing that was lent for writing has changed.
 #[derive(Clone, Copy, Debug, PartialEq, Eq)]
@@ -15,3 +17,11 @@ impl<T: Drop> From<AllocFailed<T>> for Memory {
         Memory
     }
 }
+
+impl fmt::Display for Memory {
+    fn fmt<W: fmt::Write>(&self, f: &mut fmt::Formatter<W>) -> fmt::Result {
+        write!(f, "no memory")
+    }
+}
+
+impl Error for Memory {}

@@ -28,7 +28,7 @@ impl<'a> Model for Cursor<'a> {
     ghost view = { λ cursor. cursor.rest.now };
 }
 
-/// How many bytes stand for themselves in a quoted text, up to the first that doesn't.
+// How many bytes stand for themselves in a quoted text, up to the first that doesn't.
 #[tactic(auto, using(crate::proofs::PlainBytes::plain_more))]
 fn plain_len(bytes: &[u8]) -> usize
     ensures within { result ≤ length bytes.now }
@@ -42,7 +42,7 @@ fn plain_len(bytes: &[u8]) -> usize
     bytes.len()
 }
 
-/// How often a comma stands before a quote, so room for so many fields is seldom too much.
+// How often a comma stands before a quote, so room for so many fields is seldom too much.
 fn further_fields(bytes: &[u8]) -> usize
     ensures { result ≤ length bytes.now }
 {
@@ -57,7 +57,7 @@ fn further_fields(bytes: &[u8]) -> usize
     count
 }
 
-/// The number that the bytes begin with, if it is small. It is tried, and not relied on.
+// The number that the bytes begin with, if it is small. It is tried, and not relied on.
 fn number_guess(bytes: &[u8]) -> i64 {
     let (negative, digits) = match bytes {
         [b'-', digits @ ..] => (true, digits),
@@ -80,7 +80,7 @@ fn number_guess(bytes: &[u8]) -> i64 {
 }
 
 impl<'a> Cursor<'a> {
-    /// Takes these bytes, if the text goes on with them.
+    // Takes these bytes, if the text goes on with them.
     fn take(&mut self, front: &[u8]) -> bool
         ensures { MatchBool result (self.old ≡ front.now ++ self.new) (self.new ≡ self.old) }
     {
@@ -155,7 +155,7 @@ impl<'a> Cursor<'a> {
         Ok(Some(Field { name, scalar }))
     }
 
-    /// Takes fields with commas between them, one at least.
+    // Takes fields with commas between them, one at least.
     fn take_fields(&mut self, alloc: Global) -> Result<Option<Vec<Field>>, Memory>
         ensures { IfOk result (λ found. IfSome found (λ fields.
             (self.old ≡ join_by field_text (codes ",") fields.items ++ self.new)
@@ -176,7 +176,7 @@ impl<'a> Cursor<'a> {
         Ok(Some(fields))
     }
 
-    /// The fields of all that is left, unless that is another text than the value prints.
+    // The fields of all that is left, unless that is another text than the value prints.
     fn take_value(&mut self, alloc: Global) -> Result<Option<Vec<Field>>, Memory>
         ensures { IfOk result (λ found. IfSome found (λ fields.
             (self.old ≡ value_text fields.items) × AllByRecursion IsField fields.items)) }

@@ -10,7 +10,7 @@ ghost use Rattle.serde_json.specs.Events.{members_len};
 ghost use Rattle.serde_json.specs.View.{view, members_view};
 
 use crate::plain::fields_by_text;
-use crate::{Field, Scalar, Text, Value, ValueFault};
+use crate::{Field, ItemList, Scalar, Text, Value, ValueFault};
 use serde_json::Map;
 use std::alloc::Global;
 
@@ -46,7 +46,7 @@ fn fields_of(
     ensures readable { IfOk result (λ fields. AllByRecursion IsField fields.items) }
     ensures ascending { IfOk result (λ fields. HasAscendingNames fields.items) }
 {
-    let mut fields = Vec::with_capacity(alloc, members.len())?;
+    let mut fields = ItemList::with_room(alloc, members.len())?;
     let mut place = 0;
     for (name, json) in members {
         let scalar = scalar_at(place, json)?;
@@ -56,7 +56,7 @@ fn fields_of(
         })?;
         place += 1;
     }
-    Ok(fields)
+    Ok(fields.into_vec())
 }
 
 fn fields_of_json(alloc: Global, json: serde_json::Value) -> Result<Vec<Field>, ValueFault>
@@ -67,12 +67,8 @@ fn fields_of_json(alloc: Global, json: serde_json::Value) -> Result<Vec<Field>, 
     ensures ascending { IfOk result (λ fields. HasAscendingNames fields.items) }
 {
     match json {
-        serde_json::Value::Object(members) => Ok(fields_of(alloc, members)?),
-        serde_json::Value::Null => Err(ValueFault::NotObject),
-        serde_json::Value::Bool(_) => Err(ValueFault::NotObject),
-        serde_json::Value::Number(_) => Err(ValueFault::NotObject),
-        serde_json::Value::String(_) => Err(ValueFault::NotObject),
-        serde_json::Value::Array(_) => Err(ValueFault::NotObject),
+        serde_json::Value::Object(members) => fields_of(alloc, members),
+        _ => Err(ValueFault::NotObject),
     }
 }
 
@@ -93,7 +89,7 @@ fn fields_by_json(alloc: Global, bytes: &[u8]) -> Result<Vec<Field>, ValueFault>
     }
 }
 
-/// Most texts are what their value prints, and need no JSON reader.
+// Most texts are what their value prints, and need no JSON reader.
 fn fields_of_bytes(alloc: Global, bytes: &[u8]) -> Result<Vec<Field>, ValueFault>
     requires { length bytes.now ≤ 1024 }
     ensures value { MatchResult result (λ fields. read_value bytes.now ≡ Ok fields.items)
@@ -103,7 +99,7 @@ fn fields_of_bytes(alloc: Global, bytes: &[u8]) -> Result<Vec<Field>, ValueFault
 {
     match fields_by_text(alloc, bytes)? {
         Some(fields) => Ok(fields),
-        None => Ok(fields_by_json(alloc, bytes)?),
+        None => fields_by_json(alloc, bytes),
     }
 }
 

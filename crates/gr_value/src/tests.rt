@@ -1,6 +1,6 @@
 use crate::{Copied, Key, KeyFault, KeyList, Scalar, Value, ValueFault};
 
-/// What the value of a text prints, or why the text is none.
+// What the value of a text prints, or why the text is none.
 fn printed(rt: &HostRuntime, text: &[u8]) -> Result<Vec<u8>, ValueFault> {
     let value = Value::read(rt.alloc(), text)?;
     let mut out = Vec::new(rt.alloc());
@@ -83,7 +83,7 @@ fn values_are_refused_for_their_first_fault(rt: HostRuntime) {
     }
 }
 
-/// So many opening brackets and as many closing ones.
+// So many opening brackets and as many closing ones.
 fn brackets(rt: &HostRuntime, depth: usize) -> Result<Vec<u8>, ValueFault> {
     let mut text = vec![in rt.alloc(); b'['; depth]?;
     text.extend_from_slice(&vec![in rt.alloc(); b']'; depth]?)?;
@@ -128,7 +128,10 @@ fn keys_are_read(rt: HostRuntime) {
     assert!(rt; Key::read(rt.alloc(), &most).is_ok());
     assert_eq!(rt; Key::read(rt.alloc(), &more).err(), Some(KeyFault::TooLong));
     let blanks = vec![in rt.alloc(); b' '; 256].expect(&rt, "there is memory");
-    assert_eq!(rt; Key::read(rt.alloc(), &blanks).err(), Some(KeyFault::TooLong));
+    assert_eq!(rt;
+        Key::read(rt.alloc(), &blanks).err(),
+        Some(KeyFault::TooLong)
+    );
     assert_eq!(rt; Key::read(rt.alloc(), b"").err(), Some(KeyFault::Empty));
     assert_eq!(rt;
         Key::read(rt.alloc(), b"a b").err(),

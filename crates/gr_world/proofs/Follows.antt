@@ -1,5 +1,6 @@
 -- A shard that follows a script's lines, one after another.
-use Rattle.std.proofs.Common.{◌≡◌, ◌∙◌, ap, sym, subst, refl, ℕ, ◌+◌, ◌-◌, ◌%◌, ◌<◌, List, [], ◌∷◌, ◌++◌, map, filter, take, get_or, reverse, length, true, ◌==◌, slice_index, Some, arith}
+use Rattle.std.proofs.Common.{◌≡◌, ◌∙◌, ap, sym, subst, refl, ℕ, ◌+◌, ◌-◌, ◌%◌, ◌<◌, List, [], ◌∷◌, ◌++◌, map, filter, take, get_or}
+use Rattle.std.proofs.Common.{reverse, length, true, ◌==◌, slice_index, Some, arith}
 use Rattle.std.specs.List.{AllByRecursion, filter_map, All}
 use Rattle.std.proofs.lemmas.List.{map-append, take_more, reverse-reverse}
 use Rattle.std.proofs.lemmas.List.Elements.{filter-append, filter_map-append, All-from_recursion}
@@ -36,7 +37,8 @@ all-append P (x ∷ xs) ys all more = (all.0, all-append P xs ys all.1 more)
 
 all-reverse : {X : Type 0} (P : X → Type 0) (xs : List X) → AllByRecursion P xs → AllByRecursion P (reverse xs)
 all-reverse P [] all = tt
-all-reverse P (x ∷ xs) all = subst (AllByRecursion P) (sym (reverse_onto xs x [])) (all-append P (reverse xs) (x ∷ []) (all-reverse P xs all.1) (all.0, tt))
+all-reverse P (x ∷ xs) all = subst (AllByRecursion P) (sym (reverse_onto xs x []))
+    (all-append P (reverse xs) (x ∷ []) (all-reverse P xs all.1) (all.0, tt))
 
 stated_all : (h : Heading) (past : List Line) → AllStand h past → AllByRecursion (λ line. IsStated (client_in line) h) past
 stated_all h [] all = tt
@@ -46,34 +48,42 @@ stated_all h (Step client seq act ∷ past) all = (all.0.0, stated_all h past al
 stated : (h : Heading) (lines : List Line) → AllStand h (reverse lines) → All (λ line. IsStated (client_in line) h) lines
 stated h lines all =
     All-from_recursion (λ line. IsStated (client_in line) h) lines
-    (subst (AllByRecursion (λ line. IsStated (client_in line) h)) (reverse-reverse lines) (all-reverse _ (reverse lines) (stated_all h (reverse lines) all)))
+    (subst (AllByRecursion (λ line. IsStated (client_in line) h)) (reverse-reverse lines)
+    (all-reverse _ (reverse lines) (stated_all h (reverse lines) all)))
 
 only_shard : (hash : ℕ) → (hash % 1 == 0) ≡ true
 only_shard hash = grind (arith, nat_tests)
 
-asked_here : (script : Script) → script.clients ≡ 1 ∷ [] → script.shards ≡ 1 → (line : Line) → client_in line ≡ 1 → asked_at script 1 0 line ≡ Some (asking_in line)
+asked_here : (script : Script) → script.clients ≡ 1 ∷ [] → script.shards ≡ 1 → (line : Line) → client_in line ≡ 1
+    → asked_at script 1 0 line ≡ Some (asking_in line)
 asked_here script clients shards (Step client seq (act.Call ask)) one =
     let member : (member_of script client == 1) ≡ true =
     ap (λ n. slice_index script.clients (n - 1) == 1) one ∙ ap (λ cs. slice_index cs (1 - 1) == 1) clients in
-    let shard : (shard_of (key_of ask) script.shards == 0) ≡ true = ap (λ n. shard_of (key_of ask) n == 0) shards ∙ only_shard (key_hash (key_of ask)) in
+    let shard : (shard_of (key_of ask) script.shards == 0) ≡ true = ap (λ n. shard_of (key_of ask) n == 0) shards
+    ∙ only_shard (key_hash (key_of ask)) in
     rw (member, shard) refl
 
 of_client : (deed : Deed) (line : Line) → asking_of deed ≡ asking_in line → client_in line ≡ 1 → is_of_client 1 deed ≡ true
-of_client (Call client seq ask reply made to) (Step own number (act.Call wants)) same one = ap (λ n. n == 1) (ap (λ asking. asking.client) same ∙ one)
+of_client (Call client seq ask reply made to) (Step own number (act.Call wants)) same one =
+    ap (λ n. n == 1) (ap (λ asking. asking.client) same ∙ one)
 
 -- a shard that follows lines follows one more
-pub follows-more : (script : Script) → IsScript (heading script.region script.members script.founders script.shards script.clients) script.lines
+pub follows-more : (script : Script)
+    → IsScript (heading script.region script.members script.founders script.shards script.clients) script.lines
     → (old new : Account) (answers : List Answer) (i : ℕ) (line : Line) (answer : Answer)
-    → Follows script (take i script.lines) old answers → i < length script.lines → line ≡ get_or script.lines i line → IsPlayed old new line answer
+    → Follows script (take i script.lines) old answers → i < length script.lines → line ≡ get_or script.lines i line
+    → IsPlayed old new line answer
     → Follows script (take (i + 1) script.lines) new (answers ++ answer ∷ [])
 follows-more script ruled old new answers i line answer follows within is (deed, adds) =
     let all = script.lines in
     let h = heading script.region script.members script.founders script.shards script.clients in
     let clients : script.clients ≡ 1 ∷ [] = ruled.heading.one_client in
-    let number : IsStated (client_in line) h = subst (λ l. IsStated (client_in l) h) (sym is) (stated h all ruled.lines_stand i line within) in
+    let number : IsStated (client_in line) h =
+    subst (λ l. IsStated (client_in l) h) (sym is) (stated h all ruled.lines_stand i line within) in
     let one : client_in line ≡ 1 = omega (arith, number.0, number.1, ap length clients) in
     let longer : take (i + 1) all ≡ take i all ++ line ∷ [] = take_more all i line within ∙ ap (λ x. take i all ++ x ∷ []) (sym is) in
-    let one_asked : filter_map (asked_at script 1 0) (line ∷ []) ≡ asking_in line ∷ [] = rw (asked_here script clients ruled.heading.one_shard line one) refl in
+    let one_asked : filter_map (asked_at script 1 0) (line ∷ []) ≡ asking_in line ∷ [] =
+    rw (asked_here script clients ruled.heading.one_shard line one) refl in
     let kept : filter (is_of_client 1) (deed ∷ []) ≡ deed ∷ [] = rw (of_client deed line adds.asked one) refl in
     record {
       id = ap (λ a. a.id) adds.added ∙ follows.id;
@@ -86,17 +96,21 @@ follows-more script ruled old new answers i line answer follows within is (deed,
       told = ap (λ told. told ++ answer ∷ []) follows.told
           ∙ ap (λ a. map answer_of (filter (is_of_client 1) old.deeds) ++ a ∷ []) (sym adds.told)
           ∙ sym (ap (λ a. map answer_of (filter (is_of_client 1) a.deeds)) adds.added
-          ∙ ap (map answer_of) (filter-append (is_of_client 1) old.deeds (deed ∷ []) ∙ ap (λ rest. filter (is_of_client 1) old.deeds ++ rest) kept)
+          ∙ ap (map answer_of) (filter-append (is_of_client 1) old.deeds (deed ∷ [])
+          ∙ ap (λ rest. filter (is_of_client 1) old.deeds ++ rest) kept)
           ∙ map-append answer_of (filter (is_of_client 1) old.deeds) (deed ∷ []));
     }
 
 -- the same over a list that is the script's lines
-pub follows-listed : (script : Script) → IsScript (heading script.region script.members script.founders script.shards script.clients) script.lines
+pub follows-listed : (script : Script)
+    → IsScript (heading script.region script.members script.founders script.shards script.clients) script.lines
     → (lines : List Line) → lines ≡ script.lines
     → (old new : Account) (answers told : List Answer) (i : ℕ) (line : Line) (answer : Answer)
-    → Follows script (take i lines) old answers → i < length lines → line ≡ get_or lines i line → IsPlayed old new line answer → told ≡ answers ++ answer ∷ []
+    → Follows script (take i lines) old answers → i < length lines → line ≡ get_or lines i line → IsPlayed old new line answer
+    → told ≡ answers ++ answer ∷ []
     → Follows script (take (i + 1) lines) new told
 follows-listed script ruled lines same old new answers told i line answer follows within is played pushed =
-    let Step : List Line → Type 0 = λ xs. Follows script (take i xs) old answers → i < length xs → line ≡ get_or xs i line → Follows script (take (i + 1) xs) new (answers ++ answer ∷ []) in
+    let Step : List Line → Type 0 = λ xs. Follows script (take i xs) old answers → i < length xs → line ≡ get_or xs i line
+    → Follows script (take (i + 1) xs) new (answers ++ answer ∷ []) in
     subst (Follows script (take (i + 1) lines) new) (sym pushed)
     (subst Step (sym same) (λ f w g. follows-more script ruled old new answers i line answer f w g played) follows within is)

@@ -1,5 +1,6 @@
 -- A script has one record: each deed is told from the oldest on, and all else from the deeds.
-use Rattle.std.proofs.Common.{◌≡◌, ◌∙◌, ap, sym, refl, ℕ, ◌+◌, ◌==◌, ◌≤◌, Bool, true, false, cond, List, [], ◌∷◌, ◌++◌, map, filter, reverse, length, flat_map, arith}
+use Rattle.std.proofs.Common.{◌≡◌, ◌∙◌, ap, sym, refl, ℕ, ◌+◌, ◌==◌, ◌≤◌, Bool, true, false, cond, List, [], ◌∷◌, ◌++◌, map, filter}
+use Rattle.std.proofs.Common.{reverse, length, flat_map, arith}
 use Rattle.std.specs.Prelude.{Result, IfOk}
 use Rattle.std.proofs.lemmas.Result.{IfOk-weaker}
 use Rattle.std.proofs.lemmas.List.{map-append, reverse-reverse}
@@ -19,7 +20,8 @@ use Rattle.gr_history.specs.Lawful.{IsLawful, IsLawfulDeed}
 use Rattle.gr_history.specs.Regions.{region_of}
 use Rattle.gr_script.specs.declared.script.Script.{Script}
 use Rattle.gr_world.specs.Calls.{Asking, identity, asking_of, answer_of}
-use Rattle.gr_world.specs.Replayed.{IsShardLeft, AreShardsLeft, AreMembersLeft, IsClientLeft, AreClientsLeft, IsReplayed, IsOnlyReplayed, deeds_at, trimmed_shard, trimmed_member, trimmed}
+use Rattle.gr_world.specs.Replayed.{IsShardRecord, AreShardRecords, AreMemberRecords, IsClientRecord, AreClientRecords, IsReplayed}
+use Rattle.gr_world.specs.Replayed.{IsOnlyReplayed, deeds_at, trimmed_shard, trimmed_member, trimmed}
 
 map-reverse : {X Y : Type 0} (f : X → Y) (xs : List X) → map f (reverse xs) ≡ reverse (map f xs)
 map-reverse f [] = refl
@@ -34,7 +36,8 @@ deed_with asking done = Call asking.client asking.seq asking.ask done.reply done
 deed_is : (id : Identity) (opening : ℕ) (deed : Deed) (past : List Deed) → IsLawfulDeed id opening deed past
     → deed ≡ deed_with (asking_of deed) (call_gives id opening past (asking_of deed).ask)
 unfolding deed_with
-deed_is id opening (Call client seq ask reply made to) past lawful = ap (deed_with (record { client = client; seq = seq; ask = ask })) lawful
+deed_is id opening (Call client seq ask reply made to) past lawful =
+    ap (deed_with (record { client = client; seq = seq; ask = ask })) lawful
 
 -- lawful histories that the same was asked of, the last deed first
 one_past : (id : Identity) (opening : ℕ) (one other : List Deed) → IsLawful id opening one → IsLawful id opening other
@@ -52,7 +55,8 @@ one_past id opening (deed ∷ past) (last ∷ others) lawful also same =
     ap (λ d. d ∷ past) first ∙ ap (λ ds. last ∷ ds) before
 
 -- the same, the oldest deed first
-one_history : (id : Identity) (opening : ℕ) (one other : List Deed) → IsLawful id opening (reverse one) → IsLawful id opening (reverse other)
+one_history : (id : Identity) (opening : ℕ) (one other : List Deed) → IsLawful id opening (reverse one)
+    → IsLawful id opening (reverse other)
     → map asking_of one ≡ map asking_of other → one ≡ other
 one_history id opening one other lawful also same =
     let turned : reverse one ≡ reverse other =
@@ -60,22 +64,25 @@ one_history id opening one other lawful also same =
     (map-reverse asking_of one ∙ ap (λ askings. reverse askings) same ∙ sym (map-reverse asking_of other)) in
     sym (reverse-reverse one) ∙ ap (λ deeds. reverse deeds) turned ∙ reverse-reverse other
 
-one_shard : (script : Script) (member shard : ℕ) (one other : ShardRecord) → IsShardLeft script member shard one → IsShardLeft script member shard other
+one_shard : (script : Script) (member shard : ℕ) (one other : ShardRecord) → IsShardRecord script member shard one
+    → IsShardRecord script member shard other
     → trimmed_shard one ≡ trimmed_shard other
 one_shard script member shard one other left also =
     let deeds : one.history.deeds ≡ other.history.deeds =
-    one_history (identity script member shard) 0 one.history.deeds other.history.deeds left.lawful also.lawful (left.asked ∙ sym also.asked) in
+    one_history (identity script member shard) 0 one.history.deeds other.history.deeds left.lawful also.lawful (left.asked
+    ∙ sym also.asked) in
     let region : one.region ≡ other.region = left.region ∙ ap (λ ds. region_of 0 (reverse ds)) deeds ∙ sym also.region in
     ap (λ ds. trimmed_shard (record one { history = record { deeds = ds; spare = 0 } })) deeds
     ∙ ap (λ r. trimmed_shard (record { history = other.history; region = r })) region
 
 -- No list of shards goes past the last.
-shards_within : (script : Script) (member shard : ℕ) (lefts : List ShardRecord) → AreShardsLeft script member shard lefts → shard ≤ script.shards
+shards_within : (script : Script) (member shard : ℕ) (lefts : List ShardRecord) → AreShardRecords script member shard lefts
+    → shard ≤ script.shards
 shards_within script member shard [] all = omega (arith, all)
 shards_within script member shard (left ∷ rest) all = omega (arith, shards_within script member (shard + 1) rest all.1)
 
-one_shards : (script : Script) (member shard : ℕ) (one other : List ShardRecord) → AreShardsLeft script member shard one
-    → AreShardsLeft script member shard other → map trimmed_shard one ≡ map trimmed_shard other
+one_shards : (script : Script) (member shard : ℕ) (one other : List ShardRecord) → AreShardRecords script member shard one
+    → AreShardRecords script member shard other → map trimmed_shard one ≡ map trimmed_shard other
 one_shards script member shard [] [] all also = refl
 one_shards script member shard [] (left ∷ rest) all also = absurd (omega (arith, all, shards_within script member (shard + 1) rest also.1))
 one_shards script member shard (left ∷ rest) [] all also = absurd (omega (arith, also, shards_within script member (shard + 1) rest all.1))
@@ -83,7 +90,8 @@ one_shards script member shard (left ∷ rest) (first ∷ others) all also =
     ap (λ s. s ∷ map trimmed_shard rest) (one_shard script member shard left first all.0 also.0)
     ∙ ap (λ ss. trimmed_shard first ∷ ss) (one_shards script member (shard + 1) rest others all.1 also.1)
 
-members_within : (script : Script) (number : ℕ) (lefts : List MemberRecord) → AreMembersLeft script number lefts → number ≤ script.members + 1
+members_within : (script : Script) (number : ℕ) (lefts : List MemberRecord) → AreMemberRecords script number lefts
+    → number ≤ script.members + 1
 members_within script number [] all = omega (arith, all)
 members_within script number (left ∷ rest) all = omega (arith, members_within script (number + 1) rest all.2)
 
@@ -93,8 +101,8 @@ one_member one other number shards =
     let member : ℕ → List ShardRecord → MemberRecord = λ n ss. record { member = n; shards = ss } in
     ap (λ n. member n (map trimmed_shard one.shards)) number ∙ ap (member other.member) shards
 
-one_members : (script : Script) (number : ℕ) (one other : List MemberRecord) → AreMembersLeft script number one
-    → AreMembersLeft script number other → map trimmed_member one ≡ map trimmed_member other
+one_members : (script : Script) (number : ℕ) (one other : List MemberRecord) → AreMemberRecords script number one
+    → AreMemberRecords script number other → map trimmed_member one ≡ map trimmed_member other
 one_members script number [] [] all also = refl
 one_members script number [] (left ∷ rest) all also = absurd (omega (arith, all, members_within script (number + 1) rest also.2))
 one_members script number (left ∷ rest) [] all also = absurd (omega (arith, also, members_within script (number + 1) rest all.2))
@@ -104,7 +112,8 @@ one_members script number (left ∷ rest) (first ∷ others) all also =
     ∙ ap (λ ms. trimmed_member first ∷ ms) (one_members script (number + 1) rest others all.2 also.2)
 
 -- The deeds don't depend on the room to spare.
-deeds_kept : (shards : List ShardRecord) → flat_map (λ shard. shard.history.deeds) (map trimmed_shard shards) ≡ flat_map (λ shard. shard.history.deeds) shards
+deeds_kept : (shards : List ShardRecord)
+    → flat_map (λ shard. shard.history.deeds) (map trimmed_shard shards) ≡ flat_map (λ shard. shard.history.deeds) shards
 deeds_kept [] = refl
 deeds_kept (left ∷ rest) = ap (λ ds. left.history.deeds ++ ds) (deeds_kept rest)
 
@@ -113,7 +122,8 @@ deeds_of left = flat_map (λ shard. shard.history.deeds) left.shards
 
 deeds_next : (here : Bool) (left : MemberRecord) (rest others : List MemberRecord) → flat_map deeds_of rest ≡ flat_map deeds_of others
     → flat_map deeds_of (cond here (trimmed_member left ∷ rest) rest) ≡ flat_map deeds_of (cond here (left ∷ others) others)
-deeds_next true left rest others same = ap (λ ds. ds ++ flat_map deeds_of rest) (deeds_kept left.shards) ∙ ap (λ ds. deeds_of left ++ ds) same
+deeds_next true left rest others same = ap (λ ds. ds ++ flat_map deeds_of rest) (deeds_kept left.shards)
+    ∙ ap (λ ds. deeds_of left ++ ds) same
 deeds_next false left rest others same = same
 
 deeds_at_kept : (member : ℕ) (members : List MemberRecord) → deeds_at member (map trimmed_member members) ≡ deeds_at member members
@@ -125,26 +135,30 @@ deeds_at_kept member (left ∷ rest) =
 -- What a client was told is told from the deeds at its member.
 one_client : (script : Script) (members others : List MemberRecord) (number : ℕ) (one other : ClientRecord)
     → ((member : ℕ) → deeds_at member members ≡ deeds_at member others)
-    → IsClientLeft script members number one → IsClientLeft script others number other → one ≡ other
+    → IsClientRecord script members number one → IsClientRecord script others number other → one ≡ other
 one_client script members others number one other deeds left also =
     let member : one.member ≡ other.member = left.member ∙ sym also.member in
     let answers : one.answers ≡ other.answers =
-    left.answers ∙ ap (λ ds. map answer_of (filter (is_of_client number) ds)) (deeds one.member ∙ ap (λ m. deeds_at m others) member) ∙ sym also.answers in
+    left.answers ∙ ap (λ ds. map answer_of (filter (is_of_client number) ds)) (deeds one.member ∙ ap (λ m. deeds_at m others) member)
+    ∙ sym also.answers in
     let client : one.client ≡ other.client = left.client ∙ sym also.client in
     let told : ℕ → ℕ → List Answer → ClientRecord = λ c m answers. record { client = c; member = m; answers = answers } in
-    ap (λ c. told c one.member one.answers) client ∙ ap (λ m. told other.client m one.answers) member ∙ ap (told other.client other.member) answers
+    ap (λ c. told c one.member one.answers) client ∙ ap (λ m. told other.client m one.answers) member
+    ∙ ap (told other.client other.member) answers
 
 clients_within : (script : Script) (members : List MemberRecord) (number : ℕ) (lefts : List ClientRecord)
-    → AreClientsLeft script members number lefts → number ≤ length script.clients + 1
+    → AreClientRecords script members number lefts → number ≤ length script.clients + 1
 clients_within script members number [] all = omega (arith, all)
 clients_within script members number (left ∷ rest) all = omega (arith, clients_within script members (number + 1) rest all.1)
 
 one_clients : (script : Script) (members others : List MemberRecord) (number : ℕ) (one other : List ClientRecord)
     → ((member : ℕ) → deeds_at member members ≡ deeds_at member others)
-    → AreClientsLeft script members number one → AreClientsLeft script others number other → one ≡ other
+    → AreClientRecords script members number one → AreClientRecords script others number other → one ≡ other
 one_clients script members others number [] [] deeds all also = refl
-one_clients script members others number [] (left ∷ rest) deeds all also = absurd (omega (arith, all, clients_within script others (number + 1) rest also.1))
-one_clients script members others number (left ∷ rest) [] deeds all also = absurd (omega (arith, also, clients_within script members (number + 1) rest all.1))
+one_clients script members others number [] (left ∷ rest) deeds all also =
+    absurd (omega (arith, all, clients_within script others (number + 1) rest also.1))
+one_clients script members others number (left ∷ rest) [] deeds all also =
+    absurd (omega (arith, also, clients_within script members (number + 1) rest all.1))
 one_clients script members others number (left ∷ rest) (first ∷ last) deeds all also =
     ap (λ c. c ∷ rest) (one_client script members others number left first deeds all.0 also.0)
     ∙ ap (λ cs. first ∷ cs) (one_clients script members others (number + 1) rest last deeds all.1 also.1)
@@ -156,10 +170,13 @@ one_record script one other left also =
     one_members script 1 one.members other.members left.members also.members in
     let deeds : (member : ℕ) → deeds_at member one.members ≡ deeds_at member other.members =
     λ member. sym (deeds_at_kept member one.members) ∙ ap (deeds_at member) members ∙ deeds_at_kept member other.members in
-    let clients : one.clients ≡ other.clients = one_clients script one.members other.members 1 one.clients other.clients deeds left.clients also.clients in
+    let clients : one.clients ≡ other.clients =
+    one_clients script one.members other.members 1 one.clients other.clients deeds left.clients also.clients in
     let kept : List MemberRecord → List ClientRecord → Record = λ ms cs. record { members = ms; clients = cs } in
     ap (λ ms. kept ms one.clients) members ∙ ap (kept (map trimmed_member other.members)) clients
 
 -- a record that is the script's is the only one
-pub only_record : {E : Type 0} (script : Script) (result : Result Record E) → IfOk result (IsReplayed script) → IfOk result (IsOnlyReplayed script)
-only_record script result = IfOk-weaker result (IsReplayed script) (IsOnlyReplayed script) (λ left replayed other also. one_record script other left also replayed)
+pub only_record : {E : Type 0} (script : Script) (result : Result Record E) → IfOk result (IsReplayed script)
+    → IfOk result (IsOnlyReplayed script)
+only_record script result = IfOk-weaker result (IsReplayed script) (IsOnlyReplayed script)
+    (λ left replayed other also. one_record script other left also replayed)

@@ -21,7 +21,14 @@ pub record Asking : Type 0 where
   pub ask : Ask
 
 abbrev pub identity : Script → ℕ → ℕ → Identity
-identity script member shard = record { member = member; members = script.members; founders = script.founders; shard = shard; shards = script.shards }
+identity script member shard = record {
+  member = member;
+  members = script.members;
+  founders = script.founders;
+  shard = shard;
+  shards =
+      script.shards;
+}
 
 -- the client's member
 abbrev pub member_of : Script → ℕ → ℕ

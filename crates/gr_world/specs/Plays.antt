@@ -23,6 +23,6 @@ abbrev pub IsPlayed : Account → Account → Line → Answer → Type 0
 IsPlayed old new line answer = (deed : Deed) × Adds old new line answer deed
 
 -- the record of one member with one shard and one client
-pub record IsSingle (shard : ShardRecord) (answers : List Answer) (left : Record) : Type 0 where
-  pub members : left.members ≡ record { member = 1; shards = shard ∷ [] } ∷ []
-  pub clients : left.clients ≡ record { client = 1; member = 1; answers = answers } ∷ []
+pub record IsSingle (shard : ShardRecord) (answers : List Answer) (record_of : Record) : Type 0 where
+  pub members : record_of.members ≡ record { member = 1; shards = shard ∷ [] } ∷ []
+  pub clients : record_of.clients ≡ record { client = 1; member = 1; answers = answers } ∷ []

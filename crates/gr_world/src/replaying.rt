@@ -33,11 +33,11 @@ pub fn replay(alloc: Global, script: &Script) -> Result<Record, Memory>
 }
 
 // The record of one member with one shard and one client.
-fn record_of(alloc: Global, left: ShardRecord, answers: AnswerList) -> Result<Record, Memory>
-    ensures { IfOk result (IsSingle left answers) }
+fn record_of(alloc: Global, shard: ShardRecord, answers: AnswerList) -> Result<Record, Memory>
+    ensures { IfOk result (IsSingle shard answers) }
 {
     let mut shards = ShardRecordList::new(alloc)?;
-    shards.push(left)?;
+    shards.push(shard)?;
     let mut members = MemberRecordList::new(alloc)?;
     members.push(MemberRecord { member: 1, shards })?;
     let mut clients = ClientRecordList::new(alloc)?;

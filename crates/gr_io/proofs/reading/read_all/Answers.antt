@@ -24,6 +24,11 @@ returns-then-count-eq0-clause-whole g c =
     let read = c.in_ok-count.ensures in
     whole_read _ _ _ _ _ _ c.loop-bytes.invariant.taken read.taken (read.end c.if-count-eq0.true) read.bytes
 
+pub returns-then-count-eq0-clause-taken : goal.returns-then-count-eq0-clause-taken
+returns-then-count-eq0-clause-taken g c =
+    let read = c.in_ok-count.ensures in
+    rw read.bytes (Consumes-trans _ _ _ _ _ c.loop-bytes.invariant.taken read.taken)
+
 pub returns-then-len-limit-clause-cause : goal.returns-then-len-limit-clause-cause
 returns-then-len-limit-clause-cause g c =
     let read = c.in_ok-count.ensures in

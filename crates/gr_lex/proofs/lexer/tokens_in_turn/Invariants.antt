@@ -1,5 +1,5 @@
 use Rattle.std.proofs.Common.{◌≡◌, ◌≤◌, length, ◌-◌, drop}
-use Rattle.gr_lex.specs.Reading.{tokens_from, tokens_of}
+use Rattle.gr_lex.specs.Reader.Reading.{tokens_from, tokens_of}
 use Rattle.gr_lex.proofs.InTurn.{behind}
 use Rattle.gr_lex.proofs.lexer.tokens_in_turn.Given as goal
 

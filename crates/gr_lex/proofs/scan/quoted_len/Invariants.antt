@@ -1,5 +1,5 @@
 use Rattle.std.proofs.Common.{◌≡◌, ◌≤◌, length, ◌-◌, drop}
-use Rattle.gr_lex.specs.Reading.{quoted_len}
+use Rattle.gr_lex.specs.Reader.Reading.{quoted_len}
 use Rattle.gr_lex.proofs.Scans.{further}
 use Rattle.gr_lex.proofs.scan.quoted_len.Given as goal
 

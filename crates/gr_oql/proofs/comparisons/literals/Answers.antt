@@ -2,7 +2,7 @@ use Rattle.std.proofs.Common.{sym, arith}
 use Rattle.std.proofs.lemmas.Result.{err_from_is_err_and}
 use Rattle.gr_lex.specs.declared.token.Symbol.TheVariants as symbols
 use Rattle.gr_oql.specs.Terminals.{is_symbol}
-use Rattle.gr_oql.specs.Reading.{literal_at}
+use Rattle.gr_oql.specs.Reader.Reading.{literal_at}
 use Rattle.gr_oql.proofs.Rows.{stepped, finished, stops_within}
 use Rattle.gr_oql.proofs.comparisons.literals.Goals as goal
 

@@ -1,7 +1,7 @@
 use Rattle.std.proofs.Common.{length}
 use Rattle.gr_lex.specs.declared.token.Symbol.TheVariants as symbols
 use Rattle.gr_oql.specs.Terminals.{is_symbol}
-use Rattle.gr_oql.specs.Reading.{literal_at}
+use Rattle.gr_oql.specs.Reader.Reading.{literal_at}
 use Rattle.gr_oql.proofs.Rows.{SoFar}
 use Rattle.gr_oql.proofs.comparisons.literals.Given as goal
 

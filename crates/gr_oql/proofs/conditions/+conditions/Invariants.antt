@@ -1,8 +1,9 @@
-use Rattle.std.proofs.Common.{◌*◌, ◌+◌, length, map, option_map}
+use Rattle.std.proofs.Common.{◌*◌, ◌+◌, length, map}
+use Rattle.gr_oql.specs.Reader.Gives.{alias_of}
 use Rattle.gr_oql.specs.declared.keyword.Keyword.TheVariants as word
 use Rattle.gr_oql.specs.Terminals.{is_keyword}
 use Rattle.gr_oql.specs.View.{tree_of}
-use Rattle.gr_oql.specs.Reading.{all_at, part_at}
+use Rattle.gr_oql.specs.Reader.Reading.{all_at, part_at}
 use Rattle.gr_oql.proofs.Rows.{SoFar}
 use Rattle.gr_oql.proofs.conditions.+conditions.Given as goal
 
@@ -19,13 +20,13 @@ abbrev pub decreases-all : goal.decreases-all
 decreases-all l = 4 * l.depth + 1
 
 abbrev pub invariant-all-parts : goal.invariant-all-parts
-invariant-all-parts l = SoFar (is_keyword word.And) (part_at (option_map (λ a. a.now) l.alias) l.depth) l.fn.cursor (map tree_of l.parts.items) l.cursor
+invariant-all-parts l = SoFar (is_keyword word.And) (part_at (alias_of l.alias) l.depth) l.fn.cursor (map tree_of l.parts.items) l.cursor
 
 abbrev pub decreases-all-parts : goal.decreases-all-parts
 decreases-all-parts l = length l.cursor
 
 abbrev pub invariant-any-parts : goal.invariant-any-parts
-invariant-any-parts l = SoFar (is_keyword word.Or) (all_at (part_at (option_map (λ a. a.now) l.alias) l.depth)) l.fn.cursor (map tree_of l.parts.items) l.cursor
+invariant-any-parts l = SoFar (is_keyword word.Or) (all_at (part_at (alias_of l.alias) l.depth)) l.fn.cursor (map tree_of l.parts.items) l.cursor
 
 abbrev pub decreases-any-parts : goal.decreases-any-parts
 decreases-any-parts l = length l.cursor

@@ -1,5 +1,5 @@
 use Rattle.std.proofs.Common.{◌≡◌, take}
-use Rattle.gr_oql.specs.Lexemes.{terminals}
+use Rattle.gr_oql.specs.Reader.Lexemes.{terminals}
 use Rattle.gr_oql.specs.Terminals.{terminals_of}
 use Rattle.gr_oql.proofs.lexeme.lexemes.Given as goal
 

@@ -3,7 +3,7 @@ use Rattle.std.proofs.Common.{◌≤◌, length}
 use denote.Text.{Utf8}
 use denote.Shadow.{shadow}
 use Rattle.std.specs.Str.{chars}
-use Rattle.gr_oql.specs.Walk.{Follows}
+use Rattle.gr_oql.specs.Reader.Walk.{Follows}
 use Rattle.gr_oql.proofs.like.follow.Given as goal
 
 abbrev pub invariant-loop-agree : goal.invariant-loop-agree

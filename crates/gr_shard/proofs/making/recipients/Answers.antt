@@ -16,14 +16,16 @@ loop-below-preserved c =
         least = omega arith;
         most = most;
         small = omega arith;
-        bits = λ past. w.to-is ∙ member_bits-set (is_recipient c.args.id past) c.loop-below.below c.loop-below.to c.loop-below.bit (now.bits past) now.bit (sym (w.if-is_recipient.ensures past));
+        bits = λ past. w.to-is ∙ member_bits-set (is_recipient c.args.id past) c.loop-below.below c.loop-below.to c.loop-below.bit
+            (now.bits past) now.bit (sym (w.if-is_recipient.ensures past));
       }
       | else-is_recipient w ↦ record {
         bit = twice;
         least = omega arith;
         most = most;
         small = omega arith;
-        bits = λ past. w.to-is ∙ member_bits-unset (is_recipient c.args.id past) c.loop-below.below c.loop-below.to c.loop-below.bit (now.bits past) now.bit (sym (w.if-is_recipient.ensures past));
+        bits = λ past. w.to-is ∙ member_bits-unset (is_recipient c.args.id past) c.loop-below.below c.loop-below.to c.loop-below.bit
+            (now.bits past) now.bit (sym (w.if-is_recipient.ensures past));
       }
     ]
 

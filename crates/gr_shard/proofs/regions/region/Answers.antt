@@ -21,14 +21,30 @@ loop-key-preserved c =
 pub overflow_sub-tombstones : goal.overflow_sub-tombstones
 overflow_sub-tombstones c =
     let whole : map deref_pair c.loop-key.yielded ≡ c.args.entries.now.entries = search (rules, iter_end) in
-    let rows : c.loop-key.rows ≡ puts_of (changes_in c.args.entries.now.entries) = c.loop-key.invariant ∙ ap (λ entries. puts_of (changes_in entries)) whole in
-    omega (arith, c.len.ensures.len, c.len-2.ensures, ap length rows, length-puts_of (changes_in c.args.entries.now.entries), length-changes_in c.args.entries.now.entries)
+    let rows : c.loop-key.rows ≡ puts_of (changes_in c.args.entries.now.entries) = c.loop-key.invariant
+    ∙ ap (λ entries. puts_of (changes_in entries)) whole in
+    omega (
+      arith,
+      c.len.ensures.len,
+      c.len-2.ensures,
+      ap length rows,
+      length-puts_of (changes_in c.args.entries.now.entries),
+      length-changes_in c.args.entries.now.entries,
+    )
 
 pub returns-clause-region : goal.returns-clause-region
 returns-clause-region c =
     let whole : map deref_pair c.loop-key.yielded ≡ c.args.entries.now.entries = search (rules, iter_end) in
-    let rows : c.loop-key.rows ≡ puts_of (changes_in c.args.entries.now.entries) = c.loop-key.invariant ∙ ap (λ entries. puts_of (changes_in entries)) whole in
+    let rows : c.loop-key.rows ≡ puts_of (changes_in c.args.entries.now.entries) = c.loop-key.invariant
+    ∙ ap (λ entries. puts_of (changes_in entries)) whole in
     let rest : c.len.result - c.len-2.result ≡ removals_of (changes_in c.args.entries.now.entries) =
-    omega (arith, c.len.ensures.len, c.len-2.ensures, ap length rows, length-puts_of (changes_in c.args.entries.now.entries), length-changes_in c.args.entries.now.entries) in
+    omega (
+      arith,
+      c.len.ensures.len,
+      c.len-2.ensures,
+      ap length rows,
+      length-puts_of (changes_in c.args.entries.now.entries),
+      length-changes_in c.args.entries.now.entries,
+    ) in
     let made : List Change → ℕ → Region = λ rows tombstones. record { rows = rows; tombstones = tombstones; floor = c.args.floor } in
     ap (λ r. made r (c.len.result - c.len-2.result)) rows ∙ ap (made (puts_of (changes_in c.args.entries.now.entries))) rest

@@ -19,17 +19,25 @@ returns-in_err-fields_of_json-in-Ok-clause-value c =
 
 pub returns-in_ok-fields_of_json-in-Ok-clause-value : goal.returns-in_ok-fields_of_json-in-Ok-clause-value
 returns-in_ok-fields_of_json-in-Ok-clause-value c =
-    by_json c.args.bytes.now (view c.in-Ok.json) c.requires c.in-Ok.ensures.ok.0 c.in-Ok.ensures.ok.1 ∙ c.in_ok-fields_of_json-in-Ok.ensures.value
+    by_json c.args.bytes.now (view c.in-Ok.json) c.requires c.in-Ok.ensures.ok.0 c.in-Ok.ensures.ok.1
+    ∙ c.in_ok-fields_of_json-in-Ok.ensures.value
 
 pub returns-in_ok-fields_of_json-in-Ok-clause-kept : goal.returns-in_ok-fields_of_json-in-Ok-clause-kept
 returns-in_ok-fields_of_json-in-Ok-clause-kept c = record {
   ascending = c.in_ok-fields_of_json-in-Ok.ensures.ascending;
   readable = c.in_ok-fields_of_json-in-Ok.ensures.readable;
-  short = omega (arith, text_shorter c.args.bytes.now (view c.in-Ok.json) _ c.in-Ok.ensures.ok.1 c.in_ok-fields_of_json-in-Ok.ensures.value, c.requires);
+  short = omega (
+    arith,
+    text_shorter c.args.bytes.now
+        (view c.in-Ok.json) _ c.in-Ok.ensures.ok.1 c.in_ok-fields_of_json-in-Ok.ensures.value,
+    c.requires,
+  );
 }
 
 pub returns-in_ok-fields_of_json-in-Ok-clause-shorter : goal.returns-in_ok-fields_of_json-in-Ok-clause-shorter
-returns-in_ok-fields_of_json-in-Ok-clause-shorter c = text_shorter c.args.bytes.now (view c.in-Ok.json) _ c.in-Ok.ensures.ok.1 c.in_ok-fields_of_json-in-Ok.ensures.value
+returns-in_ok-fields_of_json-in-Ok-clause-shorter c =
+    text_shorter c.args.bytes.now (view c.in-Ok.json) _ c.in-Ok.ensures.ok.1 c.in_ok-fields_of_json-in-Ok.ensures.value
 
 pub returns-else-is_memory-clause-value : goal.returns-else-is_memory-clause-value
-returns-else-is_memory-clause-value c = inr (not_json c.args.bytes.now c.requires (c.in-Err.ensures.err (λ memory. false≢true (c.if-is_memory.ensures.1 memory))))
+returns-else-is_memory-clause-value c =
+    inr (not_json c.args.bytes.now c.requires (c.in-Err.ensures.err (λ memory. false≢true (c.if-is_memory.ensures.1 memory))))

@@ -7,12 +7,12 @@ pub loop-name-init : goal.loop-name-init
 loop-name-init c = record {
   can_next = tt;
   is_finite = tt;
-  so_far = rw (c.in_ok-fields.ensures.items, c.into_iter-name-iterator.ensures.into_iter_gives.0) (read_none _);
+  so_far = rw (c.in_ok-fields.ensures, c.into_iter-name-iterator.ensures.into_iter_gives.0) (read_none _);
 }
 
 pub overflow_add-place : goal.overflow_add-place
 overflow_add-place c =
-    let so_far : HasRead c.args.members.entries c.loop-name.fields.items c.loop-name.place ((c.in-Some.name, c.in-Some.json) ∷ c.next.new.self) =
+    let so_far : HasRead c.args.members.entries c.loop-name.fields c.loop-name.place ((c.in-Some.name, c.in-Some.json) ∷ c.next.new.self) =
     rw c.in-Some.ensures.steps at c.loop-name.invariant.so_far in
     omega (arith, so_far.count)
 
@@ -21,22 +21,29 @@ loop-name-preserved c = record {
   can_next = tt;
   is_finite = tt;
   so_far =
-      let so_far : HasRead c.args.members.entries c.loop-name.fields.items c.loop-name.place ((c.in-Some.name, c.in-Some.json) ∷ c.next.new.self) =
+      let so_far : HasRead c.args.members.entries c.loop-name.fields c.loop-name.place
+      ((c.in-Some.name, c.in-Some.json) ∷ c.next.new.self) =
       rw c.in-Some.ensures.steps at c.loop-name.invariant.so_far in
-      rw c.in_ok-push.ensures.items (read_more _ _ _ (c.in-Some.name, c.in-Some.json) _ (record { name = c.of_string.result; scalar = c.in_ok-scalar.scalar }) so_far c.of_string.ensures.text
+      rw c.in_ok-push.ensures.ok (read_more _ _ _ (c.in-Some.name, c.in-Some.json) _
+      (record { name = c.of_string.result; scalar = c.in_ok-scalar.scalar }) so_far c.of_string.ensures.text
       (sym c.in_ok-scalar.ensures.value) (c.of_string.ensures.utf8, c.in_ok-scalar.ensures.scalar));
 }
 
 pub returns-in_err-scalar : goal.returns-in_err-scalar
 returns-in_err-scalar c =
-    let so_far : HasRead c.args.members.entries c.loop-name.fields.items c.loop-name.place ((c.in-Some.name, c.in-Some.json) ∷ c.next.new.self) =
+    let so_far : HasRead c.args.members.entries c.loop-name.fields c.loop-name.place ((c.in-Some.name, c.in-Some.json) ∷ c.next.new.self) =
     rw c.in-Some.ensures.steps at c.loop-name.invariant.so_far in
     let p = err_from_is_err_and c.from_residual-in_err-scalar.result c.from_residual-in_err-scalar.ensures.1 in
-    rw (p.1, p.2) (record { value = inr (read_fault _ _ _ _ _ _ so_far (sym c.in_err-scalar.ensures.value)); readable = tt; ascending = tt })
+    rw (p.1, p.2) (record {
+      value = inr (read_fault _ _ _ _ _ _ so_far (sym c.in_err-scalar.ensures.value));
+      readable = tt;
+      ascending =
+          tt;
+    })
 
 pub returns : goal.returns
 returns c =
-    let so_far : HasRead c.args.members.entries c.loop-name.fields.items c.loop-name.place [] =
+    let so_far : HasRead c.args.members.entries c.loop-name.fields c.loop-name.place [] =
     rw c.in-None.ensures.steps.0 at c.loop-name.invariant.so_far in
     let all = read_all _ _ _ so_far c.len.ensures.ordered in
-    record { value = all.value; readable = all.readable; ascending = all.ascending }
+    rw c.into_vec.ensures (record { value = all.value; readable = all.readable; ascending = all.ascending })

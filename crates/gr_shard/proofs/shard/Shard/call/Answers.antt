@@ -18,10 +18,12 @@ invariant_of-self-2 c =
     let done = c.in_ok-done.done in
     let gives : done ≡ call_gives was.id was.opening past c.args.ask.now = rw (← c.self.view_is) at c.in_ok-done.ensures in
     let here : shard_of (key_of c.args.ask.now) was.id.shards ≡ was.id.shard = rw (← c.self.view_is) at c.requires in
-    let pushed : c.push.new.self.deeds ≡ was.history.deeds ++ Call c.args.client c.args.seq c.args.ask.now done.reply done.made done.to ∷ [] =
+    let pushed : c.push.new.self.deeds ≡ was.history.deeds
+    ++ Call c.args.client c.args.seq c.args.ask.now done.reply done.made done.to ∷ [] =
     on_ok c.push.result (c.push.ensures.room c.in_ok-reserve.ensures.room) c.push.ensures.ok
     ∙ ap (λ deeds. deeds ++ c.in_ok-deed.deed ∷ []) c.in_ok-reserve.ensures.deeds
     ∙ ap (λ deed. was.history.deeds ++ deed ∷ []) c.in_ok-deed.ensures in
     rw (pushed, reverse-append, c.count_with-self-inside.ensures)
-    (kept_after was.id was.opening was.floor was.entries c.enter.new.entries was.made past c.args.client c.args.seq c.args.ask.now done.reply done.made done.to
+    (kept_after was.id was.opening was.floor was.entries c.enter.new.entries was.made past c.args.client c.args.seq c.args.ask.now
+    done.reply done.made done.to
     c.self.invariant here gives c.in_ok-enter.ensures.ok)

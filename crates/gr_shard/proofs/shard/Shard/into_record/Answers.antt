@@ -2,8 +2,8 @@ use Rattle.std.proofs.Common.{reverse, refl}
 use Rattle.gr_shard.proofs.Left.{region-kept}
 use Rattle.gr_shard.proofs.shard.Shard.into_record.Goals as goal
 
-pub returns-clause-left : goal.returns-clause-left
-returns-clause-left c =
+pub returns-clause-record_of : goal.returns-clause-record_of
+returns-clause-record_of c =
     let was = c.self.inside in
     rw (← c.self.view_is) record {
       deeds = refl;

@@ -25,5 +25,6 @@ returns c =
     let base : c.max-base.result ≡ max (ver_of (standing c.args.key.now past)) (floor was.opening past) =
     c.max-base.ensures ∙ ap (λ v. max v was.floor) stands ∙ ap (max (ver_of (standing c.args.key.now past))) kept.floored in
     rw (← c.self.view_is)
-    (made_here was.id was.opening past c.args.key.now c.in_ok-key.key c.args.reply c.args.kind c.in-Some.stamp c.max-base.result was.made c.recipients.result
+    (made_here was.id was.opening past c.args.key.now c.in_ok-key.key c.args.reply c.args.kind c.in-Some.stamp c.max-base.result was.made
+    c.recipients.result
     base kept.counted (c.recipients.ensures past) c.in_ok-key.ensures (c.in-Some.ensures.0, sym c.in-Some.ensures.1))

@@ -2,4 +2,4 @@ use Rattle.std.proofs.Common.{◌≡◌, take}
 use Rattle.gr_value.proofs.list.ItemListCopied.copy.Given as goal
 
 abbrev pub invariant-loop-item : goal.invariant-loop-item
-invariant-loop-item g l = l.copies.items ≡ take l.item-index l.item-items
+invariant-loop-item g l = l.copies ≡ take l.item-index l.item-items

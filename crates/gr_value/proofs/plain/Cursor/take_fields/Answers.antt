@@ -6,15 +6,18 @@ use Rattle.gr_value.proofs.plain.Cursor.take_fields.Goals as goal
 
 pub fields-init : goal.fields-init
 fields-init c =
-    let first : (c.args.self.now ≡ field_text c.in-Some.first ++ c.take_field.new.self) × IsField c.in-Some.first = rw c.in-Some.is at c.in_ok-first.ensures in
+    let first : (c.args.self.now ≡ field_text c.in-Some.first ++ c.take_field.new.self) × IsField c.in-Some.first =
+    rw c.in-Some.is at c.in_ok-first.ensures in
     rw (c.in_ok-push.ensures.items, c.in_ok-fields.ensures.items) (taken_first _ c.in-Some.first _ first.0 first.1)
 
 pub fields-preserved : goal.fields-preserved
 fields-preserved c =
-    let next : (c.take.new.self ≡ field_text c.in-Some-2.field ++ c.take_field-in-fields.new.self) × IsField c.in-Some-2.field = rw c.in-Some-2.is at c.in_ok-field.ensures in
+    let next : (c.take.new.self ≡ field_text c.in-Some-2.field ++ c.take_field-in-fields.new.self) × IsField c.in-Some-2.field =
+    rw c.in-Some-2.is at c.in_ok-field.ensures in
     rw c.in_ok-push-2.ensures.items (taken_more _ _ c.in-Some-2.field _ _ _ c.fields.invariant c.fields-test.ensures next.0 next.1)
 
 pub fields-smaller : goal.fields-smaller
 fields-smaller c =
-    let next : (c.take.new.self ≡ field_text c.in-Some-2.field ++ c.take_field-in-fields.new.self) × IsField c.in-Some-2.field = rw c.in-Some-2.is at c.in_ok-field.ensures in
+    let next : (c.take.new.self ≡ field_text c.in-Some-2.field ++ c.take_field-in-fields.new.self) × IsField c.in-Some-2.field =
+    rw c.in-Some-2.is at c.in_ok-field.ensures in
     taken_shorter c.in-Some-2.field _ _ _ c.fields-test.ensures next.0

@@ -1,0 +1,2 @@
+-- How the code reads. Private clauses alone cite what stands here.
+pub mod Reading

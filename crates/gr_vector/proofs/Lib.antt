@@ -1,0 +1,10 @@
+pub mod Apart
+pub mod Common
+pub mod Edits
+pub mod Ends
+pub mod Members
+pub mod Order
+pub mod Places
+pub mod Same
+pub mod Tops
+pub mod Views

@@ -1,0 +1,105 @@
+-- Members in a list: what a write and a push leave.
+use Rattle.std.proofs.Common.{◌≡◌, ◌≢◌, ℕ, zero, suc, ◌+◌, ◌<◌, List, [], ◌∷◌, ◌++◌, length, get_or, set, take, Bool, true, false, ◌&&◌, ◌||◌, ◌==◌, refl, sym, ◌∙◌, subst, ap, arith, if◌then◌else◌, get_or-set_other, get_or-set_same}
+use Rattle.std.proofs.lemmas.Bool.Decides.{nat_tests}
+use Rattle.std.proofs.lemmas.List.{take_more, get_or_default}
+use Rattle.gr_vector.specs.Gaps.{Missing, holds}
+use Rattle.gr_vector.specs.Views.{is_held}
+
+held_pushed : (k v : ℕ) (m : Missing) (xs : List Missing) → is_held k v (xs ++ m ∷ [])
+    ≡ (if k == length xs then holds v m.gaps else is_held k v xs)
+held_pushed zero v m [] = refl
+held_pushed (suc k) v m [] = ap (λ b. if b then holds v m.gaps else holds v []) (none k)
+  where
+    none : (a : ℕ) → false ≡ (suc a == 0)
+    none a = grind (arith, nat_tests)
+held_pushed zero v m (first ∷ xs) = ap (λ b. if b then holds v m.gaps else holds v first.gaps) (none (length xs))
+  where
+    none : (a : ℕ) → false ≡ (0 == suc a)
+    none a = grind (arith, nat_tests)
+held_pushed (suc k) v m (first ∷ xs) = held_pushed k v m xs ∙ ap (λ b. if b then holds v m.gaps else is_held k v xs) (same k (length xs))
+  where
+    same : (a b : ℕ) → (a == b) ≡ (suc a == suc b)
+    same a b = grind (arith, nat_tests)
+
+pub pushed_same : (n : ℕ) (xs ys : List Missing) (m o : Missing) → length xs ≡ n → length ys ≡ n
+    → ((k v : ℕ) → is_held k v xs ≡ is_held k v ys)
+    → ((v : ℕ) → holds v m.gaps ≡ holds v o.gaps) → (k v : ℕ) → is_held k v (xs ++ m ∷ []) ≡ is_held k v (ys ++ o ∷ [])
+pushed_same n xs ys m o xs_is ys_is same here k v =
+    held_pushed k v m xs ∙ ap (λ n. if k == n then holds v m.gaps else is_held k v xs) xs_is
+    ∙ either (k == n) (same k v) (here v)
+    ∙ ap (λ n. if k == n then holds v o.gaps else is_held k v ys) (sym ys_is) ∙ sym (held_pushed k v o ys)
+  where
+    either : (b : Bool) {x y p q : Bool} → x ≡ p → y ≡ q → (if b then y else x) ≡ (if b then q else p)
+    either true h e = e
+    either false h e = h
+
+pub pushed_both : (n : ℕ) (xs ours theirs : List Missing) (m our their : Missing) → length xs ≡ n → length ours ≡ n → length theirs ≡ n
+    → ((k v : ℕ) → is_held k v xs ≡ (is_held k v ours || is_held k v theirs))
+    → ((v : ℕ) → holds v m.gaps ≡ (holds v our.gaps || holds v their.gaps))
+    → (k v : ℕ) → is_held k v (xs ++ m ∷ []) ≡ (is_held k v (ours ++ our ∷ []) || is_held k v (theirs ++ their ∷ []))
+pushed_both n xs ours theirs m our their xs_is ours_is theirs_is both here k v =
+    held_pushed k v m xs ∙ ap (λ n. if k == n then holds v m.gaps else is_held k v xs) xs_is
+    ∙ either (k == n) _ _ _ _ _ _ (both k v) (here v)
+    ∙ sym (joined (held_pushed k v our ours ∙ ap (λ n. if k == n then holds v our.gaps else is_held k v ours) ours_is)
+    (held_pushed k v their theirs ∙ ap (λ n. if k == n then holds v their.gaps else is_held k v theirs) theirs_is))
+  where
+    joined : {a b x y : Bool} → a ≡ x → b ≡ y → (a || b) ≡ (x || y)
+    joined {a} {b} {x} {y} h e = cc
+
+    either : (b x y p q r s : Bool) → x ≡ (p || q) → y ≡ (r || s) → (if b then y else x) ≡ ((if b then r else p) || (if b then s else q))
+    either true x y p q r s h e = e
+    either false x y p q r s h e = h
+
+pub take_next : (i : ℕ) (xs : List Missing) (m : Missing) → i < length xs → m ≡ get_or xs i m → take (i + 1) xs ≡ take i xs ++ m ∷ []
+take_next i xs m lt is = take_more xs i m lt ∙ ap (λ x. take i xs ++ x ∷ []) (sym is)
+
+pub noted_at : (place n : ℕ) (old : List Missing) (m o : Missing) → place < length old → o ≡ get_or old place o
+    → ((v : ℕ) → holds v m.gaps ≡ (v == n || holds v o.gaps))
+    → (k v : ℕ) → is_held k v (set old place m) ≡ ((k == place && v == n) || is_held k v old)
+noted_at place n old m o lt is more k v = at_place (k == place) refl
+  where
+    nothing : Missing
+    nothing = record { gaps = []; spare = 0 }
+
+    equal : (a b : ℕ) → (a == b) ≡ true → a ≡ b
+    equal a b e = grind (arith, nat_tests)
+
+    other : (a b : ℕ) → (a == b) ≡ false → a ≢ b
+    other a b e = grind (arith, nat_tests)
+
+    here : is_held place v (set old place m) ≡ (v == n || is_held place v old)
+    here = ap (λ x. holds v x.gaps) (get_or-set_same old place m nothing lt) ∙ more v
+        ∙ ap (λ x. v == n || holds v x.gaps) (is ∙ get_or_default old place o nothing lt)
+
+    at_place : (b : Bool) → (k == place) ≡ b → is_held k v (set old place m) ≡ ((b && v == n) || is_held k v old)
+    at_place true e = subst (λ z. is_held z v (set old place m) ≡ (v == n || is_held z v old)) (sym (equal k place e)) here
+    at_place false e = ap (λ x. holds v x.gaps) (get_or-set_other old place k m nothing (other k place e))
+
+pub same_at : (place : ℕ) (old : List Missing) (m o : Missing) → place < length old → o ≡ get_or old place o → m.gaps ≡ o.gaps
+    → (k v : ℕ) → is_held k v (set old place m) ≡ is_held k v old
+same_at place old m o lt is same k v = at_place (k == place) refl
+  where
+    nothing : Missing
+    nothing = record { gaps = []; spare = 0 }
+
+    equal : (a b : ℕ) → (a == b) ≡ true → a ≡ b
+    equal a b e = grind (arith, nat_tests)
+
+    other : (a b : ℕ) → (a == b) ≡ false → a ≢ b
+    other a b e = grind (arith, nat_tests)
+
+    here : is_held place v (set old place m) ≡ is_held place v old
+    here = ap (λ x. holds v x.gaps) (get_or-set_same old place m nothing lt) ∙ ap (holds v) same
+        ∙ ap (λ x. holds v x.gaps) (is ∙ get_or_default old place o nothing lt)
+
+    at_place : (b : Bool) → (k == place) ≡ b → is_held k v (set old place m) ≡ is_held k v old
+    at_place true e = subst (λ z. is_held z v (set old place m) ≡ is_held z v old) (sym (equal k place e)) here
+    at_place false e = ap (λ x. holds v x.gaps) (get_or-set_other old place k m nothing (other k place e))
+
+pub both_taken : (k v i : ℕ) (ours theirs : List Missing) (m o : Missing) → i < length ours → i < length theirs → m ≡ get_or ours i m
+    → o ≡ get_or theirs i o
+    → (is_held k v (take (i + 1) ours) || is_held k v (take (i + 1) theirs))
+    ≡ (is_held k v (take i ours ++ m ∷ []) || is_held k v (take i theirs ++ o ∷ []))
+both_taken k v i ours theirs m o lt their_lt is their_is =
+    ap (λ xs. is_held k v xs || is_held k v (take (i + 1) theirs)) (take_next i ours m lt is)
+    ∙ ap (λ xs. is_held k v (take i ours ++ m ∷ []) || is_held k v xs) (take_next i theirs o their_lt their_is)

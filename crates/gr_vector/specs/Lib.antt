@@ -1,0 +1,4 @@
+pub mod Gaps
+pub mod Ids
+pub mod Order
+pub mod Views

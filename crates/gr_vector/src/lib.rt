@@ -1,0 +1,12 @@
+//! Which changes of which member have come, as a set of ids.
+#![tactic(auto)]
+
+mod gap;
+mod missing;
+mod report;
+#[cfg(test)]
+mod tests;
+mod vector;
+
+pub use report::{Report, ReportList};
+pub use vector::Vector;

@@ -1,0 +1,26 @@
+use crate::Vector;
+use gr_value::{Copied, ItemList, Memory};
+use std::alloc::Global;
+
+/// What a member says of a shard: the length of its history, the greatest number of its own changes,
+/// and all the ids that it knows.
+#[derive(Drop)]
+pub struct Report {
+    pub member: u8,
+    pub at: u64,
+    pub own: u64,
+    pub vector: Vector,
+}
+
+pub type ReportList = ItemList<Report>;
+
+impl Copied for Report {
+    fn copy(&self, alloc: Global) -> Result<Report, Memory> {
+        Ok(Report {
+            member: self.member,
+            at: self.at,
+            own: self.own,
+            vector: Copied::copy(&self.vector, alloc)?,
+        })
+    }
+}
