@@ -1,7 +1,6 @@
 ghost use Rattle.std.specs.Prelude.{◌≡◌, ◌≤◌, ◌∷◌, ◌++◌, [], bytes_eq, IfOk};
 ghost use Rattle.gr_script.specs.Halts.{Yields};
-ghost use Rattle.gr_script.specs.Items.{number_at, within, number_in, stated_client, dotted_numbers, key_at, value_at, is_own, text_at, query_from, own_query, query_at, region_at, number_item, item_at, items_at};
-ghost use Rattle.gr_oql.specs.Faults.{question_of};
+ghost use Rattle.gr_script.specs.Items.{number_at, within, number_in, stated_client, dotted_numbers, key_at, value_at, is_own, text_at, query_from, question_of, own_query, query_at, region_at, number_item, item_at, items_at};
 ghost use Rattle.gr_script.specs.Texts.{cut};
 
 use crate::forms::FieldKind;
@@ -120,7 +119,10 @@ pub(crate) fn text_at(text: &[u8]) -> Result<&str, Halt>
 fn query_of(alloc: Global, text: &str) -> Result<Query, Halt>
     ensures { Yields (λ query. query) result (query_from (question_of text.now)) }
 {
-    Ok(Query::parse(alloc, text)?)
+    match Query::parse(alloc, text) {
+        Ok(query) => Ok(query),
+        Err(fault) => Err(Halt::from(fault)),
+    }
 }
 
 fn own_query(setting: &Setting, query: Query) -> Result<Query, Halt>
