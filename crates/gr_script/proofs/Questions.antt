@@ -1,5 +1,5 @@
 -- A text asks what it spells, and has the fault that the grammar of queries gives it.
-use Rattle.std.proofs.Common.{◌≡◌, List, ℕ, ◌++◌, Result, Ok, Err, inl, inr, sym, ap, ◌∙◌}
+use Rattle.std.proofs.Common.{◌≡◌, List, ℕ, ◌++◌, Ok, Err, inl, inr, sym, ap, ◌∙◌}
 use Rattle.std.specs.Prelude.{◌⊎◌}
 use Rattle.gr_lex.proofs.Only.{tokens_only, tokens_fault}
 use Rattle.gr_oql.proofs.CompleteQuery.{query_complete}

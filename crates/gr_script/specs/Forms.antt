@@ -91,10 +91,14 @@ rank Join = 8
 
 -- the lines that begin with a client's number
 abbrev pub step_kinds : List LineKind
-step_kinds = Get ∷ Put ∷ PutIfAbsent ∷ Replace ∷ ReplaceIf ∷ Destroy ∷ Remove ∷ Peek ∷ Open ∷ Stop ∷ Close ∷ Fetch ∷ []
+step_kinds =
+    Get ∷ Put ∷ PutIfAbsent ∷ Replace ∷ ReplaceIf ∷ Destroy
+    ∷ Remove ∷ Peek ∷ Open ∷ Stop ∷ Close ∷ Fetch ∷ []
 
 abbrev pub other_kinds : List LineKind
-other_kinds = Georep ∷ Region ∷ Members ∷ Shards ∷ Inbox ∷ Trouble ∷ Floor ∷ Client ∷ Deliver ∷ Report ∷ Hear ∷ Sweep ∷ Join ∷ []
+other_kinds =
+    Georep ∷ Region ∷ Members ∷ Shards ∷ Inbox ∷ Trouble ∷ Floor
+    ∷ Client ∷ Deliver ∷ Report ∷ Hear ∷ Sweep ∷ Join ∷ []
 
 -- the first of these kinds whose word this is
 abbrev pub kind_of : List LineKind → List ℕ → Option LineKind

@@ -22,7 +22,8 @@ counted past = record {
 }
 
 -- What is kept is what the earlier lines say.
-pub record IsIndex (stage_now : ℕ) (held : Setting) (founders_now : ℕ) (homes_now : List ℕ) (step_counts report_counts join_counts : Counts) (lines : Counted) (past : List Saying) : Type 0 where
+pub record IsIndex (stage_now : ℕ) (held : Setting) (founders_now : ℕ) (homes_now : List ℕ)
+    (step_counts report_counts join_counts : Counts) (lines : Counted) (past : List Saying) : Type 0 where
   pub staged : stage_now ≡ stage past
   pub set : held ≡ setting past
   pub founded : founders_now ≡ founders past

@@ -39,4 +39,6 @@ begins_braced (first ∷ _) = first == 0x7B
 
 -- How many bytes the piece has that a value is: up to the brace that closes its first one, or all.
 abbrev pub piece_len : List ℕ → ℕ
-piece_len text = if begins_braced text then option_map_or (λ place. place + 1) (closing (nesting_of 0 Outside) text) (length text) else length text
+piece_len text =
+    if begins_braced text then option_map_or (λ place. place + 1) (closing (nesting_of 0 Outside) text) (length text)
+    else length text

@@ -46,7 +46,10 @@ is_no_join member provider past = nat_le member (founders past) || not (joins me
 abbrev pub tests : List Saying → LineKind → List Item → List (Bool × Reason)
 tests past kind.Members items = (nat_lt (number 0 items) (number 1 items), Range) ∷ []
 tests past kind.Client items = (not (number 0 items == clients past + 1), Order) ∷ []
-tests past kind.Deliver items = (is_missing (number 2 items) (steps (number 1 items) past), Later) ∷ (number 0 items == home (number 1 items) past, Itself) ∷ []
+tests past kind.Deliver items =
+    (is_missing (number 2 items) (steps (number 1 items) past), Later)
+    ∷ (number 0 items == home (number 1 items) past, Itself)
+    ∷ []
 tests past kind.Hear items =
     (is_missing (number 2 items) (reports (number 1 items) past), Later)
     ∷ (number 0 items == number 1 items, Itself)

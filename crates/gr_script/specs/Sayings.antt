@@ -30,10 +30,11 @@ abbrev pub go_on : {A B : Type 0} → ℕ → Result A Reason → (A → Result 
 go_on number (Ok x) rest = rest x
 go_on number (Err reason) rest = Err (fault number reason)
 
--- What the lines say behind earlier ones, where the first of them has this number: the last one first, or the first fault.
+-- What the lines say behind earlier ones, the last one first, or the first fault. The first of them has this number.
 abbrev pub sayings_from : Bool → ℕ → List Saying → List (List ℕ) → Result (List Saying) ScriptFault
 sayings_from runs number past [] = ended number past
-sayings_from runs number past (line ∷ lines) = go_on number (past_with runs past line) (λ longer. sayings_from runs (number + 1) longer lines)
+sayings_from runs number past (line ∷ lines) =
+    go_on number (past_with runs past line) (λ longer. sayings_from runs (number + 1) longer lines)
 
 abbrev pub end_of : {A : Type 0} → Result A ScriptFault → Result A ScriptEnd
 end_of (Ok x) = Ok x
@@ -41,7 +42,9 @@ end_of (Err fault) = Err (end.Fault fault)
 
 -- What a text says. How many lines it has is looked at before any fault.
 abbrev pub sayings_of : Bool → List ℕ → Result (List Saying) ScriptEnd
-sayings_of runs text = if nat_lt most_lines (line_count text) then Err (end.TooManyLines (line_count text)) else end_of (sayings_from runs 1 [] (lines_of text))
+sayings_of runs text =
+    if nat_lt most_lines (line_count text) then Err (end.TooManyLines (line_count text))
+    else end_of (sayings_from runs 1 [] (lines_of text))
 
 -- how a halt at a line ends the reading
 abbrev pub end_at : ℕ → Halt → ScriptEnd

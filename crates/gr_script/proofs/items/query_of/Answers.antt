@@ -1,4 +1,3 @@
-use Rattle.std.proofs.Common.{subst, sym}
 use Rattle.gr_script.proofs.Questions.{query_spelled, query_halted}
 use Rattle.gr_script.proofs.items.query_of.Goals as goal
 
