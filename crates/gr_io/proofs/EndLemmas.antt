@@ -1,5 +1,6 @@
 -- How a read that stops early ends the whole.
-use Rattle.std.proofs.Common.{◌≡◌, ℕ, ◌+◌, ◌-◌, ◌≤◌, ◌++◌, ◌∷◌, [], inl, inr, refl, List, length, take, drop, flat_map, get_or, Option, IfSome, arith}
+use Rattle.std.proofs.Common.{◌≡◌, ℕ, ◌+◌, ◌-◌, ◌≤◌, ◌++◌, ◌∷◌, [], inl, inr, refl, List, length, take, drop, flat_map, get_or, Option}
+use Rattle.std.proofs.Common.{IfSome, arith}
 use Rattle.std.specs.Io.KnownBytes.{Appends, Consumes, Keeps, IsAtEnd}
 use Rattle.std.proofs.KnownBytes.{Appends-trans, Consumes-kept, Consumes-trans, Consumes-whole}
 use Rattle.std.proofs.Math.Seq.{take-add, take-append-add, take-length}
@@ -16,22 +17,28 @@ Rose-since had mid has low rose = elim rose [ inl more ↦ inl (omega arith) | i
 -- some bytes were read, and the next read stopped
 pub EndsFor-stopped : (limit : ℕ) (a b c : Option (List ℕ)) (bytes : List ℕ) (had mid has : ℕ) (end : ReadEnd)
     → Consumes a b bytes → length bytes ≤ limit → had ≤ mid → Keeps b c → StopsFor mid has end → EndsFor limit a c had has end
-EndsFor-stopped limit a b c bytes had mid has Fault read fits low kept stops = (Rose-since had mid has low stops, (bytes, Consumes-kept a b c bytes read kept, fits))
+EndsFor-stopped limit a b c bytes had mid has Fault read fits low kept stops =
+    (Rose-since had mid has low stops, (bytes, Consumes-kept a b c bytes read kept, fits))
 EndsFor-stopped limit a b c bytes had mid has (TooLarge more) read fits low kept stops = absurd stops
 EndsFor-stopped limit a b c bytes had mid has Memory read fits low kept stops = (bytes, Consumes-kept a b c bytes read kept, fits)
 
 -- what one more write appended comes behind what was appended before
-pub Appends-more : (a b c : Option (List ℕ)) (bytes : List ℕ) (written n : ℕ) → Appends a b (take written bytes) → Appends b c (take n (drop written bytes))
+pub Appends-more : (a b c : Option (List ℕ)) (bytes : List ℕ) (written n : ℕ) → Appends a b (take written bytes)
+    → Appends b c (take n (drop written bytes))
     → Appends a c (take (written + n) bytes)
-Appends-more a b c bytes written n before now = rw take-add (Appends-trans a b c (take written bytes) (take n (drop written bytes)) before now)
+Appends-more a b c bytes written n before now =
+    rw take-add (Appends-trans a b c (take written bytes) (take n (drop written bytes)) before now)
 
 -- a source that was read to its end gave all that it had
-pub whole_read : (a b c : Option (List ℕ)) (bytes more all : List ℕ) → Consumes a b bytes → Consumes b c more → IsAtEnd c → all ≡ bytes ++ more
+pub whole_read : (a b c : Option (List ℕ)) (bytes more all : List ℕ) → Consumes a b bytes → Consumes b c more → IsAtEnd c → all ≡ bytes
+    ++ more
     → IfSome a (λ left. all ≡ left)
-whole_read a b c bytes more all before now end is = Consumes-whole a c (bytes ++ more) (λ left. all ≡ left) (Consumes-trans a b c bytes more before now) end is
+whole_read a b c bytes more all before now end is =
+    Consumes-whole a c (bytes ++ more) (λ left. all ≡ left) (Consumes-trans a b c bytes more before now) end is
 
 -- the whole of what comes first, and then a part of the rest, is a part of the whole
-pub AppendsPart_rest : (a b c : Option (List ℕ)) (first rest : List ℕ) → Appends a b first → AppendsPart b c rest → AppendsPart a c (first ++ rest)
+pub AppendsPart_rest : (a b c : Option (List ℕ)) (first rest : List ℕ) → Appends a b first → AppendsPart b c rest
+    → AppendsPart a c (first ++ rest)
 AppendsPart_rest a b c first rest whole part = (
   length first + part.0,
   rw (take-append-add first rest part.0) (Appends-trans a b c first (take part.0 rest) whole part.1),

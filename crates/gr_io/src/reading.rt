@@ -36,7 +36,7 @@ fn zeros(alloc: Global, count: usize) -> Result<Vec<u8>, AllocError>
     vec![in alloc; 0; count]
 }
 
-/// One read, whose bytes come behind `bytes`. Memory is taken before the read, so that none is lost.
+// One read, whose bytes come behind `bytes`. Memory is taken before the read, so that none is lost.
 fn read_more<S: Source>(
     source: &mut S,
     buffer: &mut [u8],

@@ -9,7 +9,7 @@ use std::test::Fail;
 
 const TEXT: &[u8; 6] = b"region";
 
-/// Reads the text in these pieces, under a limit, where one call fails, and says how that ended.
+// Reads the text in these pieces, under a limit, where one call fails, and says how that ended.
 fn ends(alloc: Global, piece: usize, limit: u64, failing: u64) -> Result<(usize, Vec<u8>), Fail> {
     let piece = piece.max(1);
     let fails = [failing].to_vec(alloc)?;

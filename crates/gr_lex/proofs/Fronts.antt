@@ -1,12 +1,15 @@
 -- The token that is read at the front of bytes is one of its kind, as long as it can be.
-use Rattle.std.proofs.Common.{◌≡◌, ◌⊎◌, ℕ, suc, ◌+◌, ◌<◌, ◌≤◌, List, [], ◌∷◌, ◌++◌, length, get_or, take, drop, Option, Some, None, option_map, Result, Ok, Bool, cond, true, false, not, ◌&&◌, eqb, leb, inl, inr, ⊎_elim, sym, refl, ap, ◌∙◌, subst, arith}
+use Rattle.std.proofs.Common.{◌≡◌, ◌⊎◌, ℕ, suc, ◌+◌, ◌<◌, ◌≤◌, List, [], ◌∷◌, ◌++◌, length, get_or, take, drop, Option, Some, None}
+use Rattle.std.proofs.Common.{option_map, Result, Ok, Bool, cond, true, false, not, ◌&&◌, eqb, leb, inl, inr, ⊎_elim, sym, refl, ap, ◌∙◌}
+use Rattle.std.proofs.Common.{subst, arith}
 use Rattle.std.specs.List.{prefix_len, take_while, list_all}
 use Rattle.std.specs.Char.{is_ascii_digit}
 use Rattle.std.proofs.lemmas.Bool.{eqb-true, eqb-false, ne_eqb, leb-true, cases_Bool}
 use Rattle.std.proofs.lemmas.List.{length-take-le}
 use Rattle.std.proofs.lemmas.List.Sums.{prefix_len-le-length}
 use Rattle.gr_lex.specs.declared.token.Symbol.{Symbol}
-use Rattle.gr_lex.specs.declared.token.Symbol.TheVariants.{Star, LeftBracket, RightBracket, Comma, Dot, Equal, Angles, BangEqual, Less, LessEqual, Greater, GreaterEqual, Slash, Dollar, Minus}
+use Rattle.gr_lex.specs.declared.token.Symbol.TheVariants.{Star, LeftBracket, RightBracket, Comma, Dot, Equal, Angles, BangEqual, Less}
+use Rattle.gr_lex.specs.declared.token.Symbol.TheVariants.{LessEqual, Greater, GreaterEqual, Slash, Dollar, Minus}
 use Rattle.gr_lex.specs.declared.token.TokenKind.TheVariants as kind
 use Rattle.gr_lex.specs.declared.token.Token.{Token}
 use Rattle.gr_lex.specs.Bytes.{is_letter, is_word_byte, quote, number_of, greatest_number, symbol_of, spelling}
@@ -95,7 +98,9 @@ mutual
       (chosen (eqb b quote) _ _ _ is)
 
   closes_behind : (b : ℕ) → b ≡ quote → (bs : List ℕ) (len : ℕ) → behind_quote bs ≡ Some len → Closes (b ∷ bs) len
-  closes_behind b is_quote [] len is = subst (λ (m : ℕ). Closes (b ∷ []) m) (same_some is) (record { text = []; body = ap (λ (x : ℕ). x ∷ []) is_quote; in_range = omega arith; stops = refl })
+  closes_behind b is_quote [] len is =
+      subst (λ (m : ℕ). Closes (b ∷ []) m) (same_some is)
+      (record { text = []; body = ap (λ (x : ℕ). x ∷ []) is_quote; in_range = omega arith; stops = refl })
   closes_behind b is_quote (c ∷ bs) len is =
       ⊎_elim
       (λ h.
@@ -108,7 +113,8 @@ mutual
         in_range = omega (arith, rest.in_range);
         stops = rest.stops;
       }))
-      (λ h. subst (λ (m : ℕ). Closes (b ∷ c ∷ bs) m) (same_some h.1) (record { text = []; body = ap (λ (x : ℕ). x ∷ []) is_quote; in_range = omega arith; stops = ap not h.0 }))
+      (λ h. subst (λ (m : ℕ). Closes (b ∷ c ∷ bs) m) (same_some h.1)
+          (record { text = []; body = ap (λ (x : ℕ). x ∷ []) is_quote; in_range = omega arith; stops = ap not h.0 }))
       (chosen (eqb c quote) _ _ _ is)
 
 -- a symbol at the front, the longest one
@@ -124,7 +130,8 @@ never : (test : ℕ → Bool) → ((c : ℕ) → test c ≡ false) → (bs : Lis
 never test fails [] = refl
 never test fails (c ∷ cs) = ap not (fails c)
 
-one : (b : ℕ) (bs : List ℕ) (s s' : Symbol) (code : ℕ) → spelling s' ≡ code ∷ [] → ((c : ℕ) → goes_on s' c ≡ false) → (eqb b code ≡ true) × (Some s' ≡ Some s) → Spells b bs s
+one : (b : ℕ) (bs : List ℕ) (s s' : Symbol) (code : ℕ) → spelling s' ≡ code ∷ [] → ((c : ℕ) → goes_on s' c ≡ false) → (eqb b code ≡ true)
+    × (Some s' ≡ Some s) → Spells b bs s
 one b bs s s' code spelled fails h =
     subst (Spells b bs) (same_some h.1) (record {
       more = 0;
@@ -134,7 +141,8 @@ one b bs s s' code spelled fails h =
       stops = never (goes_on s') fails bs;
     })
 
-two : (b : ℕ) (bs : List ℕ) (s s' : Symbol) (code next : ℕ) → spelling s' ≡ code ∷ next ∷ [] → 0 < next → ((c : ℕ) → goes_on s' c ≡ false) → eqb b code ≡ true → eqb (get_or bs 0 0) next ≡ true → s' ≡ s → Spells b bs s
+two : (b : ℕ) (bs : List ℕ) (s s' : Symbol) (code next : ℕ) → spelling s' ≡ code ∷ next ∷ [] → 0 < next → ((c : ℕ) → goes_on s' c ≡ false)
+    → eqb b code ≡ true → eqb (get_or bs 0 0) next ≡ true → s' ≡ s → Spells b bs s
 two b [] s s' code next spelled some fails is is_next same = absurd (omega (arith, eqb-true 0 next is_next))
 two b (c ∷ cs) s s' code next spelled some fails is is_next same =
     subst (Spells b (c ∷ cs)) same (record {
@@ -146,15 +154,21 @@ two b (c ∷ cs) s s' code next spelled some fails is is_next same =
     })
 
 -- a symbol of one byte, where the byte behind it makes none of two
-short : (b : ℕ) (bs : List ℕ) (s s' : Symbol) (code : ℕ) → spelling s' ≡ code ∷ [] → ((c : ℕ) (cs : List ℕ) → bs ≡ c ∷ cs → goes_on s' c ≡ false) → eqb b code ≡ true → s' ≡ s → Spells b bs s
-short b [] s s' code spelled fails is same = subst (Spells b []) same (record { more = 0; len_is = ap length spelled; in_range = omega arith; front = ap (λ (x : ℕ). x ∷ []) (eqb-true b code is) ∙ sym spelled; stops = refl })
-short b (c ∷ cs) s s' code spelled fails is same = subst (Spells b (c ∷ cs)) same (record { more = 0; len_is = ap length spelled; in_range = omega arith; front = ap (λ (x : ℕ). x ∷ []) (eqb-true b code is) ∙ sym spelled; stops = ap not (fails c cs refl) })
+short : (b : ℕ) (bs : List ℕ) (s s' : Symbol) (code : ℕ) → spelling s' ≡ code ∷ []
+    → ((c : ℕ) (cs : List ℕ) → bs ≡ c ∷ cs → goes_on s' c ≡ false) → eqb b code ≡ true → s' ≡ s → Spells b bs s
+short b [] s s' code spelled fails is same =
+    subst (Spells b []) same (record { more = 0; len_is = ap length spelled; in_range = omega arith; front =
+    ap (λ (x : ℕ). x ∷ []) (eqb-true b code is) ∙ sym spelled; stops = refl })
+short b (c ∷ cs) s s' code spelled fails is same =
+    subst (Spells b (c ∷ cs)) same (record { more = 0; len_is = ap length spelled; in_range = omega arith; front =
+    ap (λ (x : ℕ). x ∷ []) (eqb-true b code is) ∙ sym spelled; stops = ap not (fails c cs refl) })
 
 -- two numbers that differ, either way round
 turned : (c next : ℕ) → eqb c next ≡ false → eqb next c ≡ false
 turned c next is = ne_eqb next c (λ same. eqb-false c next is (sym same))
 
-less : (b : ℕ) (bs : List ℕ) (s : Symbol) → eqb b 0x3C ≡ true → cond (eqb (get_or bs 0 0) 0x3E) Angles (cond (eqb (get_or bs 0 0) 0x3D) LessEqual Less) ≡ s → Spells b bs s
+less : (b : ℕ) (bs : List ℕ) (s : Symbol) → eqb b 0x3C ≡ true
+    → cond (eqb (get_or bs 0 0) 0x3E) Angles (cond (eqb (get_or bs 0 0) 0x3D) LessEqual Less) ≡ s → Spells b bs s
 less b bs s is read =
     ⊎_elim
     (λ h. two b bs s Angles 0x3C 0x3E refl (omega arith) (λ c. refl) is h.0 h.1)
@@ -180,7 +194,8 @@ greater b bs s is read =
     is h.1)
     (chosen _ _ _ _ read)
 
-bang : (b : ℕ) (bs : List ℕ) (s : Symbol) → eqb b 0x21 ≡ true → cond (eqb (get_or bs 0 0) 0x3D) (Some BangEqual) None ≡ Some s → Spells b bs s
+bang : (b : ℕ) (bs : List ℕ) (s : Symbol) → eqb b 0x21 ≡ true → cond (eqb (get_or bs 0 0) 0x3D) (Some BangEqual) None ≡ Some s
+    → Spells b bs s
 bang b bs s is read =
     ⊎_elim
     (λ h. two b bs s BangEqual 0x21 0x3D refl (omega arith) (λ c. refl) is h.0 (same_some h.1))
@@ -201,10 +216,13 @@ symbol_spells b bs s read =
     ⊎_elim (one b bs s Slash 0x2F refl (λ c. refl)) (λ r10.
     ⊎_elim (one b bs s Dollar 0x24 refl (λ c. refl)) (λ r11.
     ⊎_elim (one b bs s Minus 0x2D refl (λ c. refl)) (λ r12. absurd (cc r12.1))
-    (chosen _ _ _ _ r11.1)) (chosen _ _ _ _ r10.1)) (chosen _ _ _ _ r9.1)) (chosen _ _ _ _ r8.1)) (chosen _ _ _ _ r7.1)) (chosen _ _ _ _ r6.1))
-    (chosen _ _ _ _ r5.1)) (chosen _ _ _ _ r4.1)) (chosen _ _ _ _ r3.1)) (chosen _ _ _ _ r2.1)) (chosen _ _ _ _ r1.1)) (chosen _ _ _ _ read)
+    (chosen _ _ _ _ r11.1)) (chosen _ _ _ _ r10.1)) (chosen _ _ _ _ r9.1)) (chosen _ _ _ _ r8.1)) (chosen _ _ _ _ r7.1))
+        (chosen _ _ _ _ r6.1))
+    (chosen _ _ _ _ r5.1)) (chosen _ _ _ _ r4.1)) (chosen _ _ _ _ r3.1)) (chosen _ _ _ _ r2.1)) (chosen _ _ _ _ r1.1))
+        (chosen _ _ _ _ read)
 
-begins_symbol : (place b : ℕ) (bs : List ℕ) (t : Token) (o : Option Symbol) → o ≡ symbol_of b (get_or bs 0 0) → symbol_at place o ≡ Ok t → (len : ℕ) × Begins place (b ∷ bs) t len
+begins_symbol : (place b : ℕ) (bs : List ℕ) (t : Token) (o : Option Symbol) → o ≡ symbol_of b (get_or bs 0 0) → symbol_at place o ≡ Ok t
+    → (len : ℕ) × Begins place (b ∷ bs) t len
 begins_symbol place b bs t None is read = absurd (cc)
 begins_symbol place b bs t (Some s) is read =
     let spelled = symbol_spells b bs s (sym is) in (
@@ -218,7 +236,8 @@ begins_symbol place b bs t (Some s) is read =
       }),
     )
 
-begins_quoted : (place : ℕ) (bs : List ℕ) (t : Token) (o : Option ℕ) → o ≡ quoted_len bs → quoted_at place o ≡ Ok t → (len : ℕ) × Begins place (quote ∷ bs) t len
+begins_quoted : (place : ℕ) (bs : List ℕ) (t : Token) (o : Option ℕ) → o ≡ quoted_len bs → quoted_at place o ≡ Ok t → (len : ℕ)
+    × Begins place (quote ∷ bs) t len
 begins_quoted place bs t None is read = absurd (cc)
 begins_quoted place bs t (Some len) is read =
     let rest = closes bs len (sym is) in (
@@ -232,7 +251,8 @@ begins_quoted place bs t (Some len) is read =
       }),
     )
 
-begins_number : (place b : ℕ) (bs : List ℕ) (t : Token) → is_ascii_digit b ≡ true → number_at place (take_while is_ascii_digit (b ∷ bs)) ≡ Ok t → (len : ℕ) × Begins place (b ∷ bs) t len
+begins_number : (place b : ℕ) (bs : List ℕ) (t : Token) → is_ascii_digit b ≡ true
+    → number_at place (take_while is_ascii_digit (b ∷ bs)) ≡ Ok t → (len : ℕ) × Begins place (b ∷ bs) t len
 begins_number place b bs t digit read =
     let digits = take_while is_ascii_digit (b ∷ bs) in
     let len = prefix_len is_ascii_digit bs in
@@ -246,14 +266,16 @@ begins_number place b bs t digit read =
         at_start = refl;
         at_end = ap (λ (n : ℕ). place + n) (ap length whole ∙ length-take-le (suc len) (b ∷ bs) within);
         in_range = within;
-        kind_is = (subst (λ (l : List ℕ). list_all is_ascii_digit l ≡ true) whole (prefix_passes is_ascii_digit (b ∷ bs)), sym (ap number_of whole), leb-true _ _ h.0);
+        kind_is = (subst (λ (l : List ℕ). list_all is_ascii_digit l ≡ true) whole (prefix_passes is_ascii_digit (b ∷ bs)),
+            sym (ap number_of whole), leb-true _ _ h.0);
         stops = subst (λ (n : ℕ). first_fails is_ascii_digit (drop n (b ∷ bs)) ≡ true) more (prefix_stops is_ascii_digit (b ∷ bs));
       }),
     ))
     (λ h. absurd (cc h.1))
     (chosen (leb (number_of digits) greatest_number) _ _ _ read)
 
-begins_word : (place b : ℕ) (bs : List ℕ) (t : Token) → is_letter b ≡ true → spanning kind.Word place (prefix_len is_word_byte (b ∷ bs)) ≡ t → (len : ℕ) × Begins place (b ∷ bs) t len
+begins_word : (place b : ℕ) (bs : List ℕ) (t : Token) → is_letter b ≡ true
+    → spanning kind.Word place (prefix_len is_word_byte (b ∷ bs)) ≡ t → (len : ℕ) × Begins place (b ∷ bs) t len
 begins_word place b bs t letter read =
     let len = prefix_len is_word_byte bs in
     let word : is_word_byte b ≡ true = rw letter refl in

@@ -3,7 +3,8 @@ use Rattle.std.specs.Prelude.{ℕ, ◌+◌, ◌-◌, ◌*◌, ◌^◌, List, [],
 use Rattle.std.specs.List.{fold}
 use Rattle.std.specs.Char.{is_ascii_alphabetic, is_ascii_digit}
 use Rattle.gr_lex.specs.declared.token.Symbol.{Symbol}
-use Rattle.gr_lex.specs.declared.token.Symbol.TheVariants.{Star, LeftBracket, RightBracket, Comma, Dot, Equal, Angles, BangEqual, Less, LessEqual, Greater, GreaterEqual, Slash, Dollar, Minus}
+use Rattle.gr_lex.specs.declared.token.Symbol.TheVariants.{Star, LeftBracket, RightBracket, Comma, Dot, Equal, Angles, BangEqual, Less}
+use Rattle.gr_lex.specs.declared.token.Symbol.TheVariants.{LessEqual, Greater, GreaterEqual, Slash, Dollar, Minus}
 
 -- a space or a tab
 abbrev pub is_blank : ℕ → Bool

@@ -13,17 +13,20 @@ use Rattle.gr_lex.specs.Layout.{quoted, first_fails, IsLaidOutTo}
 abbrev pub HasBadCharacter : List ℕ → Type 0
 HasBadCharacter [] = ⊥
 HasBadCharacter (b ∷ bs) =
-    IsTrue (not (is_blank b || is_letter b || is_ascii_digit b || b == quote)) × ((symbol : Symbol) (behind : List ℕ) → b ∷ bs ≡ spelling symbol ++ behind → ⊥)
+    IsTrue (not (is_blank b || is_letter b || is_ascii_digit b || b == quote))
+        × ((symbol : Symbol) (behind : List ℕ) → b ∷ bs ≡ spelling symbol ++ behind → ⊥)
 
 -- The digits at the front, as many as there are, spell a number above the greatest.
 abbrev pub HasNumberTooLarge : List ℕ → Type 0
 HasNumberTooLarge bytes =
-    (digits : List ℕ) × (behind : List ℕ) × (bytes ≡ digits ++ behind) × IsTrue (list_all is_ascii_digit digits) × IsTrue (first_fails is_ascii_digit behind) × (greatest_number < number_of digits)
+    (digits : List ℕ) × (behind : List ℕ) × (bytes ≡ digits ++ behind) × IsTrue (list_all is_ascii_digit digits)
+        × IsTrue (first_fails is_ascii_digit behind) × (greatest_number < number_of digits)
 
 -- A quote stands at the front, but no quoted text, unless a further quote behind it goes on with it.
 abbrev pub HasOpenText : List ℕ → Type 0
 HasOpenText bytes =
-    ((behind : List ℕ) × (bytes ≡ quote ∷ behind)) × ((text behind : List ℕ) → bytes ≡ quoted text ++ behind → IsTrue (first_fails (λ b. b == quote) behind) → ⊥)
+    ((behind : List ℕ) × (bytes ≡ quote ∷ behind))
+        × ((text behind : List ℕ) → bytes ≡ quoted text ++ behind → IsTrue (first_fails (λ b. b == quote) behind) → ⊥)
 
 -- Up to a place the text has tokens, blanks between them and around them, and nothing else.
 abbrev pub HasTokensTo : List ℕ → ℕ → Type 0

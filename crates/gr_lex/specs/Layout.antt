@@ -1,9 +1,11 @@
 -- How tokens lie in a text, apart from how they are read.
-use Rattle.std.specs.Prelude.{◌≡◌, ℕ, ◌-◌, ◌<◌, ◌≤◌, List, [], ◌∷◌, ◌++◌, take, drop, length, Bool, true, false, ◌==◌, ◌&&◌, not, if◌then◌else◌, IsTrue, bytes_eq}
+use Rattle.std.specs.Prelude.{◌≡◌, ℕ, ◌-◌, ◌<◌, ◌≤◌, List, [], ◌∷◌, ◌++◌, take, drop, length, Bool, true, false, ◌==◌, ◌&&◌, not}
+use Rattle.std.specs.Prelude.{if◌then◌else◌, IsTrue, bytes_eq}
 use Rattle.std.specs.List.{list_all, list_any}
 use Rattle.std.specs.Char.{is_ascii_digit}
 use Rattle.gr_lex.specs.declared.token.Symbol.{Symbol}
-use Rattle.gr_lex.specs.declared.token.Symbol.TheVariants.{Star, LeftBracket, RightBracket, Comma, Dot, Equal, Angles, BangEqual, Less, LessEqual, Greater, GreaterEqual, Slash, Dollar, Minus}
+use Rattle.gr_lex.specs.declared.token.Symbol.TheVariants.{Star, LeftBracket, RightBracket, Comma, Dot, Equal, Angles, BangEqual, Less}
+use Rattle.gr_lex.specs.declared.token.Symbol.TheVariants.{LessEqual, Greater, GreaterEqual, Slash, Dollar, Minus}
 use Rattle.gr_lex.specs.declared.token.TokenKind.{TokenKind}
 use Rattle.gr_lex.specs.declared.token.TokenKind.TheVariants as kind
 use Rattle.gr_lex.specs.declared.token.Token.{Token}
@@ -31,7 +33,8 @@ IsOfKind (kind.Symbol symbol) bytes = bytes ≡ spelling symbol
 
 abbrev pub symbols : List Symbol
 symbols =
-    Star ∷ LeftBracket ∷ RightBracket ∷ Comma ∷ Dot ∷ Equal ∷ Angles ∷ BangEqual ∷ Less ∷ LessEqual ∷ Greater ∷ GreaterEqual ∷ Slash ∷ Dollar ∷ Minus ∷ []
+    Star ∷ LeftBracket ∷ RightBracket ∷ Comma ∷ Dot ∷ Equal ∷ Angles ∷ BangEqual ∷ Less ∷ LessEqual ∷ Greater ∷ GreaterEqual ∷ Slash
+        ∷ Dollar ∷ Minus ∷ []
 
 -- Some symbol is spelled as this one with a byte behind it.
 abbrev pub goes_on : Symbol → ℕ → Bool

@@ -45,7 +45,7 @@ fn tokens_in_turn(alloc: Global, text: &str) -> Result<TokenList, LexFault>
     Ok(tokens)
 }
 
-/// The token at the front of some bytes, the first of which stands at `start`.
+// The token at the front of some bytes, the first of which stands at `start`.
 fn token_at(front: &[u8], start: u64) -> Result<Token, LexFault>
     requires some { 0 < length front.now }
     requires fits { start + length front.now < 2 ^ 64 }
@@ -86,7 +86,7 @@ fn number_at(digits: &[u8], start: u64) -> Result<Token, LexFault>
     }
 }
 
-/// A quoted text, by what stands behind its first quote.
+// A quoted text, by what stands behind its first quote.
 fn quoted_at(behind: &[u8], start: u64) -> Result<Token, LexFault>
     requires fits { start + length behind.now + 1 < 2 ^ 64 }
     ensures exact { result ≡ quoted_at start (quoted_len behind.now) }

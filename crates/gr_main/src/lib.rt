@@ -2,6 +2,7 @@
 #![tactic(auto)]
 
 ghost use Rattle.std.specs.Prelude.{◌≡◌};
+ghost use Rattle.std.specs.Process.{exit_status};
 ghost use Rattle.gr_top.specs.declared.cause.Cause.{Cause as TheCause};
 ghost use Rattle.gr_top.specs.Causes.{status_of};
 
@@ -18,7 +19,9 @@ pub struct Ended {
 }
 
 impl Termination for Ended {
-    fn report<R: Eprint>(self, _rt: &R) -> ExitCode {
+    fn report<R: Eprint>(self, _rt: &R) -> ExitCode
+        ensures { exit_status result ≡ self.status }
+    {
         let Ended { status } = self;
         ExitCode::from(status)
     }

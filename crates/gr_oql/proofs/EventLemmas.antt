@@ -16,7 +16,8 @@ same : (key : List ℕ) → bytes_eq key key ≡ true
 same key = (bytes_eq-Decides key key).1 refl
 
 there : (before after : Bool) (base : BaseOp) (key : List ℕ) (old new : Option (List Field)) (present : Present)
-    → present key ≡ (if before then old else None) → with_told (event_by before after base key new) present key ≡ (if after then new else None)
+    → present key ≡ (if before then old else None)
+        → with_told (event_by before after base key new) present key ≡ (if after then new else None)
 there false false base key old new present stood = stood
 there false true base key old new present stood = rw (same key) refl
 there true false base key old new present stood = rw (same key) refl
@@ -32,9 +33,11 @@ elsewhere true true base key other new present apart = rw apart refl
 -- An event leaves at its key what matches of the new value, where there stood what matches of the old one.
 pub with_told-there : (question : Question) (key : List ℕ) (old new : Option (List Field)) (present : Present)
     → present key ≡ where_matching question old → with_told (event_of question key old new) present key ≡ where_matching question new
-with_told-there question key old new present stood = there (is_match question old) (is_match question new) (base_op old new) key old new present stood
+with_told-there question key old new present stood =
+    there (is_match question old) (is_match question new) (base_op old new) key old new present stood
 
 -- It leaves all other keys as they were.
 pub with_told-elsewhere : (question : Question) (key other : List ℕ) (old new : Option (List Field)) (present : Present)
     → bytes_eq other key ≡ false → with_told (event_of question key old new) present other ≡ present other
-with_told-elsewhere question key other old new present apart = elsewhere (is_match question old) (is_match question new) (base_op old new) key other new present apart
+with_told-elsewhere question key other old new present apart =
+    elsewhere (is_match question old) (is_match question new) (base_op old new) key other new present apart

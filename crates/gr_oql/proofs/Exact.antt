@@ -23,18 +23,22 @@ use Rattle.gr_oql.proofs.FaultTexts.{answered, fault_there}
 same_question : {x y : Question} → ◌≡◌ {A = Result Question OqlFault} (Ok x) (Ok y) → x ≡ y
 same_question is = cc
 
-answer_spelled : (text : List ℕ) (tokens : List Token) (read : Reading Asked) (q : Question) → IsLaidOut text 0 tokens → read ≡ query_at (terminals_of text tokens) → answer text tokens read ≡ Ok q → Spells text q
+answer_spelled : (text : List ℕ) (tokens : List Token) (read : Reading Asked) (q : Question) → IsLaidOut text 0 tokens
+    → read ≡ query_at (terminals_of text tokens) → answer text tokens read ≡ Ok q → Spells text q
 answer_spelled text tokens (Ok x) q laid is read =
     let sound = query_sound most_depth (terminals_of text tokens) x.0 x.1 (sym is) in
     subst (Spells text) (same_question read) (tokens, laid, refl, sound.1)
 answer_spelled text tokens (Err e) q laid is read = absurd (cc)
 
 -- what the code keeps of what it read
-pub clauses_spelled : (text : List ℕ) (tokens : List Token) (s : Clauses) (left : List Terminal) → IsLaidOut text 0 tokens → query_at (terminals_of text tokens) ≡ Ok (asked s, left) → Spells text (question text s)
-clauses_spelled text tokens s left laid read = (tokens, laid, refl, (query_sound most_depth (terminals_of text tokens) (asked s) left read).1)
+pub clauses_spelled : (text : List ℕ) (tokens : List Token) (s : Clauses) (left : List Terminal) → IsLaidOut text 0 tokens
+    → query_at (terminals_of text tokens) ≡ Ok (asked s, left) → Spells text (question text s)
+clauses_spelled text tokens s left laid read =
+    (tokens, laid, refl, (query_sound most_depth (terminals_of text tokens) (asked s) left read).1)
 
 -- An answer that is what is read, where that is known, or want of memory.
-answers_known : (result read known : Result Question OqlFault) → Answers result read → read ≡ known → (result ≡ known) ⊎ (result ≡ Err fault.Memory)
+answers_known : (result read known : Result Question OqlFault) → Answers result read → read ≡ known → (result ≡ known)
+    ⊎ (result ≡ Err fault.Memory)
 answers_known (Ok q) read known answers is = inl (sym answers ∙ is)
 answers_known (Err fault.Memory) read known answers is = inr refl
 answers_known (Err (fault.Lex lex.Memory)) read known answers is = absurd answers
@@ -56,45 +60,58 @@ no_lexed_memory (Err (fault.Expected place)) answers = absurd (cc)
 no_lexed_memory (Err (fault.NotACq place part)) answers = absurd (cc)
 no_lexed_memory (Err (fault.TooDeep place)) answers = absurd (cc)
 
-module _ (text : List ℕ) (lexed : Result (List Token) LexFault) (result : Result Question OqlFault) (answers : Answers result (answer_of_tokens text lexed)) where
+module _ (text : List ℕ) (lexed : Result (List Token) LexFault) (result : Result Question OqlFault)
+    (answers : Answers result (answer_of_tokens text lexed)) where
   -- an answer where it is known what the tokens are, unless memory is refused
-  known : (l : Result (List Token) LexFault) (answer : Result Question OqlFault) → answer_of_tokens text l ≡ answer → (lexed ≡ l) ⊎ (lexed ≡ Err lex.Memory) → (result ≡ answer) ⊎ (result ≡ Err fault.Memory)
+  known : (l : Result (List Token) LexFault) (answer : Result Question OqlFault) → answer_of_tokens text l ≡ answer → (lexed ≡ l)
+      ⊎ (lexed ≡ Err lex.Memory) → (result ≡ answer) ⊎ (result ≡ Err fault.Memory)
   known l answer is lexes =
       ⊎_elim
       (λ same. answers_known result _ answer answers (ap (answer_of_tokens text) same ∙ is))
-      (λ none. inr (no_lexed_memory result (subst (λ (l : Result (List Token) LexFault). Answers result (answer_of_tokens text l)) none answers)))
+      (λ none. inr (no_lexed_memory result
+          (subst (λ (l : Result (List Token) LexFault). Answers result (answer_of_tokens text l)) none answers)))
       lexes
 
   -- what is spelled so is read
-  pub only : ((ts : List Token) → IsLaidOut text 0 ts → (lexed ≡ Ok ts) ⊎ (lexed ≡ Err lex.Memory)) → (q : Question) → Spells text q → (result ≡ Ok q) ⊎ (result ≡ Err fault.Memory)
+  pub only : ((ts : List Token) → IsLaidOut text 0 ts → (lexed ≡ Ok ts) ⊎ (lexed ≡ Err lex.Memory)) → (q : Question) → Spells text q
+      → (result ≡ Ok q) ⊎ (result ≡ Err fault.Memory)
   only lexes q is =
       let read = query_complete most_depth (terminals_of text is.0) q.asked is.3 in
-      let there : answer text is.0 (query_at (terminals_of text is.0)) ≡ Ok q = rw read (ap (λ (l : List ℕ). Ok (record { text = l; asked = q.asked })) (sym is.2)) in
+      let there : answer text is.0 (query_at (terminals_of text is.0)) ≡ Ok q =
+          rw read (ap (λ (l : List ℕ). Ok (record { text = l; asked = q.asked })) (sym is.2)) in
       known (Ok is.0) (Ok q) there (lexes is.0 is.1)
 
   -- a text with such a fault has that answer
-  pub only_fault : ((ts : List Token) → IsLaidOut text 0 ts → (lexed ≡ Ok ts) ⊎ (lexed ≡ Err lex.Memory)) → ((f : LexFault) → lexical.IsFault text f → (lexed ≡ Err f) ⊎ (lexed ≡ Err lex.Memory)) → (f : OqlFault) → IsFault text f → (result ≡ Err f) ⊎ (result ≡ Err fault.Memory)
+  pub only_fault : ((ts : List Token) → IsLaidOut text 0 ts → (lexed ≡ Ok ts) ⊎ (lexed ≡ Err lex.Memory))
+      → ((f : LexFault) → lexical.IsFault text f → (lexed ≡ Err f) ⊎ (lexed ≡ Err lex.Memory)) → (f : OqlFault) → IsFault text f
+      → (result ≡ Err f) ⊎ (result ≡ Err fault.Memory)
   only_fault lexes faults f (inl h) = known (Err h.0) (Err f) (ap (λ (g : OqlFault). Err g) (sym h.2)) (faults h.0 h.1)
   only_fault lexes faults f (inr h) = known (Ok (h.0 ++ h.1)) (Err f) (fault_there text f h) (lexes (h.0 ++ h.1) h.3)
 
-lexed_spelled : (text : List ℕ) (lexed : Result (List Token) LexFault) (q : Question) → IfOk lexed (λ ts. IsLaidOut text 0 ts) → answer_of_tokens text lexed ≡ Ok q → Spells text q
+lexed_spelled : (text : List ℕ) (lexed : Result (List Token) LexFault) (q : Question) → IfOk lexed (λ ts. IsLaidOut text 0 ts)
+    → answer_of_tokens text lexed ≡ Ok q → Spells text q
 lexed_spelled text (Ok tokens) q laid read = answer_spelled text tokens _ q laid refl read
 lexed_spelled text (Err fault) q laid read = absurd (cc)
 
 -- what is read is spelled so
-pub spelled : (text : List ℕ) (lexed : Result (List Token) LexFault) (result : Result Question OqlFault) → Answers result (answer_of_tokens text lexed) → IfOk lexed (λ ts. IsLaidOut text 0 ts) → IfOk result (Spells text)
+pub spelled : (text : List ℕ) (lexed : Result (List Token) LexFault) (result : Result Question OqlFault)
+    → Answers result (answer_of_tokens text lexed) → IfOk lexed (λ ts. IsLaidOut text 0 ts) → IfOk result (Spells text)
 spelled text lexed (Ok q) read laid = lexed_spelled text lexed q laid read
 spelled text lexed (Err fault) read laid = tt
 
 -- a fault of the tokens, or of what they ask
-lexed_fault : (text : List ℕ) (lexed : Result (List Token) LexFault) (f : OqlFault) → IfOk lexed (λ ts. IsLaidOut text 0 ts) → IfErr lexed (λ l. (l ≡ lex.Memory) ⊎ lexical.IsFault text l) → (f ≡ fault.Lex lex.Memory → ⊥) → answer_of_tokens text lexed ≡ Err f → IsFault text f
+lexed_fault : (text : List ℕ) (lexed : Result (List Token) LexFault) (f : OqlFault) → IfOk lexed (λ ts. IsLaidOut text 0 ts)
+    → IfErr lexed (λ l. (l ≡ lex.Memory) ⊎ lexical.IsFault text l) → (f ≡ fault.Lex lex.Memory → ⊥) → answer_of_tokens text lexed ≡ Err f
+    → IsFault text f
 lexed_fault text (Ok tokens) f laid faults other read = answered text tokens _ f laid refl read
 lexed_fault text (Err l) f laid faults other read =
     let given : fault.Lex l ≡ f = cc in
     ⊎_elim (λ none. absurd (other (sym given ∙ ap fault.Lex none))) (λ is. inl (l, is, sym given)) faults
 
 -- a fault is the first that the grammar has
-pub stops : (text : List ℕ) (lexed : Result (List Token) LexFault) (result : Result Question OqlFault) → Answers result (answer_of_tokens text lexed) → IfOk lexed (λ ts. IsLaidOut text 0 ts) → IfErr lexed (λ l. (l ≡ lex.Memory) ⊎ lexical.IsFault text l) → IfErr result (λ f. (f ≡ fault.Memory) ⊎ IsFault text f)
+pub stops : (text : List ℕ) (lexed : Result (List Token) LexFault) (result : Result Question OqlFault)
+    → Answers result (answer_of_tokens text lexed) → IfOk lexed (λ ts. IsLaidOut text 0 ts)
+    → IfErr lexed (λ l. (l ≡ lex.Memory) ⊎ lexical.IsFault text l) → IfErr result (λ f. (f ≡ fault.Memory) ⊎ IsFault text f)
 stops text lexed (Ok q) read laid faults = tt
 stops text lexed (Err fault.Memory) read laid faults = inl refl
 stops text lexed (Err (fault.Lex lex.Memory)) read laid faults = absurd read

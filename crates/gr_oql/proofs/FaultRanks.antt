@@ -1,5 +1,6 @@
 -- Of the faults that fit, the reader of a query stops with the first.
-use Rattle.std.proofs.Common.{◌≡◌, ℕ, suc, ◌<◌, ◌≤◌, leb, List, [], ◌∷◌, ◌++◌, Err, Option, Some, None, Bool, true, false, ⊎_elim, refl, sym, ap, ◌∙◌, subst, arith}
+use Rattle.std.proofs.Common.{◌≡◌, ℕ, suc, ◌<◌, ◌≤◌, leb, List, [], ◌∷◌, ◌++◌, Err, Option, Some, None, Bool, true, false, ⊎_elim, refl}
+use Rattle.std.proofs.Common.{sym, ap, ◌∙◌, subst, arith}
 use Rattle.std.proofs.lemmas.Bool.{or_cases, cases_Bool, leb-true, leb-false}
 use Rattle.gr_lex.specs.declared.token.Symbol.TheVariants as symbols
 use Rattle.gr_oql.specs.declared.keyword.Keyword.{Keyword}
@@ -47,7 +48,8 @@ ends_at_comma (t ∷ more) is = record {
 }
 
 -- a keyword of the tail is none that goes on with a query
-ends_at_keyword : (k : Keyword) (t : Terminal) (more : List Terminal) → is_keyword k t ≡ true → keyword_eq k word.As ≡ false → keyword_eq k word.Where ≡ false → keyword_eq k word.And ≡ false → keyword_eq k word.Or ≡ false → EndsQuery (t ∷ more)
+ends_at_keyword : (k : Keyword) (t : Terminal) (more : List Terminal) → is_keyword k t ≡ true → keyword_eq k word.As ≡ false
+    → keyword_eq k word.Where ≡ false → keyword_eq k word.And ≡ false → keyword_eq k word.Or ≡ false → EndsQuery (t ∷ more)
 ends_at_keyword k t more is no_as no_where no_and no_or = record {
   no_as = keyword_other k word.As t no_as is;
   no_name = keyword_no_name k t is;
@@ -83,7 +85,8 @@ tail_ends c [] is = absurd (cc)
 tail_ends None (t ∷ more) is = let no_comma = no_tail_is_comma t is in rw (no_comma, is) refl
 tail_ends (Some c) (t ∷ more) is = rw is refl
 
-comma_ends : (c : Option Tree) (left : List Terminal) → c ≡ None → begins (is_symbol symbols.Comma) left ≡ true → end_by c left ≡ Err (NotACq part.Join, left)
+comma_ends : (c : Option Tree) (left : List Terminal) → c ≡ None → begins (is_symbol symbols.Comma) left ≡ true
+    → end_by c left ≡ Err (NotACq part.Join, left)
 comma_ends None left none is = rw is refl
 comma_ends (Some c) left none is = absurd (cc)
 
@@ -108,18 +111,21 @@ module _ (before left : List Terminal) (w : Wrong) (read : query_at (before ++ l
     distinct_first : begins (is_keyword word.Distinct) left ≡ true → NotACq part.Distinct ≡ w
     distinct_first is = by_left left is selects
       where
-        by_left : (l : List Terminal) → begins (is_keyword word.Distinct) l ≡ true → query_at (s ∷ l) ≡ Err (w, left) → NotACq part.Distinct ≡ w
+        by_left : (l : List Terminal) → begins (is_keyword word.Distinct) l ≡ true → query_at (s ∷ l) ≡ Err (w, left)
+            → NotACq part.Distinct ≡ w
         by_left [] is stops = absurd (cc)
         by_left (t ∷ more) is stops =
             let no_star = keyword_no_symbol word.Distinct symbols.Star t is in
-            let stop_there : query_at (s ∷ t ∷ more) ≡ Err (NotACq part.Distinct, t ∷ more) = rw (no_import, is_select, no_star, is) refl in
+            let stop_there : query_at (s ∷ t ∷ more) ≡ Err (NotACq part.Distinct, t ∷ more) = rw (no_import, is_select, no_star, is) refl
+                in
             wrong_is (sym stop_there ∙ stops)
 
     projection_first : (left ≡ [] → ⊥) → rank w ≤ 2
     projection_first some = by_left left refl
       where
         star_start : (t : Terminal) → is_symbol symbols.Star t ≡ true → IsStart most_depth (before ++ t ∷ [])
-        star_start t star = subst (λ (l : List Terminal). IsStart most_depth (l ++ t ∷ [])) (sym one) (least, least_from, from_known, (s ∷ [], t ∷ least_from, refl, (s, is_select, refl), (t ∷ [], least_from, refl, (t, star, refl), from_spelled)))
+        star_start t star = subst (λ (l : List Terminal). IsStart most_depth (l ++ t ∷ [])) (sym one) (least, least_from, from_known,
+            (s ∷ [], t ∷ least_from, refl, (s, is_select, refl), (t ∷ [], least_from, refl, (t, star, refl), from_spelled)))
 
         by_left : (l : List Terminal) → left ≡ l → rank w ≤ 2
         by_left [] none = absurd (some none)
@@ -129,12 +135,15 @@ module _ (before left : List Terminal) (w : Wrong) (read : query_at (before ++ l
             stops = ap (λ (l : List Terminal). query_at (s ∷ l)) (sym is) ∙ selects
 
             by_star : (b c : Bool) → is_symbol symbols.Star t ≡ b → is_keyword word.Distinct t ≡ c → rank w ≤ 2
-            by_star true c star distinct = absurd (subst (λ (l : List Terminal). IsOver before l) is (over before left w read) (star_start t star))
+            by_star true c star distinct = absurd
+                (subst (λ (l : List Terminal). IsOver before l) is (over before left w read) (star_start t star))
             by_star false true no_star distinct =
-                let stop_there : query_at (s ∷ t ∷ more) ≡ Err (NotACq part.Distinct, t ∷ more) = rw (no_import, is_select, no_star, distinct) refl in
+                let stop_there : query_at (s ∷ t ∷ more) ≡ Err (NotACq part.Distinct, t ∷ more) =
+                    rw (no_import, is_select, no_star, distinct) refl in
                 subst (λ (u : Wrong). rank u ≤ 2) (wrong_is (sym stop_there ∙ stops)) (omega arith)
             by_star false false no_star no_distinct =
-                let stop_there : query_at (s ∷ t ∷ more) ≡ Err (NotACq part.Projection, t ∷ more) = rw (no_import, is_select, no_star, no_distinct) refl in
+                let stop_there : query_at (s ∷ t ∷ more) ≡ Err (NotACq part.Projection, t ∷ more) =
+                    rw (no_import, is_select, no_star, no_distinct) refl in
                 subst (λ (u : Wrong). rank u ≤ 2) (wrong_is (sym stop_there ∙ stops)) (omega arith)
 
 -- a number that isn't above another
@@ -145,33 +154,48 @@ unless m n never = ⊎_elim (λ within. leb-true m n within) (λ above. absurd (
 module _ (before : List Terminal) (t : Terminal) (m : List Terminal) (w : Wrong) (read : query_at (before ++ t ∷ m) ≡ Err (w, t ∷ m)) where
   bind_first : is_symbol symbols.Dollar t ≡ true → IsStart most_depth (before ++ symbol symbols.Minus ∷ []) → rank w ≤ 5
   bind_first dollar start = unless (rank w) 5 (λ above.
-      no_start t (symbol symbols.Minus) m (λ u. u ≡ NotACq part.Bind → ⊥) 0 (λ m'. no_dollar t m m' dollar) (sym (symbol_no_keyword symbols.Dollar word.Import t dollar)) before w (λ same. omega (arith, above, ap rank same)) read start)
+      no_start t (symbol symbols.Minus) m (λ u. u ≡ NotACq part.Bind
+          → ⊥) 0 (λ m'. no_dollar t m m' dollar) (sym (symbol_no_keyword symbols.Dollar word.Import t dollar)) before w
+          (λ same. omega (arith, above, ap rank same)) read start)
 
-  escape_first : (pattern : List ℕ) → t ≡ quoted pattern → has_backslash pattern ≡ true → IsStart most_depth (before ++ quoted [] ∷ []) → rank w ≤ 6
+  escape_first : (pattern : List ℕ) → t ≡ quoted pattern → has_backslash pattern ≡ true → IsStart most_depth (before ++ quoted [] ∷ [])
+      → rank w ≤ 6
   escape_first pattern quotes escaped start = unless (rank w) 6 (λ above.
-      no_start (quoted pattern) (quoted []) m (λ u. u ≡ NotACq part.Escape → ⊥) 0 (λ m'. no_escape pattern m m' escaped) refl before w (λ same. omega (arith, above, ap rank same)) (subst (λ (u : Terminal). query_at (before ++ u ∷ m) ≡ Err (w, u ∷ m)) quotes read) start)
+      no_start (quoted pattern) (quoted []) m (λ u. u ≡ NotACq part.Escape
+          → ⊥) 0 (λ m'. no_escape pattern m m' escaped) refl before w (λ same. omega (arith, above, ap rank same))
+          (subst (λ (u : Terminal). query_at (before ++ u ∷ m) ≡ Err (w, u ∷ m)) quotes read) start)
 
   deep_first : IsStart (suc most_depth) (before ++ t ∷ []) → rank w ≤ 7
   deep_first start = unless (rank w) 7 (λ above.
-      no_start t t m (λ u. u ≡ TooDeep → ⊥) 1 (itself_alike t m (λ u. u ≡ TooDeep → ⊥) 1 (λ alias m' ordinary opens. absurd (ordinary refl))) refl before w (λ same. omega (arith, above, ap rank same)) read start)
+      no_start t t m (λ u. u ≡ TooDeep
+          → ⊥) 1 (itself_alike t m (λ u. u ≡ TooDeep → ⊥) 1 (λ alias m' ordinary opens. absurd (ordinary refl))) refl before w
+          (λ same. omega (arith, above, ap rank same)) read start)
 
 -- each fault that fits comes no earlier than the one with which the reader stopped
-first : (before left : List Terminal) (w : Wrong) → query_at (before ++ left) ≡ Err (w, left) → (other : Wrong) → Fits before left other → rank w ≤ rank other
+first : (before left : List Terminal) (w : Wrong) → query_at (before ++ left) ≡ Err (w, left) → (other : Wrong) → Fits before left other
+    → rank w ≤ rank other
 first before left w read Expected fits = at_most_last w
 first before left w read TooDeep fits =
     deep_first before fits.0 fits.1 w (subst (λ (l : List Terminal). query_at (before ++ l) ≡ Err (w, l)) fits.2 read) fits.3
 first before left w read (NotACq part.Import) fits = same_rank (NotACq part.Import) w (import_first before left w read fits.0 fits.1)
-first before left w read (NotACq part.Distinct) fits = same_rank (NotACq part.Distinct) w (distinct_first before left w read fits.0.0 fits.0.1 fits.0.2 fits.1)
+first before left w read (NotACq part.Distinct) fits =
+    same_rank (NotACq part.Distinct) w (distinct_first before left w read fits.0.0 fits.0.1 fits.0.2 fits.1)
 first before left w read (NotACq part.Projection) fits = projection_first before left w read fits.0.0 fits.0.1 fits.0.2 fits.1
-first before left w read (NotACq part.Join) fits = same_rank (NotACq part.Join) w (at_end before left w read fits.0 (NotACq part.Join) fits.2 (ends_at_comma left fits.3) (comma_ends fits.0.condition left fits.1 fits.3))
-first before left w read (NotACq part.Tail) fits = same_rank (NotACq part.Tail) w (at_end before left w read fits.0 (NotACq part.Tail) fits.1 (ends_at_tail left fits.2) (tail_ends fits.0.condition left fits.2))
+first before left w read (NotACq part.Join) fits =
+    same_rank (NotACq part.Join) w (at_end before left w read fits.0 (NotACq part.Join) fits.2 (ends_at_comma left fits.3)
+    (comma_ends fits.0.condition left fits.1 fits.3))
+first before left w read (NotACq part.Tail) fits =
+    same_rank (NotACq part.Tail) w (at_end before left w read fits.0 (NotACq part.Tail) fits.1 (ends_at_tail left fits.2)
+    (tail_ends fits.0.condition left fits.2))
 first before [] w read (NotACq part.Bind) fits = absurd (cc fits.1)
 first before (t ∷ m) w read (NotACq part.Bind) fits = bind_first before t m w read fits.1 fits.0
 first before left w read (NotACq part.Escape) fits =
-    escape_first before (quoted fits.1.0) fits.1.1 w (subst (λ (l : List Terminal). query_at (before ++ l) ≡ Err (w, l)) fits.1.2 read) fits.1.0 refl fits.1.3 fits.0
+    escape_first before (quoted fits.1.0) fits.1.1 w
+        (subst (λ (l : List Terminal). query_at (before ++ l) ≡ Err (w, l)) fits.1.2 read) fits.1.0 refl fits.1.3 fits.0
 
 -- Where the reader of a query stops, the terminals cease to begin a query, for that fault.
-pub query_ceases : (ts : List Terminal) (w : Wrong) (left : List Terminal) → AreSpelled ts → query_at ts ≡ Err (w, left) → (before : List Terminal) × (ts ≡ before ++ left) × Ceases before left w
+pub query_ceases : (ts : List Terminal) (w : Wrong) (left : List Terminal) → AreSpelled ts → query_at ts ≡ Err (w, left)
+    → (before : List Terminal) × (ts ≡ before ++ left) × Ceases before left w
 query_ceases ts w left known read =
     let s = query_stopped ts w left known read in
     let stops : query_at (s.before ++ left) ≡ Err (w, left) = ap query_at (sym s.split) ∙ read in

@@ -1,5 +1,6 @@
 -- A fault is the first that the grammar has, at the first terminal with which no query goes on.
-use Rattle.std.proofs.Common.{◌≡◌, ℕ, List, [], ◌∷◌, ◌++◌, length, Ok, Err, Option, Some, None, true, ◌||◌, inl, inr, ⊎_elim, refl, sym, ap, ◌∙◌, append_assoc, append-nil, leb, ltb, arith}
+use Rattle.std.proofs.Common.{◌≡◌, ℕ, List, [], ◌∷◌, ◌++◌, length, Ok, Err, Option, Some, None, true, ◌||◌, inl, inr, ⊎_elim, refl, sym}
+use Rattle.std.proofs.Common.{ap, ◌∙◌, append_assoc, append-nil, leb, ltb, arith}
 use Rattle.gr_lex.specs.declared.token.Symbol.TheVariants as symbols
 use Rattle.gr_lex.specs.Bytes.{greatest_number}
 use Rattle.gr_oql.specs.Grammar.{has_backslash, most_depth}
@@ -22,8 +23,10 @@ not_both (Ok y) x e reads stops = absurd (cc)
 not_both (Err d) x e reads stops = absurd (cc)
 
 -- No query goes on with a terminal that is read like the one at which the reader stopped.
-pub no_start : (t t' : Terminal) (m : List Terminal) (Ordinary : Wrong → Type 0) (bottom : ℕ) → ((m' : List Terminal) → Alike t t' m m' Ordinary bottom) → is_keyword word.Import t' ≡ is_keyword word.Import t
-    → (before : List Terminal) (w : Wrong) → Ordinary w → query_at (before ++ t ∷ m) ≡ Err (w, t ∷ m) → IsStart (raised bottom most_depth) (before ++ t' ∷ []) → ⊥
+pub no_start : (t t' : Terminal) (m : List Terminal) (Ordinary : Wrong → Type 0) (bottom : ℕ)
+    → ((m' : List Terminal) → Alike t t' m m' Ordinary bottom) → is_keyword word.Import t' ≡ is_keyword word.Import t
+    → (before : List Terminal) (w : Wrong) → Ordinary w → query_at (before ++ t ∷ m) ≡ Err (w, t ∷ m)
+        → IsStart (raised bottom most_depth) (before ++ t' ∷ []) → ⊥
 no_start t t' m Ordinary bottom alike imports before w ordinary read start =
     let m' = start.1 in
     let stays = query_stays (alike m') imports most_depth in
@@ -38,8 +41,10 @@ negative_stops None ts w left read = place_is read
 negative_stops (Some n) ts w left read = ⊎_elim (λ h. absurd (cc h.1)) (λ h. place_is h.1) (chosen (leb n greatest_number) _ _ _ read)
 
 module _ (t : Terminal) (m m' : List Terminal) (w : Wrong) where
-  plain_again : (n : Option ℕ) (text : Option (List ℕ)) → plain_by n text (t ∷ m) ≡ Err (w, t ∷ m) → (w' : Wrong) × (plain_by n text (t ∷ m') ≡ Err (w', t ∷ m'))
-  plain_again (Some n) text read = ⊎_elim (λ h. absurd (cc h.1)) (λ h. let large = h.0 in (Expected, rw large refl)) (chosen (ltb n greatest_number) _ _ _ read)
+  plain_again : (n : Option ℕ) (text : Option (List ℕ)) → plain_by n text (t ∷ m) ≡ Err (w, t ∷ m) → (w' : Wrong)
+      × (plain_by n text (t ∷ m') ≡ Err (w', t ∷ m'))
+  plain_again (Some n) text read =
+      ⊎_elim (λ h. absurd (cc h.1)) (λ h. let large = h.0 in (Expected, rw large refl)) (chosen (ltb n greatest_number) _ _ _ read)
   plain_again None (Some text) read = absurd (cc)
   plain_again None None read = (_, refl)
 
@@ -68,12 +73,17 @@ module _ (t : Terminal) (m m' : List Terminal) (w : Wrong) where
       (chosen (is_keyword word.True t) _ _ _ r1.1))
       (chosen (is_symbol symbols.Minus t) _ _ _ read)
 
-  pattern_again : (text : Option (List ℕ)) → pattern_by text (t ∷ m) ≡ Err (w, t ∷ m) → (w' : Wrong) × (pattern_by text (t ∷ m') ≡ Err (w', t ∷ m'))
+  pattern_again : (text : Option (List ℕ)) → pattern_by text (t ∷ m) ≡ Err (w, t ∷ m) → (w' : Wrong)
+      × (pattern_by text (t ∷ m') ≡ Err (w', t ∷ m'))
   pattern_again None read = (Expected, refl)
-  pattern_again (Some text) read = ⊎_elim (λ h. let escaped = h.0 in (NotACq part.Escape, rw escaped refl)) (λ h. absurd (cc h.1)) (chosen (has_backslash text) _ _ _ read)
+  pattern_again (Some text) read =
+      ⊎_elim (λ h. let escaped = h.0 in
+      (NotACq part.Escape, rw escaped refl)) (λ h. absurd (cc h.1)) (chosen (has_backslash text) _ _ _ read)
 
 pub itself_alike : (t : Terminal) (m : List Terminal) (Ordinary : Wrong → Type 0) (bottom : ℕ)
-    → ((alias : Option (List ℕ)) (m' : List Terminal) → Ordinary TooDeep → (is_keyword word.Not t || is_symbol symbols.LeftBracket t) ≡ true → (w' : Wrong) × (part_at alias bottom (t ∷ m') ≡ Err (w', t ∷ m')))
+    → ((alias : Option (List ℕ)) (m' : List Terminal) → Ordinary TooDeep
+        → (is_keyword word.Not t || is_symbol symbols.LeftBracket t) ≡ true → (w' : Wrong)
+        × (part_at alias bottom (t ∷ m') ≡ Err (w', t ∷ m')))
     → (m' : List Terminal) → Alike t t m m' Ordinary bottom
 itself_alike t m Ordinary bottom deep m' = record {
   no_symbol = λ s other none. none;
@@ -88,11 +98,15 @@ itself_alike t m Ordinary bottom deep m' = record {
 
 -- where the reader stopped, nothing goes on
 pub over : (before left : List Terminal) (w : Wrong) → query_at (before ++ left) ≡ Err (w, left) → IsOver before left
-over before [] w read = λ q is. not_both (query_at before) _ _ (query_complete most_depth before q is) (sym (ap query_at (append-nil before)) ∙ read)
-over before (t ∷ m) w read = λ start. no_start t t m (λ v. Unit {0}) 0 (itself_alike t m (λ v. Unit {0}) 0 (λ alias m' ordinary opens. (TooDeep, rw opens refl))) refl before w tt read start
+over before [] w read = λ q is.
+    not_both (query_at before) _ _ (query_complete most_depth before q is) (sym (ap query_at (append-nil before)) ∙ read)
+over before (t ∷ m) w read = λ start.
+    no_start t t m (λ v. Unit {0}) 0
+    (itself_alike t m (λ v. Unit {0}) 0 (λ alias m' ordinary opens. (TooDeep, rw opens refl))) refl before w tt read start
 
 -- which fault comes first
-pub no_dollar : (t : Terminal) (m m' : List Terminal) → is_symbol symbols.Dollar t ≡ true → Alike t (symbol symbols.Minus) m m' (λ w. w ≡ NotACq part.Bind → ⊥) 0
+pub no_dollar : (t : Terminal) (m m' : List Terminal) → is_symbol symbols.Dollar t ≡ true
+    → Alike t (symbol symbols.Minus) m m' (λ w. w ≡ NotACq part.Bind → ⊥) 0
 no_dollar (name v) m m' is = absurd (cc)
 no_dollar (keyword k v) m m' is = absurd (cc)
 no_dollar (number n) m m' is = absurd (cc)
@@ -114,7 +128,8 @@ no_dollar (symbol s) m m' is = record {
         let bind : literal_at (symbol s ∷ m) ≡ Err (NotACq part.Bind, symbol s ∷ m) = rw (no_minus, is) refl in
         wrong_is (sym bind ∙ read)
 
-pub no_escape : (pattern : List ℕ) (m m' : List Terminal) → has_backslash pattern ≡ true → Alike (quoted pattern) (quoted []) m m' (λ w. w ≡ NotACq part.Escape → ⊥) 0
+pub no_escape : (pattern : List ℕ) (m m' : List Terminal) → has_backslash pattern ≡ true
+    → Alike (quoted pattern) (quoted []) m m' (λ w. w ≡ NotACq part.Escape → ⊥) 0
 no_escape pattern m m' is = record {
   no_symbol = λ other is_other none. refl;
   no_keyword = λ k none. refl;

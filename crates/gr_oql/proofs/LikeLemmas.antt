@@ -1,5 +1,6 @@
 -- That a text is matched as far as it can be from the front, and never tried again before the last `%`.
-use Rattle.std.proofs.Common.{◌≡◌, ℕ, zero, suc, ◌+◌, ◌==◌, ◌||◌, ◌&&◌, List, [], ◌∷◌, Bool, true, false, drop, refl, sym, ap, ◌∙◌, subst, drop-drop, arith}
+use Rattle.std.proofs.Common.{◌≡◌, ℕ, zero, suc, ◌+◌, ◌==◌, ◌||◌, ◌&&◌, List, [], ◌∷◌, Bool, true, false, drop, refl, sym, ap, ◌∙◌, subst}
+use Rattle.std.proofs.Common.{drop-drop, arith}
 use Rattle.std.specs.List.{list_any}
 use Rattle.gr_oql.specs.Like.{ends, percent, stands_for, first_and_rest, is_like, has_end_like}
 use Rattle.gr_oql.specs.Reader.Walk.{Follows, MeetsPercent}
@@ -49,11 +50,14 @@ has_end_like-drop pattern text k h =
 pub follows_start : (pattern text : List ℕ) → Follows pattern text pattern text
 follows_start pattern text = record { same = refl; later = λ k h. h }
 
-pub Follows-trans : (pattern text mid left wanted rest : List ℕ) → Follows pattern text mid left → Follows mid left wanted rest → Follows pattern text wanted rest
+pub Follows-trans : (pattern text mid left wanted rest : List ℕ) → Follows pattern text mid left → Follows mid left wanted rest
+    → Follows pattern text wanted rest
 Follows-trans pattern text mid left wanted rest one two = record { same = one.same ∙ two.same; later = λ k h. two.later k (one.later k h) }
 
-pub MeetsPercent-after : (pattern text mid left behind rest : List ℕ) → Follows pattern text mid left → MeetsPercent mid left behind rest → MeetsPercent pattern text behind rest
-MeetsPercent-after pattern text mid left behind rest one two = record { same = one.same ∙ two.same; later = λ k h. two.later k (one.later k h) }
+pub MeetsPercent-after : (pattern text mid left behind rest : List ℕ) → Follows pattern text mid left → MeetsPercent mid left behind rest
+    → MeetsPercent pattern text behind rest
+MeetsPercent-after pattern text mid left behind rest one two =
+    record { same = one.same ∙ two.same; later = λ k h. two.later k (one.later k h) }
 
 rest_passes : (p : ℕ) (test : List ℕ → Bool) (text : List ℕ) → first_and_rest p test text ≡ true → test (drop 1 text) ≡ true
 rest_passes p test [] h = cc
@@ -72,7 +76,8 @@ plain p ps text h = rw h refl
 pub Follows-first : (p c : ℕ) (ps cs : List ℕ) → (p == percent) ≡ false → stands_for p c ≡ true → Follows (p ∷ ps) (c ∷ cs) ps cs
 Follows-first p c ps cs other stands = record {
   same = plain p ps (c ∷ cs) other ∙ rw stands refl;
-  later = λ k h. subst (λ left. is_like ps left ≡ true) (one_more k c cs) (rest_passes p (is_like ps) (drop k (c ∷ cs)) (sym (plain p ps (drop k (c ∷ cs)) other) ∙ h));
+  later = λ k h. subst (λ left. is_like ps left ≡ true) (one_more k c cs)
+      (rest_passes p (is_like ps) (drop k (c ∷ cs)) (sym (plain p ps (drop k (c ∷ cs)) other) ∙ h));
 }
 
 pub MeetsPercent-first : (ps text : List ℕ) → MeetsPercent (percent ∷ ps) text ps text
@@ -85,7 +90,8 @@ pub is_like-short : (p : ℕ) (ps : List ℕ) → (p == percent) ≡ false → i
 is_like-short p ps other = plain p ps [] other
 
 -- a `%` was met: only what stands behind it is left to be sought
-pub has_end_like-open : (pattern text behind left : List ℕ) → MeetsPercent pattern text behind left → has_end_like pattern text ≡ has_end_like behind left
+pub has_end_like-open : (pattern text behind left : List ℕ) → MeetsPercent pattern text behind left
+    → has_end_like pattern text ≡ has_end_like behind left
 has_end_like-open pattern text behind left meets =
     same_when (has_end_like pattern text) (has_end_like behind left)
     (λ h. let found = passed_at (is_like pattern) text h in has_end_like-drop behind left found.0 (meets.later found.0 found.1))
@@ -94,7 +100,8 @@ has_end_like-open pattern text behind left meets =
 pub has_end_like-whole : (pattern text : List ℕ) → is_like pattern text ≡ true → has_end_like pattern text ≡ true
 has_end_like-whole pattern text h = passes_at (is_like pattern) 0 text h
 
-pub has_end_like-next : (pattern cs : List ℕ) (c : ℕ) → is_like pattern (c ∷ cs) ≡ false → has_end_like pattern (c ∷ cs) ≡ has_end_like pattern cs
+pub has_end_like-next : (pattern cs : List ℕ) (c : ℕ) → is_like pattern (c ∷ cs) ≡ false
+    → has_end_like pattern (c ∷ cs) ≡ has_end_like pattern cs
 has_end_like-next pattern cs c h = rw h refl
 
 pub has_end_like-none : (pattern : List ℕ) → is_like pattern [] ≡ false → has_end_like pattern [] ≡ false

@@ -27,7 +27,8 @@ word_has (b ∷ bs) is =
     let parts = and_parts (is_letter b) (list_all is_word_byte bs) is in
     and_from _ _ (or_left _ _ parts.0) parts.1
 
-word_named : (bytes : List ℕ) (keyword : Option Keyword) → is_word bytes ≡ true → IfSome (as_name (word_terminal bytes keyword)) HasWordBytes
+word_named : (bytes : List ℕ) (keyword : Option Keyword) → is_word bytes ≡ true
+    → IfSome (as_name (word_terminal bytes keyword)) HasWordBytes
 word_named bytes None is = word_has bytes is
 word_named bytes (Some k) is = tt
 
@@ -39,13 +40,15 @@ token_named (kind.Symbol s) bytes is = tt
 
 pub tokens_named : (text : List ℕ) (tokens : List Token) → All (IsToken text) tokens → AreNamed (terminals_of text tokens)
 tokens_named text tokens are =
-    All-map (λ (t : Terminal). IfSome (as_name t) HasWordBytes) (terminal_of text) tokens (λ k d below. token_named _ _ (are k d below).of_kind)
+    All-map (λ (t : Terminal). IfSome (as_name t) HasWordBytes) (terminal_of text) tokens
+        (λ k d below. token_named _ _ (are k d below).of_kind)
 
 behind_first : (lexemes : List Lexeme) → AreNamed (terminals lexemes) → AreNamed (terminals (drop 1 lexemes))
 behind_first [] are = are
 behind_first (l ∷ ls) are = All-drop (λ (t : Terminal). IfSome (as_name t) HasWordBytes) 1 (terminals (l ∷ ls)) are
 
-pub behind_named : (lexemes : List Lexeme) → AreNamed (terminals lexemes) → AreNamed (terminals (take (length lexemes - 1) (drop 1 lexemes)))
+pub behind_named : (lexemes : List Lexeme) → AreNamed (terminals lexemes)
+    → AreNamed (terminals (take (length lexemes - 1) (drop 1 lexemes)))
 behind_named lexemes are = subst (λ (ls : List Lexeme). AreNamed (terminals ls)) (sym (take_rest lexemes 1)) (behind_first lexemes are)
 
 -- the keys that names make

@@ -9,7 +9,8 @@ pub chosen : {X : Type 0} (b : Bool) (x y z : X) → cond b x y ≡ z → ((b �
 chosen true x y z is = inl (refl, is)
 chosen false x y z is = inr (refl, is)
 
-pub bound : {A B : Type 0} (read : Reading A) (f : A × List Terminal → Reading B) (y : B) (left : List Terminal) → (read >>= f) ≡ Ok (y, left) → (x : A) × (middle : List Terminal) × (read ≡ Ok (x, middle)) × (f (x, middle) ≡ Ok (y, left))
+pub bound : {A B : Type 0} (read : Reading A) (f : A × List Terminal → Reading B) (y : B) (left : List Terminal)
+    → (read >>= f) ≡ Ok (y, left) → (x : A) × (middle : List Terminal) × (read ≡ Ok (x, middle)) × (f (x, middle) ≡ Ok (y, left))
 bound (Ok x) f y left is = (x.0, x.1, refl, is)
 bound (Err e) f y left is = absurd (cc)
 
@@ -22,7 +23,8 @@ value_is {A} same = ap (λ (p : A × List Terminal). p.0) (pair_is same)
 pub left_is : {A : Type 0} {a c : A} {k l : List Terminal} → ◌≡◌ {A = Reading A} (Ok (a, k)) (Ok (c, l)) → k ≡ l
 left_is {A} same = ap (λ (p : A × List Terminal). p.1) (pair_is same)
 
-pub made_of : {A B : Type 0} (make : A → B) (read : Reading A) (y : B) (left : List Terminal) → read_as make read ≡ Ok (y, left) → (x : A) × (read ≡ Ok (x, left)) × (make x ≡ y)
+pub made_of : {A B : Type 0} (make : A → B) (read : Reading A) (y : B) (left : List Terminal) → read_as make read ≡ Ok (y, left) → (x : A)
+    × (read ≡ Ok (x, left)) × (make x ≡ y)
 made_of make (Ok x) y left is = (x.0, ap (λ (l : List Terminal). Ok (x.0, l)) (left_is is), value_is is)
 made_of make (Err e) y left is = absurd (cc)
 
@@ -37,7 +39,8 @@ pub place_is : {A : Type 0} {v w : Wrong} {k l : List Terminal} → ◌≡◌ {A
 place_is same = ap (λ (e : Wrong × List Terminal). e.1) (error_is same)
 
 -- of two readers one behind the other, which one stopped
-pub stopped : {A B : Type 0} (read : Reading A) (f : A × List Terminal → Reading B) (e : Wrong × List Terminal) → (read >>= f) ≡ Err e → (read ≡ Err e) ⊎ ((x : A) × (middle : List Terminal) × (read ≡ Ok (x, middle)) × (f (x, middle) ≡ Err e))
+pub stopped : {A B : Type 0} (read : Reading A) (f : A × List Terminal → Reading B) (e : Wrong × List Terminal) → (read >>= f) ≡ Err e
+    → (read ≡ Err e) ⊎ ((x : A) × (middle : List Terminal) × (read ≡ Ok (x, middle)) × (f (x, middle) ≡ Err e))
 stopped (Ok x) f e is = inr (x.0, x.1, refl, is)
 stopped {A} {B} (Err d) f e is = inl (ap (λ (c : Wrong × List Terminal). Err c) (error_is {A = B} is))
 

@@ -1,5 +1,6 @@
 -- Terminals that tokens of texts are.
-use Rattle.std.proofs.Common.{◌≡◌, ℕ, ◌-◌, ◌<◌, List, [], ◌∷◌, ◌++◌, length, Option, Some, None, true, inl, inr, refl, sym, ap, subst, take_all, arith}
+use Rattle.std.proofs.Common.{◌≡◌, ℕ, ◌-◌, ◌<◌, List, [], ◌∷◌, ◌++◌, length, Option, Some, None, true, inl, inr, refl, sym, ap, subst}
+use Rattle.std.proofs.Common.{take_all, arith}
 use Rattle.std.specs.List.{AllByRecursion}
 use Rattle.std.proofs.lemmas.List.{drop_all}
 use Rattle.gr_lex.specs.declared.token.Symbol.{Symbol}
@@ -38,7 +39,8 @@ pub left_spelled : (P : List Terminal → Type 0) (ts left : List Terminal) → 
 left_spelled P ts left f known = back_spelled f.spelled left (subst AreSpelled f.split known)
 
 -- the terminals of a text
-pub laid_spelled : (text : List ℕ) (place stop : ℕ) (tokens : List Token) → IsLaidOutTo text place stop tokens → AreSpelled (terminals_of text tokens)
+pub laid_spelled : (text : List ℕ) (place stop : ℕ) (tokens : List Token) → IsLaidOutTo text place stop tokens
+    → AreSpelled (terminals_of text tokens)
 laid_spelled text place stop [] laid = tt
 laid_spelled text place stop (t ∷ tokens) laid = ((text, t, laid.1, refl), laid_spelled text t.end stop tokens laid.2)
 
@@ -134,5 +136,6 @@ alias_in (Some a) ts (inl is) known = one_name_spelled a ts is known
 alias_in (Some a) ts (inr is) known = one_name_spelled a is.1 is.4 (back_spelled is.0 is.1 (subst AreSpelled is.2 known))
 
 -- where it is read among terminals of tokens, it can
-pub alias_spelled : (alias : Option (List ℕ)) (ts left : List Terminal) → Front (IsAlias alias) ts left → AreSpelled ts → IsSpelledAlias alias
+pub alias_spelled : (alias : Option (List ℕ)) (ts left : List Terminal) → Front (IsAlias alias) ts left → AreSpelled ts
+    → IsSpelledAlias alias
 alias_spelled alias ts left f known = alias_in alias f.spelled f.holds (front_spelled f.spelled left (subst AreSpelled f.split known))

@@ -19,14 +19,17 @@ pub tree_of-Any : (parts : Vec Condition Global) → tree_of (Any parts) ≡ any
 tree_of-Any parts = search (rules, the_lemmas)
 
 -- a part that is neither under a NOT nor in brackets
-pub part_at_test : (alias : Option (List ℕ)) (depth : ℕ) (ts : List Terminal) → begins (is_keyword word.Not) ts ≡ false → begins (is_symbol symbols.LeftBracket) ts ≡ false → part_at alias depth ts ≡ read_as test (test_at alias ts)
+pub part_at_test : (alias : Option (List ℕ)) (depth : ℕ) (ts : List Terminal) → begins (is_keyword word.Not) ts ≡ false
+    → begins (is_symbol symbols.LeftBracket) ts ≡ false → part_at alias depth ts ≡ read_as test (test_at alias ts)
 part_at_test alias zero ts no_not no_bracket = rw (no_not, no_bracket) refl
 part_at_test alias (suc depth) ts no_not no_bracket = rw (no_not, no_bracket) refl
 
-pub pushed : (parts longer : List Condition) (c : Condition) → longer ≡ parts ++ c ∷ [] → map tree_of longer ≡ map tree_of parts ++ tree_of c ∷ []
+pub pushed : (parts longer : List Condition) (c : Condition) → longer ≡ parts ++ c ∷ [] → map tree_of longer ≡ map tree_of parts
+    ++ tree_of c ∷ []
 pushed parts longer c is = ap (map tree_of) is ∙ map_push tree_of parts c
 
-pub first_pushed : (parts longer : List Condition) (c : Condition) → parts ≡ [] → longer ≡ parts ++ c ∷ [] → map tree_of longer ≡ tree_of c ∷ []
+pub first_pushed : (parts longer : List Condition) (c : Condition) → parts ≡ [] → longer ≡ parts ++ c ∷ []
+    → map tree_of longer ≡ tree_of c ∷ []
 first_pushed parts longer c none is = ap (map tree_of) (is ∙ ap (λ (l : List Condition). l ++ c ∷ []) none)
 
 module _ {A B : Type 0} (make : A → B) where

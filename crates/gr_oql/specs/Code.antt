@@ -54,16 +54,19 @@ first [] = any no_trees
 first (t ∷ ts) = t
 
 mutual
-  built_tree : (t : Tree) (rest : List Mark) → built (marks t ++ rest) ≡ record { trees = t ∷ (built rest).trees; lists = (built rest).lists }
+  built_tree : (t : Tree) (rest : List Mark)
+      → built (marks t ++ rest) ≡ record { trees = t ∷ (built rest).trees; lists = (built rest).lists }
   built_tree (test t) rest = refl
   built_tree (negation t) rest = ap (with_mark (inr 0)) (built_tree t rest)
   built_tree (any ts) rest = ap (with_mark (inr 1)) (built_trees ts rest)
   built_tree (all ts) rest = ap (with_mark (inr 2)) (built_trees ts rest)
 
-  built_trees : (ts : Trees) (rest : List Mark) → built (marks_of_all ts ++ rest) ≡ record { trees = (built rest).trees; lists = ts ∷ (built rest).lists }
+  built_trees : (ts : Trees) (rest : List Mark)
+      → built (marks_of_all ts ++ rest) ≡ record { trees = (built rest).trees; lists = ts ∷ (built rest).lists }
   built_trees no_trees rest = refl
   built_trees (tree t ts) rest =
-      ap (with_mark (inr 4)) (ap built (append_assoc (marks t) (marks_of_all ts) rest) ∙ built_tree t (marks_of_all ts ++ rest) ∙ ap (λ (b : Built). record { trees = t ∷ b.trees; lists = b.lists }) (built_trees ts rest))
+      ap (with_mark (inr 4)) (ap built (append_assoc (marks t) (marks_of_all ts) rest) ∙ built_tree t (marks_of_all ts ++ rest)
+          ∙ ap (λ (b : Built). record { trees = t ∷ b.trees; lists = b.lists }) (built_trees ts rest))
 
 abbrev unmarked : List Mark → Tree
 unmarked ms = first (built ms).trees

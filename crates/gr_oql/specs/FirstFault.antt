@@ -1,5 +1,6 @@
 -- Where the tokens of a text cease to begin a query, and which fault that is. It goes by the grammar alone.
-use Rattle.std.specs.Prelude.{◌≡◌, ◌⊎◌, ◌≤◌, ℕ, suc, List, [], ◌∷◌, ◌++◌, length, Bool, false, ◌==◌, if◌then◌else◌, IsTrue, Option, None, Some}
+use Rattle.std.specs.Prelude.{◌≡◌, ◌⊎◌, ◌≤◌, ℕ, suc, List, [], ◌∷◌, ◌++◌, length, Bool, false, ◌==◌, if◌then◌else◌, IsTrue, Option, None}
+use Rattle.std.specs.Prelude.{Some}
 use Rattle.std.specs.List.{AllByRecursion}
 use Rattle.gr_lex.specs.declared.token.Symbol.TheVariants as symbols
 use Rattle.gr_lex.specs.declared.token.Token.{Token}
@@ -14,7 +15,8 @@ use Rattle.gr_oql.specs.declared.fault.OqlFault.{OqlFault}
 use Rattle.gr_oql.specs.declared.fault.OqlFault.TheVariants as fault
 use Rattle.gr_oql.specs.declared.halt.Wrong.{Wrong}
 use Rattle.gr_oql.specs.declared.halt.Wrong.TheVariants.{Expected, NotACq, TooDeep}
-use Rattle.gr_oql.specs.Terminals.{Terminal, symbol, quoted, is_symbol, is_keyword, begins, front, as_number, is_tail, terminal_of, terminals_of}
+use Rattle.gr_oql.specs.Terminals.{Terminal, symbol, quoted, is_symbol, is_keyword, begins, front, as_number, is_tail, terminal_of}
+use Rattle.gr_oql.specs.Terminals.{terminals_of}
 use Rattle.gr_oql.specs.Grammar.{most_depth, has_backslash, One, IsQueryWithin, IsQuery}
 use Rattle.gr_oql.specs.Question.{Asked}
 
@@ -37,11 +39,14 @@ abbrev pub Fits : List Terminal → List Terminal → Wrong → Type 0
 Fits before left (NotACq part.Import) = (before ≡ []) × IsTrue (begins (is_keyword word.Import) left)
 Fits before left (NotACq part.Distinct) = One (is_keyword word.Select) before × IsTrue (begins (is_keyword word.Distinct) left)
 Fits before left (NotACq part.Projection) = One (is_keyword word.Select) before × (left ≡ [] → ⊥)
-Fits before left (NotACq part.Join) = (q : Asked) × (q.condition ≡ None) × IsQuery q before × IsTrue (begins (is_symbol symbols.Comma) left)
+Fits before left (NotACq part.Join) = (q : Asked) × (q.condition ≡ None) × IsQuery q before
+    × IsTrue (begins (is_symbol symbols.Comma) left)
 Fits before left (NotACq part.Tail) = (q : Asked) × IsQuery q before × IsTrue (begins is_tail left)
-Fits before left (NotACq part.Bind) = IsStart most_depth (before ++ symbol symbols.Minus ∷ []) × IsTrue (begins (is_symbol symbols.Dollar) left)
+Fits before left (NotACq part.Bind) = IsStart most_depth (before ++ symbol symbols.Minus ∷ [])
+    × IsTrue (begins (is_symbol symbols.Dollar) left)
 Fits before left (NotACq part.Escape) =
-    IsStart most_depth (before ++ quoted [] ∷ []) × ((pattern : List ℕ) × (behind : List Terminal) × (left ≡ quoted pattern ∷ behind) × IsTrue (has_backslash pattern))
+    IsStart most_depth (before ++ quoted [] ∷ [])
+        × ((pattern : List ℕ) × (behind : List Terminal) × (left ≡ quoted pattern ∷ behind) × IsTrue (has_backslash pattern))
 -- one level more would let it go on
 Fits before left TooDeep = (t : Terminal) × (behind : List Terminal) × (left ≡ t ∷ behind) × IsStart (suc most_depth) (before ++ t ∷ [])
 Fits before left Expected = Unit {0}
@@ -91,4 +96,5 @@ fault_at text left w = fault_by (place_of text left) (front as_number (terminals
 abbrev pub IsFault : List ℕ → OqlFault → Type 0
 IsFault text f =
     ((fault_of_tokens : LexFault) × lexical.IsFault text fault_of_tokens × (f ≡ fault.Lex fault_of_tokens))
-    ⊎ ((before : List Token) × (left : List Token) × (w : Wrong) × IsLaidOut text 0 (before ++ left) × Ceases (terminals_of text before) (terminals_of text left) w × (f ≡ fault_at text left w))
+    ⊎ ((before : List Token) × (left : List Token) × (w : Wrong) × IsLaidOut text 0 (before ++ left)
+        × Ceases (terminals_of text before) (terminals_of text left) w × (f ≡ fault_at text left w))

@@ -1,5 +1,6 @@
 -- The grammar of queries: which terminals spell what. Nothing here says how they are read.
-use Rattle.std.specs.Prelude.{◌≡◌, ◌⊎◌, ℕ, zero, suc, ◌<◌, ◌≤◌, pos, neg_ℤ, List, [], ◌∷◌, ◌++◌, length, Bool, true, false, IsTrue, IsFalse, Option, Some, None, ◌==◌, bytes_eq}
+use Rattle.std.specs.Prelude.{◌≡◌, ◌⊎◌, ℕ, zero, suc, ◌<◌, ◌≤◌, pos, neg_ℤ, List, [], ◌∷◌, ◌++◌, length, Bool, true, false, IsTrue}
+use Rattle.std.specs.Prelude.{IsFalse, Option, Some, None, ◌==◌, bytes_eq}
 use Rattle.std.specs.List.{list_any}
 use Rattle.gr_value.specs.declared.scalar.Scalar.{Scalar}
 use Rattle.gr_value.specs.declared.scalar.Scalar.TheVariants as scalar
@@ -81,9 +82,11 @@ has_backslash text = list_any (λ byte. byte == 0x5C) text
 abbrev pub IsTest : Option (List ℕ) → Test → List Terminal → Type 0
 IsTest alias (tests.Defined f) ts = (One (is_keyword word.IsDefined) then Bracketed (Field alias f)) ts
 IsTest alias (tests.Undefined f) ts = (One (is_keyword word.IsUndefined) then Bracketed (Field alias f)) ts
-IsTest alias (tests.Like f pattern) ts = IsFalse (has_backslash pattern) × (Field alias f then One (is_keyword word.Like) then Is as_quoted pattern) ts
+IsTest alias (tests.Like f pattern) ts = IsFalse (has_backslash pattern)
+    × (Field alias f then One (is_keyword word.Like) then Is as_quoted pattern) ts
 IsTest alias (tests.Among o literals) ts =
-    (IsOperand alias o then One (is_keyword word.In) then One (is_keyword word.Set) then Bracketed (Row (is_symbol symbols.Comma) Literal literals)) ts
+    (IsOperand alias o then One (is_keyword word.In) then One (is_keyword word.Set)
+        then Bracketed (Row (is_symbol symbols.Comma) Literal literals)) ts
 IsTest alias (tests.Compare left r right) ts = (IsOperand alias left then IsRelation r then IsOperand alias right) ts
 
 -- and = not { AND not }, or = and { OR and }

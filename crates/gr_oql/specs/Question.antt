@@ -25,4 +25,5 @@ abbrev Parts : Type 0
 Parts = (List ℕ × List ℕ) × (Option (List ℕ) × Option Tree)
 
 abbrev pub question_code : Coded Question
-question_code = code_by Parts (coded× texts_code options_code) (λ q. ((q.text, q.asked.region), (q.asked.alias, q.asked.condition))) (λ p. record { text = p.0.0; asked = record { region = p.0.1; alias = p.1.0; condition = p.1.1 } }) (λ _. refl)
+question_code = code_by Parts (coded× texts_code options_code) (λ q. ((q.text, q.asked.region), (q.asked.alias, q.asked.condition)))
+    (λ p. record { text = p.0.0; asked = record { region = p.0.1; alias = p.1.0; condition = p.1.1 } }) (λ _. refl)

@@ -1,5 +1,6 @@
 -- A query's tokens as its grammar sees them.
-use Rattle.std.specs.Prelude.{◌≡◌, ℕ, ◌-◌, ◌<◌, List, [], ◌∷◌, ◌++◌, take, drop, length, map, Bool, false, ◌==◌, ◌||◌, if◌then◌else◌, bytes_eq, Option, Some, None}
+use Rattle.std.specs.Prelude.{◌≡◌, ℕ, ◌-◌, ◌<◌, List, [], ◌∷◌, ◌++◌, take, drop, length, map, Bool, false, ◌==◌, ◌||◌, if◌then◌else◌}
+use Rattle.std.specs.Prelude.{bytes_eq, Option, Some, None}
 use Rattle.gr_lex.specs.declared.token.Symbol.{Symbol}
 use Rattle.gr_lex.specs.declared.token.TokenKind.{TokenKind}
 use Rattle.gr_lex.specs.declared.token.TokenKind.TheVariants as kind

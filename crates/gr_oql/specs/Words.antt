@@ -3,7 +3,8 @@ use Rattle.std.specs.Prelude.{ℕ, List, [], ◌∷◌, Bool, Option, find, byte
 use Rattle.std.specs.Str.{str_eq_ignore_ascii_case}
 use lib.Chars.{codes}
 use Rattle.gr_oql.specs.declared.keyword.Keyword.{Keyword}
-use Rattle.gr_oql.specs.declared.keyword.Keyword.TheVariants.{Select, Distinct, From, As, Where, And, Or, Not, In, Set, Like, True, False, Null, Undefined, IsDefined, IsUndefined, Order, Group, Having, Limit, Import}
+use Rattle.gr_oql.specs.declared.keyword.Keyword.TheVariants.{Select, Distinct, From, As, Where, And, Or, Not, In, Set, Like, True, False}
+use Rattle.gr_oql.specs.declared.keyword.Keyword.TheVariants.{Null, Undefined, IsDefined, IsUndefined, Order, Group, Having, Limit, Import}
 
 abbrev pub letters : Keyword → List ℕ
 letters Select = codes "SELECT"
@@ -31,7 +32,8 @@ letters Import = codes "IMPORT"
 
 abbrev pub keywords : List Keyword
 keywords =
-    Select ∷ Distinct ∷ From ∷ As ∷ Where ∷ And ∷ Or ∷ Not ∷ In ∷ Set ∷ Like ∷ True ∷ False ∷ Null ∷ Undefined ∷ IsDefined ∷ IsUndefined ∷ Order ∷ Group ∷ Having ∷ Limit ∷ Import ∷ []
+    Select ∷ Distinct ∷ From ∷ As ∷ Where ∷ And ∷ Or ∷ Not ∷ In ∷ Set ∷ Like ∷ True ∷ False ∷ Null ∷ Undefined ∷ IsDefined ∷ IsUndefined
+        ∷ Order ∷ Group ∷ Having ∷ Limit ∷ Import ∷ []
 
 -- the keyword that a word is, in whatever case it is written
 abbrev pub keyword_of : List ℕ → Option Keyword

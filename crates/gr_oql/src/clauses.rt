@@ -15,8 +15,8 @@ use crate::Part;
 use crate::condition::Condition;
 use crate::conditions::condition;
 use crate::cursor::TokenCursor;
-use crate::keyword::Keyword;
 use crate::halt::{Halt, Wrong};
+use crate::keyword::Keyword;
 use crate::terms::{keyword_due, name_due, symbol_due};
 use gr_lex::Symbol;
 use gr_value::{Key, KeyFault, Text};
@@ -48,7 +48,7 @@ fn star(cursor: &mut TokenCursor) -> Result<(), Halt>
     }
 }
 
-/// A region's name, with a slash before it.
+// A region's name, with a slash before it.
 fn region_key(alloc: Global, name: &str) -> Result<Key, Halt>
     requires { IsKey (0x2F ∷ name.now) }
     ensures ok { IfOk result (λ key. key ≡ 0x2F ∷ name.now) }
@@ -104,7 +104,7 @@ fn is_tail(cursor: &TokenCursor) -> bool
         || cursor.is_keyword(Keyword::Limit)
 }
 
-/// The end of a query.
+// The end of a query.
 fn end(cursor: &TokenCursor) -> Result<(), Halt>
     ensures { Gives (λ x. x) result cursor.now (end_at cursor.now) }
 {
@@ -117,7 +117,7 @@ fn end(cursor: &TokenCursor) -> Result<(), Halt>
     }
 }
 
-/// The end of a query without a condition.
+// The end of a query without a condition.
 fn bare_end(cursor: &TokenCursor) -> Result<(), Halt>
     ensures { Gives (λ x. x) result cursor.now (bare_end_at cursor.now) }
 {
@@ -128,7 +128,7 @@ fn bare_end(cursor: &TokenCursor) -> Result<(), Halt>
     }
 }
 
-/// The condition behind WHERE, if there is one, up to the query's end.
+// The condition behind WHERE, if there is one, up to the query's end.
 fn condition_to_end(
     cursor: &mut TokenCursor,
     alloc: Global,
@@ -157,7 +157,7 @@ fn owned(alloc: Global, alias: Option<&str>) -> Result<Option<Text>, Halt>
     }
 }
 
-/// What stands behind the slash.
+// What stands behind the slash.
 fn behind_slash(cursor: &mut TokenCursor, alloc: Global) -> Result<Clauses, Halt>
     ensures exact { Gives asked result cursor.new (source_at most_depth cursor.old) }
     ensures within { length cursor.new ≤ length cursor.old }

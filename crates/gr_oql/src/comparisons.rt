@@ -11,8 +11,8 @@ ghost use Rattle.gr_lex.specs.declared.token.Symbol.TheVariants as symbols;
 use crate::Part;
 use crate::condition::{Operand, Relation, Test};
 use crate::cursor::TokenCursor;
-use crate::keyword::Keyword;
 use crate::halt::{Halt, Wrong};
+use crate::keyword::Keyword;
 use crate::terms::{field, keyword_due, literal, operand, symbol_due, unquoted};
 use gr_lex::Symbol;
 use gr_value::{ItemList, Scalar, Text};
@@ -47,7 +47,7 @@ fn has_backslash(text: &str) -> bool
     text.as_bytes().contains(&b'\\')
 }
 
-/// The pattern behind LIKE.
+// The pattern behind LIKE.
 fn pattern(cursor: &mut TokenCursor, alloc: Global) -> Result<Text, Halt>
     ensures exact { Gives (λ x. x) result cursor.new (pattern_by (front as_quoted cursor.old) cursor.old) }
     ensures within { length cursor.new ≤ length cursor.old }
@@ -74,7 +74,7 @@ fn like(cursor: &mut TokenCursor, alloc: Global, field: Text) -> Result<Test, Ha
     Ok(Test::Like { field, pattern })
 }
 
-/// Literals with commas between them.
+// Literals with commas between them.
 fn literals(cursor: &mut TokenCursor, alloc: Global) -> Result<ItemList<Scalar>, Halt>
     ensures exact { Gives (λ x. x) result cursor.new (separated_at (is_symbol symbols.Comma) literal_at cursor.old) }
     ensures within { length cursor.new ≤ length cursor.old }
@@ -89,7 +89,7 @@ fn literals(cursor: &mut TokenCursor, alloc: Global) -> Result<ItemList<Scalar>,
     Ok(found)
 }
 
-/// The set that an operand is to be among.
+// The set that an operand is to be among.
 fn among(cursor: &mut TokenCursor, alloc: Global, operand: Operand) -> Result<Test, Halt>
     ensures exact { Gives (λ x. x) result cursor.new (among_at operand cursor.old) }
     ensures within { length cursor.new ≤ length cursor.old }
@@ -135,7 +135,7 @@ fn behind_operand(
     }
 }
 
-/// What stands behind a test's first operand.
+// What stands behind a test's first operand.
 fn behind_first(
     cursor: &mut TokenCursor,
     alloc: Global,
@@ -162,7 +162,7 @@ fn behind_first(
     }
 }
 
-/// A field in brackets.
+// A field in brackets.
 fn bracketed(cursor: &mut TokenCursor, alloc: Global, alias: Option<&str>) -> Result<Text, Halt>
     ensures exact { Gives (λ x. x) result cursor.new (bracketed_at (alias_of alias.entry) cursor.old) }
     ensures within { length cursor.new ≤ length cursor.old }
@@ -173,7 +173,11 @@ fn bracketed(cursor: &mut TokenCursor, alloc: Global, alias: Option<&str>) -> Re
     Ok(field)
 }
 
-pub(crate) fn test(cursor: &mut TokenCursor, alloc: Global, alias: Option<&str>) -> Result<Test, Halt>
+pub(crate) fn test(
+    cursor: &mut TokenCursor,
+    alloc: Global,
+    alias: Option<&str>,
+) -> Result<Test, Halt>
     ensures exact { Gives (λ x. x) result cursor.new (test_at (alias_of alias.entry) cursor.old) }
     ensures within { length cursor.new ≤ length cursor.old }
 {

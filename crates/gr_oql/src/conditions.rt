@@ -10,8 +10,8 @@ ghost use Rattle.gr_oql.specs.Tree.{test};
 use crate::comparisons::test;
 use crate::condition::Condition;
 use crate::cursor::TokenCursor;
-use crate::keyword::Keyword;
 use crate::halt::{Halt, Wrong};
+use crate::keyword::Keyword;
 use crate::terms::symbol_due;
 use gr_lex::Symbol;
 use std::alloc::Global;
@@ -19,7 +19,7 @@ use std::alloc::Global;
 /// The most brackets and NOTs around one condition.
 const MOST_DEPTH: u32 = 64;
 
-/// A test as a condition.
+// A test as a condition.
 fn tested(cursor: &mut TokenCursor, alloc: Global, alias: Option<&str>) -> Result<Condition, Halt>
     ensures exact { Gives tree_of result cursor.new (read_as test (test_at (alias_of alias.entry) cursor.old)) }
     ensures within { length cursor.new ≤ length cursor.old }
@@ -28,7 +28,7 @@ fn tested(cursor: &mut TokenCursor, alloc: Global, alias: Option<&str>) -> Resul
     Ok(Condition::Test(test))
 }
 
-/// One part of an AND, inside which so many brackets and NOTs may still be opened.
+// One part of an AND, inside which so many brackets and NOTs may still be opened.
 #[tactic(auto, using(crate::proofs::Trees::part_at_test))]
 #[cycle(conditions)]
 fn part(
@@ -56,7 +56,7 @@ fn part(
     }
 }
 
-/// What stands in brackets, and the bracket that ends it.
+// What stands in brackets, and the bracket that ends it.
 #[cycle(conditions)]
 fn bracket(
     cursor: &mut TokenCursor,
@@ -72,7 +72,7 @@ fn bracket(
     Ok(condition)
 }
 
-/// Parts with AND between them.
+// Parts with AND between them.
 #[cycle(conditions)]
 fn all(
     cursor: &mut TokenCursor,
@@ -93,7 +93,7 @@ fn all(
     Ok(Condition::All(parts))
 }
 
-/// Conditions with OR between them.
+// Conditions with OR between them.
 #[cycle(conditions)]
 fn any(
     cursor: &mut TokenCursor,

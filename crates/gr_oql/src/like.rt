@@ -31,8 +31,8 @@ pub(crate) fn is_like(pattern: &str, text: &str) -> bool
     }
 }
 
-/// Whether some end of a text is what the pattern stands for. Where a pattern goes on to a further `%`,
-/// an end that was found earlier leaves the longer text, so no other need be tried.
+// Whether some end of a text is what the pattern stands for. Where a pattern goes on to a further `%`,
+// an end that was found earlier leaves the longer text, so no other need be tried.
 fn has_end_like(pattern: &str, text: &str) -> bool
     ensures { result ≡ has_end_like (chars pattern.now) (chars text.now) }
 {
@@ -49,7 +49,7 @@ fn has_end_like(pattern: &str, text: &str) -> bool
     }
 }
 
-/// Takes characters off the fronts of both for as long as they agree.
+// Takes characters off the fronts of both for as long as they agree.
 fn follow<'a>(pattern: &'a str, text: &'a str) -> Walk<'a>
     ensures leads { LeadsTo (chars pattern.now) (chars text.now) result }
     ensures shortens { Shortens pattern.now text.now result }
@@ -84,7 +84,7 @@ fn stands_for(wanted: char, met: char) -> bool
     wanted == '_' || wanted == met
 }
 
-/// The first character, and the text behind it.
+// The first character, and the text behind it.
 fn first_char(text: &str) -> Option<(char, &str)>
     ensures chars { MatchOption result (chars text.now ≡ []) (λ first. chars text.now ≡ first.0 ∷ chars first.1.now) }
     ensures text { IfSome result (λ first. IsUtf8 first.1.now) }

@@ -4,9 +4,9 @@ ghost use Rattle.std.specs.Str.{chars};
 ghost use Rattle.gr_oql.specs.Matching.{scalar_at, like_truth, among, test_truth, tree_truth, matches};
 ghost use Rattle.gr_oql.specs.View.{tree_of};
 
+use crate::condition::{Condition, Operand, Relation, Test};
 use crate::like::is_like;
 use crate::truth::both_compared;
-use crate::condition::{Condition, Operand, Relation, Test};
 use crate::{Query, Truth};
 use gr_value::{Scalar, Value};
 

@@ -10,11 +10,11 @@ ghost use Rattle.gr_oql.specs.Question.{Question};
 ghost use Rattle.gr_oql.specs.Reader.Asking.{question};
 ghost use Rattle.gr_oql.specs.declared.fault.OqlFault.TheVariants as oql_fault;
 
+use crate::OqlFault;
 use crate::clauses::{Clauses, query};
 use crate::cursor::TokenCursor;
-use crate::lexeme::lexemes;
 use crate::halt::{Halt, Wrong};
-use crate::OqlFault;
+use crate::lexeme::lexemes;
 use gr_lex::{LexFault, Token, TokenList, tokens};
 use gr_value::{Copied, Key, Memory, Text};
 use std::alloc::Global;
@@ -48,7 +48,7 @@ impl Model for Query {
     ghost invariant = { λ q. Spells q.parts.value.text (question q.parts.value.text q.parts.value.clauses) };
 }
 
-/// The first byte of the first of the tokens, or the end of the text.
+// The first byte of the first of the tokens, or the end of the text.
 fn place_of(text: &str, tokens: &[Token]) -> u64
     ensures { result ≡ place_of text.now tokens.now }
 {
@@ -77,7 +77,7 @@ fn is_greatest(number: Option<u64>) -> bool
     }
 }
 
-/// The fault of a text whose tokens cease to begin a query where the cursor stands.
+// The fault of a text whose tokens cease to begin a query where the cursor stands.
 fn fault_of(text: &str, tokens: &[Token], left: &TokenCursor, wrong: Wrong) -> OqlFault
     requires { length left.now ≤ length tokens.now }
     ensures { result ≡ fault_of text.now tokens.now wrong left.now }
@@ -104,7 +104,7 @@ fn query_of(alloc: Global, text: &str, clauses: Clauses) -> Result<Query, OqlFau
     })
 }
 
-/// What the tokens of a text ask.
+// What the tokens of a text ask.
 fn asked_by(alloc: Global, text: &str, tokens: &[Token]) -> Result<Query, OqlFault>
     requires each { All (IsToken text.now) tokens.now }
     requires laid_out { IsLaidOut text.now 0 tokens.now }
@@ -119,7 +119,7 @@ fn asked_by(alloc: Global, text: &str, tokens: &[Token]) -> Result<Query, OqlFau
     }
 }
 
-/// What a text asks, by its tokens or their fault.
+// What a text asks, by its tokens or their fault.
 fn asked(alloc: Global, text: &str, lexed: Result<TokenList, LexFault>) -> Result<Query, OqlFault>
     requires each { IfOk lexed (λ ts. All (IsToken text.now) ts) }
     requires laid_out { IfOk lexed (λ ts. IsLaidOut text.now 0 ts) }

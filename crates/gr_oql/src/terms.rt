@@ -10,8 +10,8 @@ ghost use Rattle.gr_oql.specs.Terminals.{undoubled, front, as_number, as_quoted,
 use crate::Part;
 use crate::condition::Operand;
 use crate::cursor::TokenCursor;
-use crate::keyword::Keyword;
 use crate::halt::{Halt, Wrong};
+use crate::keyword::Keyword;
 use gr_lex::{Symbol, Token};
 use gr_value::{Memory, Scalar, Text};
 use std::alloc::Global;
@@ -60,7 +60,7 @@ fn is_alias(alias: Option<&str>, word: &str) -> bool
     }
 }
 
-/// The member behind an alias.
+// The member behind an alias.
 fn member<'a>(cursor: &mut TokenCursor<'a>) -> Result<&'a str, Halt>
     ensures exact { Gives (λ x. x.now) result cursor.new (member_at cursor.old) }
     ensures within { length cursor.new ≤ length cursor.old }
@@ -75,7 +75,7 @@ fn member<'a>(cursor: &mut TokenCursor<'a>) -> Result<&'a str, Halt>
     }
 }
 
-/// The field that a name begins.
+// The field that a name begins.
 fn field_of_name<'a>(
     cursor: &mut TokenCursor<'a>,
     alias: Option<&str>,
@@ -104,7 +104,7 @@ pub(crate) fn field<'a>(cursor: &mut TokenCursor<'a>, alias: Option<&str>) -> Re
     }
 }
 
-/// What stands before the first two quotes, and behind them.
+// What stands before the first two quotes, and behind them.
 fn split_at_quotes(text: &str) -> Option<(&str, &str)>
     ensures { MatchOption result (undoubled text.now ≡ text.now) (λ parts. SplitsAtQuotes text.now parts.0.now parts.1.now) }
 {
@@ -132,7 +132,7 @@ pub(crate) fn unquoted(alloc: Global, inside: &str) -> Result<Text, Memory>
     Text::new(alloc, text.as_str())
 }
 
-/// The number behind a sign.
+// The number behind a sign.
 fn negated(number: u64) -> Option<i64>
     ensures { result ≡ (if nat_le number greatest_number then Some (neg_ℤ (pos number)) else None) }
 {
@@ -161,7 +161,7 @@ fn negative(cursor: &mut TokenCursor) -> Result<Scalar, Halt>
     }
 }
 
-/// What is wrong where an operand or a literal is due.
+// What is wrong where an operand or a literal is due.
 fn missing(cursor: &TokenCursor) -> Wrong
     ensures { result ≡ missing cursor.now }
 {
@@ -172,7 +172,7 @@ fn missing(cursor: &TokenCursor) -> Wrong
     }
 }
 
-/// A number or a text.
+// A number or a text.
 fn plain(cursor: &mut TokenCursor, alloc: Global) -> Result<Scalar, Halt>
     ensures exact { Gives (λ x. x) result cursor.new (plain_by (front as_number cursor.old) (front as_quoted cursor.old) cursor.old) }
     ensures within { length cursor.new ≤ length cursor.old }

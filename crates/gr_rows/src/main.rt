@@ -1,28 +1,40 @@
 //! Runs whole scripts through the program, over sources and sinks in memory, and says of each whether
-//! what comes out is what its files say. Then compares the lines of the causes, and the answers to
+//! what comes out is what its row says. Then compares the lines of the causes, and the answers to
 //! queries with two tables.
 #![tactic(auto)]
 
+mod causes;
 mod files;
 mod queries;
 mod row;
+mod running;
 
-use files::lines_of;
+use causes::are_causes_so;
+use files::row_names;
 use queries::{Table, compare};
-use row::{are_causes_so, is_same, is_too_large};
-use std::io;
+use row::Row;
+use running::{compare_row, too_large};
+use std::rt::Files;
+use std::{fs, io};
 
-fn answer(is_so: bool) -> &'static str {
-    if is_so { "same" } else { "differs" }
+fn row_of<R: Files + AllocGlobal>(rt: &R, name: &str) -> io::Result<Row> {
+    let path = format!(in rt.alloc(); "{name}.row")?;
+    let text = fs::read_to_string(rt, path)?;
+    Row::read(rt.alloc(), text.as_str())
 }
 
 fn main(rt: HostRuntime) -> io::Result<()> {
-    for name in lines_of(&rt, "rows.txt")? {
-        let same = answer(is_same(&rt, name.as_str())?);
-        println!(rt; "{name}: {same}")?;
+    for name in row_names(&rt)? {
+        let row = row_of(&rt, name.as_str())?;
+        compare_row(&rt, name.as_str(), row)?;
     }
-    println!(rt; "too-large: {}", answer(is_too_large(rt.alloc())?))?;
-    println!(rt; "causes: {}", answer(are_causes_so(rt.alloc())?))?;
+    compare_row(&rt, "too-large", too_large(rt.alloc())?)?;
+    let causes = if are_causes_so(rt.alloc())? {
+        "same"
+    } else {
+        "differ"
+    };
+    println!(rt; "causes: {causes}")?;
     compare(&rt, Table::Queries)?;
     compare(&rt, Table::Matches)
 }

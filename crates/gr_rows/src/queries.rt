@@ -1,5 +1,5 @@
 use crate::files::lines_of;
-use crate::row::no_memory;
+use crate::running::no_memory;
 use gr_lex::LexFault;
 use gr_oql::{OqlFault, Part, Query, Truth};
 use gr_value::Value;
@@ -27,7 +27,7 @@ fn truth_word(truth: Truth) -> &'static str {
     }
 }
 
-/// A fault in a word, and its place.
+// A fault in a word, and its place.
 fn fault_words(alloc: Global, fault: OqlFault) -> io::Result<String> {
     let (word, place) = match fault {
         OqlFault::Lex(LexFault::BadCharacter(place)) => ("bad-character", place),
@@ -41,7 +41,7 @@ fn fault_words(alloc: Global, fault: OqlFault) -> io::Result<String> {
     Ok(format!(in alloc; "{word} {place}")?)
 }
 
-/// What reading a query's text gives.
+// What reading a query's text gives.
 fn reading(alloc: Global, text: &str) -> io::Result<String> {
     match Query::parse(alloc, text) {
         Ok(_) => Ok(String::from_str(alloc, "read")?),
@@ -49,7 +49,7 @@ fn reading(alloc: Global, text: &str) -> io::Result<String> {
     }
 }
 
-/// What a query says of a value. The case is the value's JSON, a tab, and the query's text.
+// What a query says of a value. The case is the value's JSON, a tab, and the query's text.
 fn truth(alloc: Global, case: &str) -> io::Result<String> {
     let (value, text) = case.split_once('\t').unwrap_or((case, ""));
     let Ok(value) = Value::read(alloc, value.as_bytes()) else {

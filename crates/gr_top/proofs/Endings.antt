@@ -9,7 +9,8 @@ use Rattle.gr_top.specs.CauseTexts.{text_of_cause}
 use Rattle.gr_top.specs.declared.cause.Cause.{Cause}
 use Rattle.gr_top.specs.declared.cause.Cause.TheVariants.{Script}
 
-pub fault_is : {A : Type 0} (read : Result A Reason) (fault : ScriptFault) → fault_at 0 read ≡ Err fault → fault ≡ record { line = 0; reason = NotBuilt }
+pub fault_is : {A : Type 0} (read : Result A Reason) (fault : ScriptFault) → fault_at 0 read ≡ Err fault
+    → fault ≡ record { line = 0; reason = NotBuilt }
 fault_is (Ok x) fault is = cc
 fault_is (Err NotBuilt) fault is = cc
 
@@ -23,4 +24,5 @@ pub script_line : (cause : Cause) (fault : ScriptFault) (line number name : List
     → text_of_cause cause ≡ codes "georep: line " ++ (line ++ (codes ": " ++ (number ++ (codes " " ++ (name ++ codes "\n")))))
 script_line cause fault line number name is at of called =
     rw (is, at, of, called)
-      (in_turn (codes "georep: line ") (decimal fault.line) (codes ": ") (decimal (number_of fault.reason)) (codes " ") (name_of fault.reason) (codes "\n"))
+      (in_turn (codes "georep: line ") (decimal fault.line) (codes ": ") (decimal (number_of fault.reason)) (codes " ")
+          (name_of fault.reason) (codes "\n"))

@@ -10,6 +10,7 @@ text_of_cause (Usage place) = codes "georep: word " ++ decimal (place + 1) ++ co
 text_of_cause ReadFault = codes "georep: the input can't be read\n"
 text_of_cause (TooLarge bytes lines) = codes "georep: the script is too large\n"
 text_of_cause (Script fault) =
-    codes "georep: line " ++ decimal fault.line ++ codes ": " ++ decimal (number_of fault.reason) ++ codes " " ++ name_of fault.reason ++ codes "\n"
+    codes "georep: line " ++ decimal fault.line ++ codes ": " ++ decimal (number_of fault.reason) ++ codes " " ++ name_of fault.reason
+        ++ codes "\n"
 text_of_cause WriteFault = codes "georep: the output can't be written\n"
 text_of_cause Memory = codes "georep: no memory\n"

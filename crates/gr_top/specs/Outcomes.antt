@@ -89,7 +89,8 @@ Counted stream = Rose stream.faults_before stream.faults_after
 
 -- What each cause says of the source, the sink and the record that was kept.
 abbrev pub Explains : Stream → Stream → Option Record → Cause → Type 0
-Explains source sink kept Finished = IsSomeAnd kept (λ left. IsReplayOf source left × Appends sink.bytes_before sink.bytes_after (record_text left))
+Explains source sink kept Finished =
+    IsSomeAnd kept (λ left. IsReplayOf source left × Appends sink.bytes_before sink.bytes_after (record_text left))
 Explains source sink kept (Usage place) = (kept ≡ None) × IsUntouched source × IsUntouched sink
 Explains source sink kept ReadFault = (kept ≡ None) × Counted source × IsWithin source × IsUntouched sink
 Explains source sink kept (TooLarge bytes lines) = (kept ≡ None) × IsTooLarge source bytes lines × IsUntouched sink

@@ -10,7 +10,7 @@ use gr_value::Memory;
 use itoa::Buffer;
 use std::alloc::Global;
 
-// Hands the line of a cause to a sink, and takes no memory.
+/// Hands the line of a cause to a sink, and takes no memory.
 pub(crate) fn tell<K: Sink>(errors: &mut K, cause: &Cause) -> Result<(), WriteFault>
     ensures whole { OnOk result (Appends (K.held errors.old) (K.held errors.new) (text_of_cause cause.now)) }
     ensures part { OnErr result (AppendsPart (K.held errors.old) (K.held errors.new) (text_of_cause cause.now)) }

@@ -1,12 +1,13 @@
 -- What two lists of ranges have in common.
-use Rattle.std.proofs.Common.{◌≡◌, ℕ, zero, suc, ◌+◌, ◌<◌, ◌≤◌, List, [], ◌∷◌, ◌++◌, length, get_or, drop, Bool, true, false, not, ◌&&◌, ◌||◌, ltb, leb, max, min, refl, sym, ◌∙◌, subst, ap, arith, if◌then◌else◌, append_assoc, add-one, drop-cons}
+use Rattle.std.proofs.Common.{◌≡◌, ℕ, zero, suc, ◌+◌, ◌<◌, ◌≤◌, List, [], ◌∷◌, ◌++◌, length, get_or, drop, Bool, true, false, not, ◌&&◌}
+use Rattle.std.proofs.Common.{◌||◌, ltb, leb, max, min, refl, sym, ◌∙◌, subst, ap, arith, if◌then◌else◌, append_assoc, add-one, drop-cons}
 use Rattle.std.proofs.lemmas.Bool.Decides.{nat_tests}
 use Rattle.std.proofs.lemmas.List.{append-nil}
 use Rattle.gr_vector.specs.declared.gap.Gap.{Gap}
 use Rattle.gr_vector.specs.declared.gap.TheConstants.{END}
 use Rattle.gr_vector.specs.Gaps.{is_in, is_missing, AreApart, AreGaps, holds, overlap, overlaps, common}
 use Rattle.gr_vector.proofs.Apart.{apart_low, apart_sooner, holds_is}
-use Rattle.gr_vector.proofs.Edits.{missing_append}
+use Rattle.gr_vector.proofs.Edits.{missing_append, none_if}
 
 overlap_missing : (q : ℕ) (one two : Gap) → is_missing q (overlap one two) ≡ (is_in q one && is_in q two)
 overlap_missing q one two = at_test (leb (max one.first two.first) (min one.last two.last)) refl
@@ -98,40 +99,31 @@ common_holds v ours theirs h k =
         ≡ (y || z)
     joined a b m n o x y z h p q r = grind arith
 
-none_if : (b : Bool) (gap : Gap) → b ≡ false → (if b then gap ∷ [] else []) ≡ []
-none_if false gap e = refl
-none_if true gap e = absurd (cc)
-
-no_overlap : (one two : Gap) → one.last < two.first → overlap one two ≡ []
+no_overlap : (one two : Gap) → leb (max one.first two.first) (min one.last two.last) ≡ false → overlap one two ≡ []
 no_overlap one two h =
     none_if (leb (max one.first two.first) (min one.last two.last))
-    (record { first = max one.first two.first; last = min one.last two.last })
-    (apart one.first one.last two.first two.last h)
-  where
-    apart : (a b c d : ℕ) → b < c → leb (max a c) (min b d) ≡ false
-    apart a b c d h = grind (arith, nat_tests)
+    (record { first = max one.first two.first; last = min one.last two.last }) h
 
-no_overlap_before : (one two : Gap) → two.last < one.first → overlap one two ≡ []
-no_overlap_before one two h =
-    none_if (leb (max one.first two.first) (min one.last two.last))
-    (record { first = max one.first two.first; last = min one.last two.last })
-    (apart one.first one.last two.first two.last h)
-  where
-    apart : (a b c d : ℕ) → d < a → leb (max a c) (min b d) ≡ false
-    apart a b c d h = grind (arith, nat_tests)
+ends_before : (a b c d : ℕ) → b < c → leb (max a c) (min b d) ≡ false
+ends_before a b c d h = grind (arith, nat_tests)
+
+begins_after : (a b c d : ℕ) → d < a → leb (max a c) (min b d) ≡ false
+begins_after a b c d h = grind (arith, nat_tests)
 
 -- a range has nothing with those behind it
 pub overlaps_past : (low end : ℕ) (one : Gap) (theirs : List Gap) → AreApart low end theirs → one.last < low → overlaps one theirs ≡ []
 overlaps_past low end one [] h lt = refl
 overlaps_past low end one (two ∷ rest) h lt =
-    rw (no_overlap one two (omega (arith, h.0))) (overlaps_past (two.last + 2) end one rest h.2 (omega (arith, h.0, h.1)))
+    rw (no_overlap one two (ends_before one.first one.last two.first two.last (omega (arith, h.0))))
+    (overlaps_past (two.last + 2) end one rest h.2 (omega (arith, h.0, h.1)))
 
 -- none of those behind a range has something with it
 pub common_past : (low end : ℕ) (two : Gap) (ours rest : List Gap) → AreApart low end ours → two.last < low → common ours (two ∷ rest)
     ≡ common ours rest
 common_past low end two [] rest h lt = refl
 common_past low end two (one ∷ ours) rest h lt =
-    ap (λ xs. (xs ++ overlaps one rest) ++ common ours (two ∷ rest)) (no_overlap_before one two (omega (arith, h.0)))
+    ap (λ xs. (xs ++ overlaps one rest) ++ common ours (two ∷ rest))
+    (no_overlap one two (begins_after one.first one.last two.first two.last (omega (arith, h.0))))
     ∙ ap (λ xs. overlaps one rest ++ xs) (common_past (one.last + 2) end two ours rest h.2 (omega (arith, h.0, h.1)))
 
 pub common_none : (ours : List Gap) → common ours [] ≡ []

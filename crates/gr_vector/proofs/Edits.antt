@@ -1,5 +1,7 @@
 -- Taking a number out of its range.
-use Rattle.std.proofs.Common.{◌≡◌, ℕ, zero, suc, ◌+◌, ◌-◌, ◌<◌, ◌≤◌, List, [], ◌∷◌, ◌++◌, length, get_or, take, drop, set, ◌≢◌, Option, None, Some, Bool, true, false, not, ◌&&◌, ◌||◌, ◌==◌, ltb, leb, refl, sym, ◌∙◌, subst, ap, arith, if◌then◌else◌}
+use Rattle.std.proofs.Common.{◌≡◌, ℕ, zero, suc, ◌+◌, ◌-◌, ◌<◌, ◌≤◌, List, [], ◌∷◌, ◌++◌, length, get_or, take, drop, set, ◌≢◌, Option}
+use Rattle.std.proofs.Common.{None, Some, Bool, true, false, not, ◌&&◌, ◌||◌, ◌==◌, ltb, leb, refl, sym, ◌∙◌, subst, ap, arith}
+use Rattle.std.proofs.Common.{if◌then◌else◌}
 use Rattle.std.proofs.lemmas.Bool.Decides.{nat_tests}
 use Rattle.gr_vector.specs.declared.gap.Gap.{Gap}
 use Rattle.std.proofs.lemmas.List.{get_or_default}
@@ -158,7 +160,7 @@ one_if : (b : Bool) (gap : Gap) → b ≡ true → (if b then gap ∷ [] else []
 one_if true gap e = refl
 one_if false gap e = absurd (cc)
 
-none_if : (b : Bool) (gap : Gap) → b ≡ false → (if b then gap ∷ [] else []) ≡ []
+pub none_if : (b : Bool) (gap : Gap) → b ≡ false → (if b then gap ∷ [] else []) ≡ []
 none_if false gap e = refl
 none_if true gap e = absurd (cc)
 

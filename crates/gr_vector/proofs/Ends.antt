@@ -1,5 +1,6 @@
 -- The first range, the last, and how many end below the greatest number.
-use Rattle.std.proofs.Common.{◌≡◌, ℕ, zero, suc, ◌+◌, ◌<◌, ◌≤◌, List, [], ◌∷◌, length, get_or, Bool, true, false, not, ◌&&◌, ◌||◌, ltb, leb, refl, sym, ◌∙◌, subst, ap, arith, if◌then◌else◌}
+use Rattle.std.proofs.Common.{◌≡◌, ℕ, zero, suc, ◌+◌, ◌<◌, ◌≤◌, List, [], ◌∷◌, length, get_or, Bool, true, false, not, ◌&&◌, ◌||◌, ltb}
+use Rattle.std.proofs.Common.{leb, refl, sym, ◌∙◌, subst, ap, arith, if◌then◌else◌}
 use Rattle.std.proofs.lemmas.Bool.Decides.{nat_tests}
 use Rattle.gr_vector.specs.declared.gap.Gap.{Gap}
 use Rattle.gr_vector.specs.declared.gap.TheConstants.{END}

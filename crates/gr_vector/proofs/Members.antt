@@ -1,9 +1,11 @@
 -- Members in a list: what a write and a push leave.
-use Rattle.std.proofs.Common.{◌≡◌, ◌≢◌, ℕ, zero, suc, ◌+◌, ◌<◌, List, [], ◌∷◌, ◌++◌, length, get_or, set, take, Bool, true, false, ◌&&◌, ◌||◌, ◌==◌, refl, sym, ◌∙◌, subst, ap, arith, if◌then◌else◌, get_or-set_other, get_or-set_same}
+use Rattle.std.proofs.Common.{◌≡◌, ◌≢◌, ℕ, zero, suc, ◌+◌, ◌<◌, List, [], ◌∷◌, ◌++◌, length, get_or, set, take, Bool, true, false, ◌&&◌}
+use Rattle.std.proofs.Common.{◌||◌, ◌==◌, refl, sym, ◌∙◌, subst, ap, arith, if◌then◌else◌, get_or-set_other, get_or-set_same}
 use Rattle.std.proofs.lemmas.Bool.Decides.{nat_tests}
-use Rattle.std.proofs.lemmas.List.{take_more, get_or_default}
+use Rattle.std.proofs.lemmas.List.{take_more}
 use Rattle.gr_vector.specs.Gaps.{Missing, holds}
 use Rattle.gr_vector.specs.Views.{is_held}
+use Rattle.gr_vector.proofs.Tops.{element_is}
 
 held_pushed : (k v : ℕ) (m : Missing) (xs : List Missing) → is_held k v (xs ++ m ∷ [])
     ≡ (if k == length xs then holds v m.gaps else is_held k v xs)
@@ -53,48 +55,47 @@ pushed_both n xs ours theirs m our their xs_is ours_is theirs_is both here k v =
 pub take_next : (i : ℕ) (xs : List Missing) (m : Missing) → i < length xs → m ≡ get_or xs i m → take (i + 1) xs ≡ take i xs ++ m ∷ []
 take_next i xs m lt is = take_more xs i m lt ∙ ap (λ x. take i xs ++ x ∷ []) (sym is)
 
+equal : (a b : ℕ) → (a == b) ≡ true → a ≡ b
+equal a b e = grind (arith, nat_tests)
+
+unequal : (a b : ℕ) → (a == b) ≡ false → a ≢ b
+unequal a b e = grind (arith, nat_tests)
+
+held_set : (k v place : ℕ) (old : List Missing) (m : Missing) → place < length old
+    → is_held k v (set old place m) ≡ (if k == place then holds v m.gaps else is_held k v old)
+held_set k v place old m lt = at_place (k == place) refl
+  where
+    nothing : Missing
+    nothing = record { gaps = []; spare = 0 }
+
+    at_place : (b : Bool) → (k == place) ≡ b → is_held k v (set old place m) ≡ (if b then holds v m.gaps else is_held k v old)
+    at_place true e =
+        subst (λ z. is_held z v (set old place m) ≡ holds v m.gaps) (sym (equal k place e))
+        (ap (λ x. holds v x.gaps) (get_or-set_same old place m nothing lt))
+    at_place false e = ap (λ x. holds v x.gaps) (get_or-set_other old place k m nothing (unequal k place e))
+
+held_here : (k v place : ℕ) (old : List Missing) (o : Missing) → place < length old → o ≡ get_or old place o → (k == place) ≡ true
+    → holds v o.gaps ≡ is_held k v old
+held_here k v place old o lt is e =
+    subst (λ z. holds v o.gaps ≡ is_held z v old) (sym (equal k place e)) (ap (λ x. holds v x.gaps) (element_is place o old is lt))
+
 pub noted_at : (place n : ℕ) (old : List Missing) (m o : Missing) → place < length old → o ≡ get_or old place o
     → ((v : ℕ) → holds v m.gaps ≡ (v == n || holds v o.gaps))
     → (k v : ℕ) → is_held k v (set old place m) ≡ ((k == place && v == n) || is_held k v old)
-noted_at place n old m o lt is more k v = at_place (k == place) refl
+noted_at place n old m o lt is more k v = held_set k v place old m lt ∙ at_place (k == place) refl
   where
-    nothing : Missing
-    nothing = record { gaps = []; spare = 0 }
-
-    equal : (a b : ℕ) → (a == b) ≡ true → a ≡ b
-    equal a b e = grind (arith, nat_tests)
-
-    other : (a b : ℕ) → (a == b) ≡ false → a ≢ b
-    other a b e = grind (arith, nat_tests)
-
-    here : is_held place v (set old place m) ≡ (v == n || is_held place v old)
-    here = ap (λ x. holds v x.gaps) (get_or-set_same old place m nothing lt) ∙ more v
-        ∙ ap (λ x. v == n || holds v x.gaps) (is ∙ get_or_default old place o nothing lt)
-
-    at_place : (b : Bool) → (k == place) ≡ b → is_held k v (set old place m) ≡ ((b && v == n) || is_held k v old)
-    at_place true e = subst (λ z. is_held z v (set old place m) ≡ (v == n || is_held z v old)) (sym (equal k place e)) here
-    at_place false e = ap (λ x. holds v x.gaps) (get_or-set_other old place k m nothing (other k place e))
+    at_place : (b : Bool) → (k == place) ≡ b
+        → (if b then holds v m.gaps else is_held k v old) ≡ ((b && v == n) || is_held k v old)
+    at_place true e = more v ∙ ap (λ b. v == n || b) (held_here k v place old o lt is e)
+    at_place false e = refl
 
 pub same_at : (place : ℕ) (old : List Missing) (m o : Missing) → place < length old → o ≡ get_or old place o → m.gaps ≡ o.gaps
     → (k v : ℕ) → is_held k v (set old place m) ≡ is_held k v old
-same_at place old m o lt is same k v = at_place (k == place) refl
+same_at place old m o lt is same k v = held_set k v place old m lt ∙ either (k == place) refl
   where
-    nothing : Missing
-    nothing = record { gaps = []; spare = 0 }
-
-    equal : (a b : ℕ) → (a == b) ≡ true → a ≡ b
-    equal a b e = grind (arith, nat_tests)
-
-    other : (a b : ℕ) → (a == b) ≡ false → a ≢ b
-    other a b e = grind (arith, nat_tests)
-
-    here : is_held place v (set old place m) ≡ is_held place v old
-    here = ap (λ x. holds v x.gaps) (get_or-set_same old place m nothing lt) ∙ ap (holds v) same
-        ∙ ap (λ x. holds v x.gaps) (is ∙ get_or_default old place o nothing lt)
-
-    at_place : (b : Bool) → (k == place) ≡ b → is_held k v (set old place m) ≡ is_held k v old
-    at_place true e = subst (λ z. is_held z v (set old place m) ≡ is_held z v old) (sym (equal k place e)) here
-    at_place false e = ap (λ x. holds v x.gaps) (get_or-set_other old place k m nothing (other k place e))
+    either : (b : Bool) → (k == place) ≡ b → (if b then holds v m.gaps else is_held k v old) ≡ is_held k v old
+    either true e = ap (holds v) same ∙ held_here k v place old o lt is e
+    either false e = refl
 
 pub both_taken : (k v i : ℕ) (ours theirs : List Missing) (m o : Missing) → i < length ours → i < length theirs → m ≡ get_or ours i m
     → o ≡ get_or theirs i o

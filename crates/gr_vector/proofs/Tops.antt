@@ -1,5 +1,6 @@
 -- The greatest number of a member, what is covered, and how many ranges are missing, by its ids.
-use Rattle.std.proofs.Common.{◌≡◌, ◌⊎◌, ℕ, zero, suc, ◌+◌, ◌-◌, ◌<◌, ◌≤◌, List, [], ◌∷◌, get_or, length, Bool, true, false, not, ◌&&◌, ◌||◌, ◌==◌, ltb, leb, max, refl, sym, ◌∙◌, subst, ap, inl, inr, ⊎_elim, arith, if◌then◌else◌}
+use Rattle.std.proofs.Common.{◌≡◌, ◌⊎◌, ℕ, zero, suc, ◌+◌, ◌-◌, ◌<◌, ◌≤◌, List, [], ◌∷◌, get_or, length, Bool, true, false, not, ◌&&◌}
+use Rattle.std.proofs.Common.{◌||◌, ◌==◌, ltb, leb, max, refl, sym, ◌∙◌, subst, ap, inl, inr, ⊎_elim, arith, if◌then◌else◌}
 use Rattle.std.proofs.lemmas.Bool.Decides.{nat_tests}
 use Rattle.std.proofs.lemmas.List.{get_or_default}
 use Rattle.gr_vector.specs.Gaps.{Missing, is_missing, greatest, holds, holds_upto, ends_upto}
@@ -116,3 +117,9 @@ exceptions_ids member members some is =
 pub element_is : (place : ℕ) (missing : Missing) (members : List Missing) → missing ≡ get_or members place missing → place < length members
     → missing ≡ at place members
 element_is place missing members is lt = is ∙ get_or_default members place missing (record { gaps = []; spare = 0 }) lt
+
+-- the element that the code reads for a member
+pub member_is : (from member : ℕ) (missing : Missing) (members : List Missing) → from ≡ member
+    → missing ≡ get_or members (from - 1) missing → 1 ≤ member → member ≤ 8 → length members ≡ 8 → missing ≡ at (member - 1) members
+member_is from member missing members e is some most eight =
+    element_is (member - 1) missing members (subst (λ n. missing ≡ get_or members (n - 1) missing) e is) (omega (arith, some, most, eight))

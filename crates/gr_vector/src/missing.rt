@@ -118,7 +118,7 @@ fn common_of(alloc: Global, ours: &[Gap], theirs: &[Gap]) -> Result<Vec<Gap>, Me
 }
 
 impl Missing {
-    // All numbers are missing.
+    /// All numbers are missing.
     pub fn new(alloc: Global) -> Result<Missing, Memory>
         ensures { IfOk result (λ missing. (v : ℕ) → holds v missing.gaps ≡ false) }
     {
@@ -168,7 +168,7 @@ impl Missing {
         Ok(())
     }
 
-    // For how many ranges more there is room.
+    /// For how many ranges more there is room.
     pub fn spare(&self) -> u64
         ensures { result ≡ self.now.spare }
     {
@@ -193,7 +193,7 @@ impl Missing {
         }
     }
 
-    // The numbers that are missing in both.
+    /// The numbers that are missing in both.
     pub fn united(&self, alloc: Global, other: &Missing) -> Result<Missing, Memory>
         ensures { IfOk result (λ both. (v : ℕ) → holds v both.gaps ≡ (holds v self.now.gaps || holds v other.now.gaps)) }
     {

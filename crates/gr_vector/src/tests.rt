@@ -6,7 +6,7 @@ use gr_value::{Copied, Memory};
 /// The greatest number that a change can have.
 const GREATEST: u64 = 281474976710655;
 
-/// A vector that these numbers of a member were noted in, in this order.
+// A vector that these numbers of a member were noted in, in this order.
 fn noted(rt: &HostRuntime, member: u8, numbers: &[u64]) -> Result<Vector, Memory>
     requires some { 1 ≤ member }
     requires most { member ≤ 8 }

@@ -1,5 +1,6 @@
 -- How the code reads: the tokens of a text, or its first fault from the left.
-use Rattle.std.specs.Prelude.{◌≡◌, ℕ, zero, suc, ◌+◌, ◌-◌, ◌<◌, ◌≤◌, List, [], ◌∷◌, length, get_or, ◌==◌, nat_le, if◌then◌else◌, Option, Some, None, option_map, Result, Ok, Err}
+use Rattle.std.specs.Prelude.{◌≡◌, ℕ, zero, suc, ◌+◌, ◌-◌, ◌<◌, ◌≤◌, List, [], ◌∷◌, length, get_or, ◌==◌, nat_le, if◌then◌else◌, Option}
+use Rattle.std.specs.Prelude.{Some, None, option_map, Result, Ok, Err}
 use Rattle.std.specs.List.{prefix_len, take_while}
 use Rattle.std.specs.Char.{is_ascii_digit}
 use Rattle.gr_lex.specs.declared.token.Symbol.{Symbol}

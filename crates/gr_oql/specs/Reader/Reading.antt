@@ -1,7 +1,8 @@
 -- What a query's tokens say, or where they cease to begin a query: a definition for each rule of the grammar.
 -- Each reads at the front, and gives what stands there and the tokens behind it; or what is wrong, and the
 -- tokens from the first wrong one on.
-use Rattle.std.specs.Prelude.{ℕ, zero, suc, pos, neg_ℤ, List, [], ◌∷◌, length, Bool, true, false, ◌||◌, if◌then◌else◌, nat_lt, nat_le, Option, Some, None, Result, Ok, Err}
+use Rattle.std.specs.Prelude.{ℕ, zero, suc, pos, neg_ℤ, List, [], ◌∷◌, length, Bool, true, false, ◌||◌, if◌then◌else◌, nat_lt, nat_le}
+use Rattle.std.specs.Prelude.{Option, Some, None, Result, Ok, Err}
 use Rattle.gr_value.specs.declared.scalar.Scalar.{Scalar}
 use Rattle.gr_value.specs.declared.scalar.Scalar.TheVariants as scalar
 use Rattle.gr_lex.specs.declared.token.Symbol.TheVariants as symbols
@@ -223,7 +224,8 @@ bare_end_at ts = if begins (is_symbol symbols.Comma) ts then stop (NotACq part.J
 
 abbrev pub where_at : ℕ → Option (List ℕ) → List Terminal → Reading (Option Tree)
 where_at depth alias ts =
-    if begins (is_keyword word.Where) ts then (condition_at depth alias (rest ts) >>= λ condition. read_as (λ _. Some condition.0) (end_at condition.1))
+    if begins (is_keyword word.Where) ts
+        then (condition_at depth alias (rest ts) >>= λ condition. read_as (λ _. Some condition.0) (end_at condition.1))
     else read_as (λ _. None) (bare_end_at ts)
 
 abbrev pub source_at : ℕ → List Terminal → Reading Asked

@@ -27,7 +27,8 @@ Takes pattern text (step.Further behind rest) = Follows pattern text (chars behi
 abbrev pub StepShortens : List ℕ → List ℕ → Step → Type 0
 StepShortens pattern text (step.End agree) = ⊤
 StepShortens pattern text (step.Percent behind) = IsUtf8 behind.now × (length behind.now < length pattern)
-StepShortens pattern text (step.Further behind rest) = IsUtf8 behind.now × IsUtf8 rest.now × (length behind.now < length pattern) × (length rest.now < length text)
+StepShortens pattern text (step.Further behind rest) = IsUtf8 behind.now × IsUtf8 rest.now × (length behind.now < length pattern)
+    × (length rest.now < length text)
 
 abbrev pub LeadsTo : List ℕ → List ℕ → Walk → Type 0
 LeadsTo pattern text (walk.End agree) = is_like pattern text ≡ agree
@@ -36,4 +37,5 @@ LeadsTo pattern text (walk.Open behind left) = MeetsPercent pattern text (chars 
 -- what is left is text and no longer, and the pattern is shorter
 abbrev pub Shortens : List ℕ → List ℕ → Walk → Type 0
 Shortens pattern text (walk.End agree) = ⊤
-Shortens pattern text (walk.Open behind left) = IsUtf8 behind.now × IsUtf8 left.now × (length behind.now < length pattern) × (length left.now ≤ length text)
+Shortens pattern text (walk.Open behind left) = IsUtf8 behind.now × IsUtf8 left.now × (length behind.now < length pattern)
+    × (length left.now ≤ length text)

@@ -17,7 +17,8 @@ returns-in_err-count-clause-cause g c =
     let before = c.loop-bytes.invariant in
     let stopped = c.in_err-count.ensures in
     let passed = err_from_is_err_and c.from_residual-in_err-count.result c.from_residual-in_err-count.ensures.1 in
-    rw (passed.1, passed.2) (EndsFor-stopped _ _ _ _ _ _ _ _ _ before.taken (omega (arith, before.fits)) before.never_falls stopped.kept stopped.cause)
+    rw (passed.1, passed.2) (EndsFor-stopped _ _ _ _ _ _ _ _ _ before.taken
+        (omega (arith, before.fits)) before.never_falls stopped.kept stopped.cause)
 
 pub returns-then-count-eq0-clause-whole : goal.returns-then-count-eq0-clause-whole
 returns-then-count-eq0-clause-whole g c =

@@ -9,5 +9,6 @@ pub returns-then-number-digit : goal.returns-then-number-digit
 returns-then-number-digit c =
     let more = number_of_more c.args.digits.now c.loop-byte.byte-index (omega arith) in
     let front = number_of-take c.args.digits.now (c.loop-byte.byte-index + 1) in
-    let large : greatest_number < number_of c.args.digits.now = omega (arith, more, front, c.loop-byte.invariant.so_far, c.from-digit.ensures) in
+    let large : greatest_number < number_of c.args.digits.now =
+        omega (arith, more, front, c.loop-byte.invariant.so_far, c.from-digit.ensures) in
     rw (lt-leb _ _ large) refl

@@ -12,33 +12,50 @@ use Rattle.gr_oql.proofs.conditions.+conditions.Goals as goal
 
 pub all-parts-init : goal.all-parts-init
 all-parts-init t c =
-    begun (is_keyword word.And) (part_at (alias_of c.args.alias) c.args.depth) _ _ (tree_of c.in_ok-first.first) _ c.in_ok-first.ensures.exact c.in_ok-first.ensures.within
+    begun (is_keyword word.And) (part_at (alias_of c.args.alias) c.args.depth) _ _
+        (tree_of c.in_ok-first.first) _ c.in_ok-first.ensures.exact c.in_ok-first.ensures.within
     (first_pushed _ _ c.in_ok-first.first c.new-parts.ensures.items c.in_ok-push.ensures.items)
 
 pub all-returns-in_err-next-clause-exact : goal.all-returns-in_err-next-clause-exact
 all-returns-in_err-next-clause-exact t c =
     let p = err_from_is_err_and c.from_residual-in_err-next.result c.from_residual-in_err-next.ensures.1 in
-    rw (p.1, p.2) (made_stops (λ parts. all (in_order parts)) c.in_err-next.field-0.0 _ _ (stops_within (is_keyword word.And) (part_at (alias_of c.args.alias) c.args.depth) _ c.parts.cursor _ _ (map tree_of c.parts.parts.items) _ c.parts.invariant (sym c.parts-test.ensures.test) c.parts-test.ensures.after c.in_err-next.ensures.exact))
+    rw (p.1, p.2) (made_stops (λ parts. all (in_order parts)) c.in_err-next.field-0.0 _ _
+        (stops_within (is_keyword word.And) (part_at (alias_of c.args.alias) c.args.depth) _ c.parts.cursor _ _
+        (map tree_of c.parts.parts.items) _ c.parts.invariant
+        (sym c.parts-test.ensures.test) c.parts-test.ensures.after c.in_err-next.ensures.exact))
 
 pub all-parts-preserved : goal.all-parts-preserved
 all-parts-preserved t c =
-    stepped (is_keyword word.And) (part_at (alias_of c.args.alias) c.args.depth) _ c.parts.cursor _ _ (tree_of c.in_ok-next.next) (map tree_of c.parts.parts.items) _ c.parts.invariant (sym c.parts-test.ensures.test) c.parts-test.ensures.after c.in_ok-next.ensures.exact c.in_ok-next.ensures.within
+    stepped (is_keyword word.And) (part_at (alias_of c.args.alias) c.args.depth) _ c.parts.cursor _ _ (tree_of c.in_ok-next.next)
+        (map tree_of c.parts.parts.items) _ c.parts.invariant
+        (sym c.parts-test.ensures.test) c.parts-test.ensures.after c.in_ok-next.ensures.exact c.in_ok-next.ensures.within
     (pushed _ _ c.in_ok-next.next c.in_ok-push-2.ensures.items)
 
 pub all-returns-clause-exact : goal.all-returns-clause-exact
 all-returns-clause-exact t c =
-    rw (tree_of-All c.parts.parts, c.parts-test.ensures.after) (made (λ parts. all (in_order parts)) _ (map tree_of c.parts.parts.items) _ (finished (is_keyword word.And) (part_at (alias_of c.args.alias) c.args.depth) _ c.parts.cursor _ c.parts.invariant (sym c.parts-test.ensures.test)))
+    rw (tree_of-All c.parts.parts, c.parts-test.ensures.after)
+        (made (λ parts. all (in_order parts)) _ (map tree_of c.parts.parts.items) _
+        (finished (is_keyword word.And) (part_at (alias_of c.args.alias) c.args.depth) _ c.parts.cursor _ c.parts.invariant
+        (sym c.parts-test.ensures.test)))
 
 pub any-returns-in_err-next-clause-exact : goal.any-returns-in_err-next-clause-exact
 any-returns-in_err-next-clause-exact t c =
     let p = err_from_is_err_and c.from_residual-in_err-next.result c.from_residual-in_err-next.ensures.1 in
-    rw (p.1, p.2) (made_stops (λ parts. any (in_order parts)) c.in_err-next.field-0.0 _ _ (stops_within (is_keyword word.Or) (all_at (part_at (alias_of c.args.alias) c.args.depth)) _ c.parts.cursor _ _ (map tree_of c.parts.parts.items) _ c.parts.invariant (sym c.parts-test.ensures.test) c.parts-test.ensures.after c.in_err-next.ensures.exact))
+    rw (p.1, p.2) (made_stops (λ parts. any (in_order parts)) c.in_err-next.field-0.0 _ _
+        (stops_within (is_keyword word.Or) (all_at (part_at (alias_of c.args.alias) c.args.depth)) _ c.parts.cursor _ _
+        (map tree_of c.parts.parts.items) _ c.parts.invariant
+        (sym c.parts-test.ensures.test) c.parts-test.ensures.after c.in_err-next.ensures.exact))
 
 pub any-parts-preserved : goal.any-parts-preserved
 any-parts-preserved t c =
-    stepped (is_keyword word.Or) (all_at (part_at (alias_of c.args.alias) c.args.depth)) _ c.parts.cursor _ _ (tree_of c.in_ok-next.next) (map tree_of c.parts.parts.items) _ c.parts.invariant (sym c.parts-test.ensures.test) c.parts-test.ensures.after c.in_ok-next.ensures.exact c.in_ok-next.ensures.within
+    stepped (is_keyword word.Or) (all_at (part_at (alias_of c.args.alias) c.args.depth)) _ c.parts.cursor _ _ (tree_of c.in_ok-next.next)
+        (map tree_of c.parts.parts.items) _ c.parts.invariant
+        (sym c.parts-test.ensures.test) c.parts-test.ensures.after c.in_ok-next.ensures.exact c.in_ok-next.ensures.within
     (pushed _ _ c.in_ok-next.next c.in_ok-push-2.ensures.items)
 
 pub any-returns-clause-exact : goal.any-returns-clause-exact
 any-returns-clause-exact t c =
-    rw (tree_of-Any c.parts.parts, c.parts-test.ensures.after) (made (λ parts. any (in_order parts)) _ (map tree_of c.parts.parts.items) _ (finished (is_keyword word.Or) (all_at (part_at (alias_of c.args.alias) c.args.depth)) _ c.parts.cursor _ c.parts.invariant (sym c.parts-test.ensures.test)))
+    rw (tree_of-Any c.parts.parts, c.parts-test.ensures.after)
+        (made (λ parts. any (in_order parts)) _ (map tree_of c.parts.parts.items) _
+        (finished (is_keyword word.Or) (all_at (part_at (alias_of c.args.alias) c.args.depth)) _ c.parts.cursor _ c.parts.invariant
+        (sym c.parts-test.ensures.test)))

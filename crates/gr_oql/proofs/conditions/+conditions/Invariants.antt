@@ -26,7 +26,8 @@ abbrev pub decreases-all-parts : goal.decreases-all-parts
 decreases-all-parts l = length l.cursor
 
 abbrev pub invariant-any-parts : goal.invariant-any-parts
-invariant-any-parts l = SoFar (is_keyword word.Or) (all_at (part_at (alias_of l.alias) l.depth)) l.fn.cursor (map tree_of l.parts.items) l.cursor
+invariant-any-parts l = SoFar (is_keyword word.Or) (all_at (part_at (alias_of l.alias) l.depth)) l.fn.cursor
+    (map tree_of l.parts.items) l.cursor
 
 abbrev pub decreases-any-parts : goal.decreases-any-parts
 decreases-any-parts l = length l.cursor

@@ -6,4 +6,5 @@ use Rattle.gr_oql.specs.Truth.{or_truth}
 use Rattle.gr_oql.proofs.matching.among.Given as goal
 
 abbrev pub invariant-loop-literal : goal.invariant-loop-literal
-invariant-loop-literal l = or_truth l.found (among (option_copied l.scalar) (drop l.literal-index l.literals)) ≡ among (option_copied l.scalar) l.literals
+invariant-loop-literal l = or_truth l.found (among (option_copied l.scalar) (drop l.literal-index l.literals))
+    ≡ among (option_copied l.scalar) l.literals

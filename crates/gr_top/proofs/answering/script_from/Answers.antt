@@ -12,7 +12,9 @@ returns-in-Err-Fault-read-clause-explained g c sink untouched =
     let fault : script_of text ≡ Err end.fault = rw end.field-0-is at end.ensures.exact in
     (refl, record {
       text = text;
-      whole = record { taken = rw c.as_slice.ensures.value whole.taken; ended = whole.end; fits = omega (arith, ap length c.as_slice.ensures.value, whole.fits) };
-      no_script = λ h lines is spelled. let clash : Fault end.fault ≡ Memory = sym end.field-0-is ∙ end.ensures.only h lines is spelled in cc;
+      whole = record { taken = rw c.as_slice.ensures.value whole.taken; ended = whole.end; fits =
+          omega (arith, ap length c.as_slice.ensures.value, whole.fits) };
+      no_script = λ h lines is spelled. let clash : Fault end.fault ≡ Memory = sym end.field-0-is ∙ end.ensures.only h lines is spelled in
+          cc;
       fault_is = fault_is (script_in text) end.fault fault;
     }, untouched)

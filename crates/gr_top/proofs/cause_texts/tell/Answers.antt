@@ -16,12 +16,14 @@ returns-in-ReadFault-clause-part g c = rw c.in-ReadFault.is c.write_each-in-Read
 
 pub returns-in-Script-clause-whole : goal.returns-in-Script-clause-whole
 returns-in-Script-clause-whole g c =
-    let number : c.format-number-in-Script.result.now ≡ decimal (number_of c.in-Script.fault.reason) = rw c.number.ensures at c.format-number-in-Script.ensures.text in
+    let number : c.format-number-in-Script.result.now ≡ decimal (number_of c.in-Script.fault.reason) =
+        rw c.number.ensures at c.format-number-in-Script.ensures.text in
     rw (script_line _ _ _ _ _ c.in-Script.is c.format-line.ensures.text number c.name-name.ensures) c.write_each-in-Script.ensures.whole
 
 pub returns-in-Script-clause-part : goal.returns-in-Script-clause-part
 returns-in-Script-clause-part g c =
-    let number : c.format-number-in-Script.result.now ≡ decimal (number_of c.in-Script.fault.reason) = rw c.number.ensures at c.format-number-in-Script.ensures.text in
+    let number : c.format-number-in-Script.result.now ≡ decimal (number_of c.in-Script.fault.reason) =
+        rw c.number.ensures at c.format-number-in-Script.ensures.text in
     rw (script_line _ _ _ _ _ c.in-Script.is c.format-line.ensures.text number c.name-name.ensures) c.write_each-in-Script.ensures.part
 
 pub returns-in-WriteFault-clause-whole : goal.returns-in-WriteFault-clause-whole

@@ -1,19 +1,17 @@
-use Rattle.std.proofs.Common.{◌≡◌, ℕ, ◌-◌, sym, ap, subst, ◌∙◌, arith, get_or, set, ◌&&◌, not, ◌||◌, ◌==◌}
+use Rattle.std.proofs.Common.{◌≡◌, ℕ, ◌-◌, sym, ap, subst, ◌∙◌, arith, set, ◌&&◌, not, ◌||◌, ◌==◌}
 use Rattle.std.proofs.lemmas.Result.{err_from_is_err_and}
 use Rattle.gr_vector.specs.Gaps.{holds}
 use Rattle.gr_vector.specs.Views.{is_held}
-use Rattle.gr_vector.proofs.Tops.{at, element_is, has_member}
+use Rattle.gr_vector.proofs.Tops.{member_is, has_member}
 use Rattle.gr_vector.proofs.Views.{same_ids, noted_ids}
 use Rattle.gr_vector.proofs.Members.{noted_at, same_at}
 use Rattle.gr_vector.proofs.vector.Vector.note.Goals as goal
 
 pub returns-clause-fresh : goal.returns-clause-fresh
 returns-clause-fresh c =
-    let is : c.index_mut-missing.result.now ≡ at (c.args.member - 1) c.self.inside.members.items =
-    element_is (c.args.member - 1) c.index_mut-missing.result.now c.self.inside.members.items
-    (subst (λ n. c.index_mut-missing.result.now ≡ get_or c.self.inside.members.items (n - 1) c.index_mut-missing.result.now)
-    c.from.ensures c.index_mut-missing.ensures.value)
-    (omega (arith, c.self.invariant.eight)) in
+    let is = member_is c.from.result c.args.member c.index_mut-missing.result.now c.self.inside.members.items c.from.ensures
+    c.index_mut-missing.ensures.value
+    c.requires.a_member c.requires.of_eight c.self.invariant.eight in
     rw (← c.self.view_is) (c.in_ok-fresh.ensures.fresh ∙ ap (λ m. not (holds c.args.rv m.gaps)) is
     ∙ ap not (sym (has_member c.args.member c.args.rv c.self.inside.members.items c.requires.a_member)))
 
