@@ -40,7 +40,7 @@ fn is_word(bytes: &[u8]) -> bool
     begins_word(bytes) && bytes.len() <= MOST_BYTES && has_word_bytes(bytes)
 }
 
-fn is_region(bytes: &[u8]) -> bool
+pub(crate) fn is_region(bytes: &[u8]) -> bool
     ensures { result ≡ is_region bytes.now }
 {
     match bytes {

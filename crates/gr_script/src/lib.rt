@@ -2,14 +2,29 @@
 #![tactic(auto)]
 
 mod act;
+mod cuts;
+mod ending;
 mod fault;
 mod field;
 mod form;
+mod forms;
+mod halt;
 mod heading;
+mod items;
+mod layout;
 mod line;
+mod note;
+mod numeral;
+mod past;
+mod piece;
 mod reading;
+mod reason;
+mod refusal;
+mod saying;
+mod sayings;
 mod script;
 mod stop;
+mod tally;
 mod text;
 mod word;
 

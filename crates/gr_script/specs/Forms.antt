@@ -1,0 +1,125 @@
+-- The forms of lines, as data: the word of each, its fields, and where it may stand.
+use Rattle.std.specs.Prelude.{ℕ, List, [], ◌∷◌, Bool, true, false, Option, codes, bytes_eq}
+use Rattle.std.specs.List.{find}
+use Rattle.gr_script.specs.declared.forms.LineKind.{LineKind}
+use Rattle.gr_script.specs.declared.forms.LineKind.TheVariants.{Georep, Region, Members, Shards, Inbox, Trouble, Floor, Client, Get, Put, PutIfAbsent, Replace, ReplaceIf, Destroy, Remove, Peek, Open, Stop, Close, Fetch, Deliver, Report, Hear, Sweep, Join}
+use Rattle.gr_script.specs.declared.forms.FieldKind.{FieldKind}
+use Rattle.gr_script.specs.declared.forms.FieldKind.TheVariants as field
+
+abbrev pub word : LineKind → List ℕ
+word Georep = codes "georep"
+word Region = codes "region"
+word Members = codes "members"
+word Shards = codes "shards"
+word Inbox = codes "inbox"
+word Trouble = codes "trouble"
+word Floor = codes "floor"
+word Client = codes "client"
+word Get = codes "get"
+word Put = codes "put"
+word PutIfAbsent = codes "putIfAbsent"
+word Replace = codes "replace"
+word ReplaceIf = codes "replaceIf"
+word Destroy = codes "destroy"
+word Remove = codes "remove"
+word Peek = codes "peek"
+word Open = codes "open"
+word Stop = codes "stop"
+word Close = codes "close"
+word Fetch = codes "fetch"
+word Deliver = codes "deliver"
+word Report = codes "report"
+word Hear = codes "hear"
+word Sweep = codes "sweep"
+word Join = codes "join"
+
+-- the fields of the line
+abbrev pub fields : LineKind → List FieldKind
+fields Georep = field.Word ∷ field.Version ∷ []
+fields Region = field.Word ∷ field.Region ∷ []
+fields Members = field.Word ∷ (field.Number 1 8) ∷ (field.Number 1 8) ∷ []
+fields Shards = field.Word ∷ (field.Number 1 32) ∷ []
+fields Inbox = field.Word ∷ (field.Number 1 4096) ∷ []
+fields Trouble = field.Word ∷ (field.Number 0 2147483646) ∷ []
+fields Floor = field.Word ∷ (field.Number 0 281474976710655) ∷ []
+fields Client = field.Word ∷ (field.Number 1 64) ∷ field.At ∷ field.Member ∷ []
+fields Get = field.Client ∷ field.Word ∷ field.Key ∷ []
+fields Put = field.Client ∷ field.Word ∷ field.Key ∷ field.Value ∷ []
+fields PutIfAbsent = field.Client ∷ field.Word ∷ field.Key ∷ field.Value ∷ []
+fields Replace = field.Client ∷ field.Word ∷ field.Key ∷ field.Value ∷ []
+fields ReplaceIf = field.Client ∷ field.Word ∷ field.Key ∷ field.Value ∷ field.Value ∷ []
+fields Destroy = field.Client ∷ field.Word ∷ field.Key ∷ []
+fields Remove = field.Client ∷ field.Word ∷ field.Key ∷ field.Value ∷ []
+fields Peek = field.Client ∷ field.Word ∷ field.Key ∷ []
+fields Open = field.Client ∷ field.Word ∷ field.Key ∷ field.Query ∷ []
+fields Stop = field.Client ∷ field.Word ∷ field.Key ∷ []
+fields Close = field.Client ∷ field.Word ∷ field.Key ∷ []
+fields Fetch = field.Client ∷ field.Word ∷ field.Key ∷ []
+fields Deliver = field.Word ∷ field.Member ∷ field.Step ∷ []
+fields Report = field.Word ∷ field.Member ∷ []
+fields Hear = field.Word ∷ field.Member ∷ field.Member ∷ field.Ordinal ∷ []
+fields Sweep = field.Word ∷ field.Member ∷ (field.Number 0 4294967295) ∷ []
+fields Join = field.Word ∷ field.Member ∷ field.Member ∷ []
+
+-- A line of a greater rank stands behind one of a lesser.
+abbrev pub rank : LineKind → ℕ
+rank Georep = 0
+rank Region = 1
+rank Members = 2
+rank Shards = 3
+rank Inbox = 4
+rank Trouble = 5
+rank Floor = 6
+rank Client = 7
+rank Get = 8
+rank Put = 8
+rank PutIfAbsent = 8
+rank Replace = 8
+rank ReplaceIf = 8
+rank Destroy = 8
+rank Remove = 8
+rank Peek = 8
+rank Open = 8
+rank Stop = 8
+rank Close = 8
+rank Fetch = 8
+rank Deliver = 8
+rank Report = 8
+rank Hear = 8
+rank Sweep = 8
+rank Join = 8
+
+-- the lines that begin with a client's number
+abbrev pub step_kinds : List LineKind
+step_kinds =
+    Get ∷ Put ∷ PutIfAbsent ∷ Replace ∷ ReplaceIf ∷ Destroy
+    ∷ Remove ∷ Peek ∷ Open ∷ Stop ∷ Close ∷ Fetch ∷ []
+
+abbrev pub other_kinds : List LineKind
+other_kinds =
+    Georep ∷ Region ∷ Members ∷ Shards ∷ Inbox ∷ Trouble ∷ Floor
+    ∷ Client ∷ Deliver ∷ Report ∷ Hear ∷ Sweep ∷ Join ∷ []
+
+-- the first of these kinds whose word this is
+abbrev pub kind_of : List LineKind → List ℕ → Option LineKind
+kind_of kinds text = find (λ kind. bytes_eq text (word kind)) kinds
+
+-- Some lines begin with a client's number.
+abbrev pub is_step : LineKind → Bool
+is_step Get = true
+is_step Put = true
+is_step PutIfAbsent = true
+is_step Replace = true
+is_step ReplaceIf = true
+is_step Destroy = true
+is_step Remove = true
+is_step Peek = true
+is_step Open = true
+is_step Stop = true
+is_step Close = true
+is_step Fetch = true
+is_step _ = false
+
+-- whether lines of these kinds have the same word
+abbrev pub is_kind : LineKind → LineKind → Bool
+is_kind kind other = bytes_eq (word kind) (word other)

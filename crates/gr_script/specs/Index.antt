@@ -1,0 +1,35 @@
+-- What is kept of the earlier lines of a script, so that none of them is looked at again.
+use Rattle.std.specs.Prelude.{◌≡◌, ℕ, ◌≤◌, List, length}
+use Rattle.gr_script.specs.declared.forms.LineKind.TheVariants as kind
+use Rattle.gr_script.specs.declared.items.Setting.{Setting}
+use Rattle.gr_script.specs.declared.past.Counted.{Counted}
+use Rattle.gr_script.specs.declared.saying.Saying.{Saying}
+use Rattle.gr_script.specs.Past.{setting, founders, homes, stage, count_of, queries, steps, reports, joins}
+use Rattle.gr_script.specs.Tallies.{count_in, Counts}
+
+-- the most lines of a script
+abbrev pub most_lines : ℕ
+most_lines = 200000
+
+-- how many lines of some kinds there are
+abbrev pub counted : List Saying → Counted
+counted past = record {
+  reports = count_of kind.Report past;
+  hears = count_of kind.Hear past;
+  sweeps = count_of kind.Sweep past;
+  opens = count_of kind.Open past;
+  queries = queries past;
+}
+
+-- What is kept is what the earlier lines say.
+pub record IsIndex (stage_now : ℕ) (held : Setting) (founders_now : ℕ) (homes_now : List ℕ)
+    (step_counts report_counts join_counts : Counts) (lines : Counted) (past : List Saying) : Type 0 where
+  pub staged : stage_now ≡ stage past
+  pub set : held ≡ setting past
+  pub founded : founders_now ≡ founders past
+  pub homed : homes_now ≡ homes past
+  pub stepped : (client : ℕ) → count_in step_counts client ≡ steps client past
+  pub reported : (member : ℕ) → count_in report_counts member ≡ reports member past
+  pub joined : (member : ℕ) → count_in join_counts member ≡ joins member past
+  pub counts : lines ≡ counted past
+  pub few : length past ≤ most_lines

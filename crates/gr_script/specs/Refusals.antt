@@ -1,0 +1,102 @@
+-- Which line of a script is refused first, and for which reason.
+use Rattle.std.specs.Prelude.{ℕ, ◌+◌, List, [], ◌∷◌, Bool, false, ◌&&◌, ◌||◌, ◌==◌, nat_lt, nat_le, not, bytes_eq, Option, Some, None, Result, Ok, Err, slice_get, if◌then◌else◌}
+use Rattle.std.specs.Option.{ok_or, option_map_or}
+use Rattle.gr_script.specs.declared.forms.LineKind.{LineKind}
+use Rattle.gr_script.specs.declared.forms.LineKind.TheVariants as kind
+use Rattle.gr_script.specs.declared.items.Item.{Item}
+use Rattle.gr_script.specs.declared.saying.Saying.{Saying}
+use Rattle.gr_script.specs.declared.reason.Reason.{Reason}
+use Rattle.gr_script.specs.declared.reason.Reason.TheVariants.{Header, Word, Fields, Range, Order, Later, Join, Itself, Count, NotInRun}
+use Rattle.gr_script.specs.Cuts.{text_said, is_skipped}
+use Rattle.gr_script.specs.Fields.{first, fits, form_of}
+use Rattle.gr_script.specs.Forms.{word, fields, rank, is_kind}
+use Rattle.gr_script.specs.Halts.{◌>>=◌, unless}
+use Rattle.gr_script.specs.Items.{text_at, items_at}
+use Rattle.gr_script.specs.Past.{number, founders, home, clients, setting, count_of, queries, steps, reports, joins, stage}
+
+-- ---- a line of the heading that is due
+
+-- the lines that no script lacks, in order
+abbrev pub required : List LineKind
+required = kind.Georep ∷ kind.Region ∷ kind.Members ∷ kind.Shards ∷ []
+
+-- The first of them has its fields in its word's place.
+abbrev pub is_begun : LineKind → List ℕ → Bool
+is_begun kind.Georep text = bytes_eq (first text) (word kind.Georep) && fits (fields kind.Georep) text
+is_begun form text = bytes_eq (first text) (word form)
+
+-- Another line is due.
+abbrev pub lacks : ℕ → List ℕ → Bool
+lacks stage text = option_map_or (λ due. not (is_begun due text)) (slice_get required stage) false
+
+-- ---- what a line says against the earlier ones
+
+-- Nothing has this number, where so many are numbered from 1.
+abbrev pub is_missing : ℕ → ℕ → Bool
+is_missing number count = number == 0 || nat_lt count number
+
+-- No more lines may stand where so many do.
+abbrev pub is_full : ℕ → ℕ → Bool
+is_full most count = nat_le most count
+
+abbrev pub is_no_join : ℕ → ℕ → List Saying → Bool
+is_no_join member provider past = nat_le member (founders past) || not (joins member past == 0) || nat_lt (founders past) provider
+
+-- what a line with good fields may still be, and the reason against it, in order
+abbrev pub tests : List Saying → LineKind → List Item → List (Bool × Reason)
+tests past kind.Members items = (nat_lt (number 0 items) (number 1 items), Range) ∷ []
+tests past kind.Client items = (not (number 0 items == clients past + 1), Order) ∷ []
+tests past kind.Deliver items =
+    (is_missing (number 2 items) (steps (number 1 items) past), Later)
+    ∷ (number 0 items == home (number 1 items) past, Itself)
+    ∷ []
+tests past kind.Hear items =
+    (is_missing (number 2 items) (reports (number 1 items) past), Later)
+    ∷ (number 0 items == number 1 items, Itself)
+    ∷ (is_full 1400 (count_of kind.Hear past), Count)
+    ∷ []
+tests past kind.Join items = (is_no_join (number 0 items) (number 1 items) past, Join) ∷ []
+tests past kind.Report items = (is_full 200 (count_of kind.Report past), Count) ∷ []
+tests past kind.Sweep items = (is_full 10000 (count_of kind.Sweep past), Count) ∷ []
+tests past kind.Open items = (is_full 16 (count_of kind.Open past) || is_full 10000 (queries past), Count) ∷ []
+tests past kind.Stop items = (is_full 10000 (queries past), Count) ∷ []
+tests past kind.Close items = (is_full 10000 (queries past), Count) ∷ []
+tests past kind.Fetch items = (is_full 10000 (queries past), Count) ∷ []
+tests past _ items = []
+
+-- the reason of the first test that holds
+abbrev pub refusal : List (Bool × Reason) → Option Reason
+refusal [] = None
+refusal (test ∷ tests) = if test.0 then Some test.1 else refusal tests
+
+abbrev pub unless_refused : {A : Type 0} → Option Reason → A → Result A Reason
+unless_refused None x = Ok x
+unless_refused (Some why) x = Err why
+
+-- ---- a line
+
+-- Deliveries and hearings stand in no run.
+abbrev pub is_replayed : LineKind → Bool
+is_replayed form = is_kind kind.Deliver form || is_kind kind.Hear form
+
+-- which form a line has, at the least rank that it may have now
+abbrev pub form_at : Bool → ℕ → List ℕ → Result LineKind Reason
+form_at runs stage text = do
+  text ← unless (lacks stage text) (Header (stage + 1)) text
+  form ← ok_or (form_of text) Word
+  form ← unless (runs && is_replayed form) NotInRun form
+  form ← unless (nat_lt (rank form) stage) Order form
+  unless (not (fits (fields form) text)) Fields form
+
+-- what a line says that isn't skipped, behind earlier ones
+abbrev pub saying_at : Bool → List Saying → List ℕ → Result Saying Reason
+saying_at runs past text = do
+  form ← form_at runs (stage past) text
+  items ← items_at (setting past) (fields form) text
+  unless_refused (refusal (tests past form items)) (record { kind = form; items = items })
+
+-- the earlier lines with one more, which may be skipped
+abbrev pub past_with : Bool → List Saying → List ℕ → Result (List Saying) Reason
+past_with runs past line = do
+  line ← text_at line
+  if is_skipped (text_said line) then Ok past else (saying_at runs past (text_said line) >>= λ saying. Ok (saying ∷ past))

@@ -1,0 +1,87 @@
+ghost use Rattle.std.specs.Prelude.{◌≡◌, ◌≤◌, ◌==◌, length};
+ghost use Rattle.std.specs.List.{prefix_len};
+ghost use Rattle.gr_script.specs.Cuts.{ends_with, line_count, without_return, is_space, after_spaces, before_spaces, text_said, is_skipped, field_len};
+
+use crate::text::is_ended;
+
+fn ends_with(byte: u8, text: &[u8]) -> bool
+    ensures { result ≡ ends_with byte text.now }
+{
+    match text.last() {
+        Some(last) => *last == byte,
+        None => false,
+    }
+}
+
+/// How many lines a text has.
+pub(crate) fn line_count(text: &[u8]) -> u64
+    ensures { result ≡ line_count text.now }
+{
+    let feeds = text.iter().filter(|byte| **byte == b'\n').count() as u64;
+    if is_ended(text) { feeds } else { feeds + 1 }
+}
+
+fn without_return(line: &[u8]) -> &[u8]
+    ensures { result.now ≡ without_return line.now }
+{
+    if ends_with(b'\r', line) {
+        &line[..line.len() - 1]
+    } else {
+        line
+    }
+}
+
+fn is_space(byte: u8) -> bool
+    ensures { result ≡ is_space byte }
+{
+    byte == b' '
+}
+
+fn spaces_len(text: &[u8]) -> usize
+    ensures exact { result ≡ prefix_len is_space text.now }
+    ensures within { result ≤ length text.now }
+{
+    text.iter().take_while(|byte| is_space(**byte)).count()
+}
+
+/// The text without the spaces in front.
+pub(crate) fn after_spaces(text: &[u8]) -> &[u8]
+    ensures { result.now ≡ after_spaces text.now }
+{
+    &text[spaces_len(text)..]
+}
+
+fn before_spaces(text: &[u8]) -> &[u8]
+    ensures { result.now ≡ before_spaces text.now }
+{
+    let mut end = text.len();
+    while end > 0 && is_space(text[end - 1]) {
+        end -= 1;
+    }
+    &text[..end]
+}
+
+/// What a line says.
+pub(crate) fn text_said(line: &[u8]) -> &[u8]
+    ensures { result.now ≡ text_said line.now }
+{
+    after_spaces(before_spaces(without_return(line)))
+}
+
+/// Whether nothing is said, or a comment.
+pub(crate) fn is_skipped(text: &[u8]) -> bool
+    ensures { result ≡ is_skipped text.now }
+{
+    match text {
+        [] => true,
+        [first, ..] => *first == b'#',
+    }
+}
+
+/// How many bytes the field has that stands in front.
+pub(crate) fn field_len(text: &[u8]) -> usize
+    ensures exact { result ≡ field_len text.now }
+    ensures within { result ≤ length text.now }
+{
+    text.iter().take_while(|byte| !is_space(**byte)).count()
+}

@@ -1,0 +1,291 @@
+ghost use Rattle.std.specs.Prelude.{◌≡◌, if◌then◌else◌};
+ghost use Rattle.gr_script.specs.Forms.{word, fields, rank, is_step, is_kind, step_kinds, other_kinds, kind_of};
+
+/// What a line is, by its word.
+#[derive(Clone, Copy)]
+pub(crate) enum LineKind {
+    Georep,
+    Region,
+    Members,
+    Shards,
+    Inbox,
+    Trouble,
+    Floor,
+    Client,
+    Get,
+    Put,
+    PutIfAbsent,
+    Replace,
+    ReplaceIf,
+    Destroy,
+    Remove,
+    Peek,
+    Open,
+    Stop,
+    Close,
+    Fetch,
+    Deliver,
+    Report,
+    Hear,
+    Sweep,
+    Join,
+}
+
+/// What a field of a line is.
+#[derive(Clone, Copy)]
+pub(crate) enum FieldKind {
+    /// The word that says what the line is.
+    Word,
+    /// The word `at`.
+    At,
+    /// The version of the format.
+    Version,
+    /// The region's name.
+    Region,
+    /// A number from the one to the other.
+    Number { least: u128, most: u128 },
+    /// The number of a member.
+    Member,
+    /// The number of a client that is stated.
+    Client,
+    /// Which one it is, counted from 1.
+    Ordinal,
+    /// A client and which of its steps it is, with a dot between them.
+    Step,
+    Key,
+    Value,
+    /// The text of a query.
+    Query,
+}
+
+/// The lines that begin with a client's number.
+const STEP_KINDS: [LineKind; 12] = [
+    LineKind::Get,
+    LineKind::Put,
+    LineKind::PutIfAbsent,
+    LineKind::Replace,
+    LineKind::ReplaceIf,
+    LineKind::Destroy,
+    LineKind::Remove,
+    LineKind::Peek,
+    LineKind::Open,
+    LineKind::Stop,
+    LineKind::Close,
+    LineKind::Fetch,
+];
+
+const OTHER_KINDS: [LineKind; 13] = [
+    LineKind::Georep,
+    LineKind::Region,
+    LineKind::Members,
+    LineKind::Shards,
+    LineKind::Inbox,
+    LineKind::Trouble,
+    LineKind::Floor,
+    LineKind::Client,
+    LineKind::Deliver,
+    LineKind::Report,
+    LineKind::Hear,
+    LineKind::Sweep,
+    LineKind::Join,
+];
+
+impl LineKind {
+    /// How it is spelled.
+    pub(crate) fn word(self) -> &'static [u8]
+        ensures { result.now ≡ word self }
+    {
+        match self {
+            LineKind::Georep => b"georep",
+            LineKind::Region => b"region",
+            LineKind::Members => b"members",
+            LineKind::Shards => b"shards",
+            LineKind::Inbox => b"inbox",
+            LineKind::Trouble => b"trouble",
+            LineKind::Floor => b"floor",
+            LineKind::Client => b"client",
+            LineKind::Get => b"get",
+            LineKind::Put => b"put",
+            LineKind::PutIfAbsent => b"putIfAbsent",
+            LineKind::Replace => b"replace",
+            LineKind::ReplaceIf => b"replaceIf",
+            LineKind::Destroy => b"destroy",
+            LineKind::Remove => b"remove",
+            LineKind::Peek => b"peek",
+            LineKind::Open => b"open",
+            LineKind::Stop => b"stop",
+            LineKind::Close => b"close",
+            LineKind::Fetch => b"fetch",
+            LineKind::Deliver => b"deliver",
+            LineKind::Report => b"report",
+            LineKind::Hear => b"hear",
+            LineKind::Sweep => b"sweep",
+            LineKind::Join => b"join",
+        }
+    }
+
+    /// The fields of the line.
+    pub(crate) fn fields(self) -> &'static [FieldKind]
+        ensures { result.now ≡ fields self }
+    {
+        match self {
+            LineKind::Georep => &[FieldKind::Word, FieldKind::Version],
+            LineKind::Region => &[FieldKind::Word, FieldKind::Region],
+            LineKind::Members => &[
+                FieldKind::Word,
+                FieldKind::Number { least: 1, most: 8 },
+                FieldKind::Number { least: 1, most: 8 },
+            ],
+            LineKind::Shards => &[FieldKind::Word, FieldKind::Number { least: 1, most: 32 }],
+            LineKind::Inbox => &[
+                FieldKind::Word,
+                FieldKind::Number {
+                    least: 1,
+                    most: 4096,
+                },
+            ],
+            LineKind::Trouble => &[
+                FieldKind::Word,
+                FieldKind::Number {
+                    least: 0,
+                    most: 2147483646,
+                },
+            ],
+            LineKind::Floor => &[
+                FieldKind::Word,
+                FieldKind::Number {
+                    least: 0,
+                    most: 281474976710655,
+                },
+            ],
+            LineKind::Client => &[
+                FieldKind::Word,
+                FieldKind::Number { least: 1, most: 64 },
+                FieldKind::At,
+                FieldKind::Member,
+            ],
+            LineKind::Get => &[FieldKind::Client, FieldKind::Word, FieldKind::Key],
+            LineKind::Put => &[
+                FieldKind::Client,
+                FieldKind::Word,
+                FieldKind::Key,
+                FieldKind::Value,
+            ],
+            LineKind::PutIfAbsent => &[
+                FieldKind::Client,
+                FieldKind::Word,
+                FieldKind::Key,
+                FieldKind::Value,
+            ],
+            LineKind::Replace => &[
+                FieldKind::Client,
+                FieldKind::Word,
+                FieldKind::Key,
+                FieldKind::Value,
+            ],
+            LineKind::ReplaceIf => &[
+                FieldKind::Client,
+                FieldKind::Word,
+                FieldKind::Key,
+                FieldKind::Value,
+                FieldKind::Value,
+            ],
+            LineKind::Destroy => &[FieldKind::Client, FieldKind::Word, FieldKind::Key],
+            LineKind::Remove => &[
+                FieldKind::Client,
+                FieldKind::Word,
+                FieldKind::Key,
+                FieldKind::Value,
+            ],
+            LineKind::Peek => &[FieldKind::Client, FieldKind::Word, FieldKind::Key],
+            LineKind::Open => &[
+                FieldKind::Client,
+                FieldKind::Word,
+                FieldKind::Key,
+                FieldKind::Query,
+            ],
+            LineKind::Stop => &[FieldKind::Client, FieldKind::Word, FieldKind::Key],
+            LineKind::Close => &[FieldKind::Client, FieldKind::Word, FieldKind::Key],
+            LineKind::Fetch => &[FieldKind::Client, FieldKind::Word, FieldKind::Key],
+            LineKind::Deliver => &[FieldKind::Word, FieldKind::Member, FieldKind::Step],
+            LineKind::Report => &[FieldKind::Word, FieldKind::Member],
+            LineKind::Hear => &[
+                FieldKind::Word,
+                FieldKind::Member,
+                FieldKind::Member,
+                FieldKind::Ordinal,
+            ],
+            LineKind::Sweep => &[
+                FieldKind::Word,
+                FieldKind::Member,
+                FieldKind::Number {
+                    least: 0,
+                    most: 4294967295,
+                },
+            ],
+            LineKind::Join => &[FieldKind::Word, FieldKind::Member, FieldKind::Member],
+        }
+    }
+}
+
+fn kind_among(kinds: &[LineKind], text: &[u8]) -> Option<LineKind>
+    ensures { result ≡ kind_of kinds.now text.now }
+{
+    kinds.iter().copied().find(|kind| text == kind.word())
+}
+
+/// The kind with this word, of those that begin with a client's number or of the others.
+pub(crate) fn kind_of(is_step: bool, text: &[u8]) -> Option<LineKind>
+    ensures { result ≡ kind_of (if is_step then step_kinds else other_kinds) text.now }
+{
+    if is_step {
+        kind_among(&STEP_KINDS, text)
+    } else {
+        kind_among(&OTHER_KINDS, text)
+    }
+}
+
+/// Its rank. A line of a greater rank stands behind one of a lesser.
+pub(crate) fn rank(kind: LineKind) -> u8
+    ensures { result ≡ rank kind }
+{
+    match kind {
+        LineKind::Georep => 0,
+        LineKind::Region => 1,
+        LineKind::Members => 2,
+        LineKind::Shards => 3,
+        LineKind::Inbox => 4,
+        LineKind::Trouble => 5,
+        LineKind::Floor => 6,
+        LineKind::Client => 7,
+        _ => 8,
+    }
+}
+
+/// Whether the line begins with a client's number.
+pub(crate) fn is_step(kind: LineKind) -> bool
+    ensures { result ≡ is_step kind }
+{
+    matches!(
+        kind,
+        LineKind::Get
+            | LineKind::Put
+            | LineKind::PutIfAbsent
+            | LineKind::Replace
+            | LineKind::ReplaceIf
+            | LineKind::Destroy
+            | LineKind::Remove
+            | LineKind::Peek
+            | LineKind::Open
+            | LineKind::Stop
+            | LineKind::Close
+            | LineKind::Fetch
+    )
+}
+
+/// Whether lines of these kinds have the same word.
+pub(crate) fn is_kind(kind: LineKind, other: LineKind) -> bool
+    ensures { result ≡ is_kind kind other }
+{
+    kind.word() == other.word()
+}

@@ -1,0 +1,210 @@
+ghost use Rattle.std.specs.Prelude.{◌≡◌, ◌<◌, [], ◌∷◌, List, length, IfOk};
+ghost use Rattle.gr_script.specs.Index.{most_lines, counted};
+ghost use Rattle.gr_script.specs.declared.saying.Saying.{Saying};
+ghost use Rattle.gr_script.specs.Past.{stage, founders, clients, steps, reports, joins, homes as homes_of, home, setting};
+
+use crate::forms::{LineKind, is_kind, is_step};
+use crate::items::Setting;
+use crate::note::{counted, homes_with, is_query, next_rank, region_with, stated_with};
+use crate::saying::{Saying, number};
+use crate::tally::{count_in, counts_with};
+use gr_value::{ItemList, Memory};
+use std::alloc::Global;
+use std::collections::BTreeMap;
+use std::marker::Model;
+
+/// How many lines of some kinds there are.
+#[derive(Clone, Copy)]
+pub(crate) struct Counted {
+    pub(crate) reports: u32,
+    pub(crate) hears: u32,
+    pub(crate) sweeps: u32,
+    pub(crate) opens: u32,
+    pub(crate) queries: u32,
+}
+
+/// What the earlier lines of a script say, which contracts see as these, the last one first. The
+/// rest is kept so that none of them is looked at again.
+#[derive(Drop)]
+pub(crate) struct Past {
+    sayings: ItemList<Saying>,
+    stage: u8,
+    setting: Setting,
+    founders: u128,
+    homes: ItemList<u128>,
+    steps: BTreeMap<u128, u32>,
+    reports: BTreeMap<u128, u32>,
+    joins: BTreeMap<u128, u32>,
+    counted: Counted,
+}
+
+impl Model for Past {
+    ghost use Rattle.std.specs.Prelude.{List, reverse};
+    ghost use Rattle.gr_script.specs.declared.saying.Saying.{Saying};
+    ghost use Rattle.gr_script.specs.Index.{IsIndex};
+    ghost use Rattle.std.specs.Coded.{codes};
+    ghost use Rattle.gr_oql.specs.Code.{tree_code};
+
+    ghost Value = { List Saying };
+
+    ghost coded = { Prim.hlevel (codes, tree_code) };
+
+    ghost view = { λ past. reverse past.sayings };
+
+    ghost invariant = { λ past. IsIndex past.stage past.setting past.founders past.homes past.steps past.reports past.joins past.counted (reverse past.sayings) };
+}
+
+impl Past {
+    /// No lines.
+    pub(crate) fn new(alloc: Global) -> Result<Past, Memory>
+        ensures { IfOk result (λ past. past ≡ []) }
+    {
+        let setting = Setting {
+            region: None,
+            members: 0,
+            clients: 0,
+        };
+        let counted = Counted {
+            reports: 0,
+            hears: 0,
+            sweeps: 0,
+            opens: 0,
+            queries: 0,
+        };
+        Ok(Past {
+            sayings: ItemList::new(alloc)?,
+            stage: 0,
+            setting,
+            founders: 0,
+            homes: ItemList::new(alloc)?,
+            steps: BTreeMap::new(alloc),
+            reports: BTreeMap::new(alloc),
+            joins: BTreeMap::new(alloc),
+            counted,
+        })
+    }
+
+    /// The least rank that a line may have now.
+    pub(crate) fn stage(&self) -> u8
+        ensures { result ≡ stage self.now }
+    {
+        self.stage
+    }
+
+    /// What fields are compared with.
+    pub(crate) fn setting(&self) -> &Setting
+        ensures { result.now ≡ setting self.now }
+    {
+        &self.setting
+    }
+
+    pub(crate) fn founders(&self) -> u128
+        ensures { result ≡ founders self.now }
+    {
+        self.founders
+    }
+
+    /// How many clients are stated.
+    pub(crate) fn clients(&self) -> u128
+        ensures { result ≡ clients self.now }
+    {
+        self.setting.clients
+    }
+
+    /// The client's member.
+    pub(crate) fn home(&self, client: u128) -> u128
+        ensures { result ≡ home client self.now }
+    {
+        let place = client.saturating_sub(1);
+        let homes = self.homes.as_slice();
+        if place < homes.len() as u128 {
+            homes[place as usize]
+        } else {
+            0
+        }
+    }
+
+    /// How many steps of the client there are.
+    pub(crate) fn steps(&self, client: u128) -> u32
+        ensures { result ≡ steps client self.now }
+    {
+        count_in(&self.steps, client)
+    }
+
+    pub(crate) fn reports(&self, member: u128) -> u32
+        ensures { result ≡ reports member self.now }
+    {
+        count_in(&self.reports, member)
+    }
+
+    pub(crate) fn joins(&self, member: u128) -> u32
+        ensures { result ≡ joins member self.now }
+    {
+        count_in(&self.joins, member)
+    }
+
+    pub(crate) fn counted(&self) -> Counted
+        ensures { result ≡ counted self.now }
+    {
+        self.counted
+    }
+
+    /// These lines and one more.
+    pub(crate) fn with(self, alloc: Global, line: Saying) -> Result<Past, Memory>
+        requires { length self < most_lines }
+        ensures { IfOk result (λ past. past ≡ line ∷ self) }
+    {
+        let kind = line.kind;
+        let first = number(0, line.items.as_slice());
+        let homes = homes_with(&line, self.homes)?;
+        let setting = setting_with(alloc, &line, self.setting, &homes)?;
+        let founders = stated_with(LineKind::Members, 1, &line, self.founders);
+        let steps = counts_with(self.steps, is_step(kind), first)?;
+        let reports = counts_with(self.reports, is_kind(LineKind::Report, kind), first)?;
+        let joins = counts_with(self.joins, is_kind(LineKind::Join, kind), first)?;
+        let counted = counted_with(&line, self.counted);
+        let mut sayings = self.sayings;
+        sayings.push(line)?;
+        Ok(Past {
+            sayings,
+            stage: next_rank(kind),
+            setting,
+            founders,
+            homes,
+            steps,
+            reports,
+            joins,
+            counted,
+        })
+    }
+}
+
+fn setting_with(
+    alloc: Global,
+    line: &Saying,
+    before: Setting,
+    homes: &ItemList<u128>,
+) -> Result<Setting, Memory>
+    ensures { IfOk result (λ set. (past : List Saying) → before ≡ setting past → homes.now ≡ homes_of (line.now ∷ past) → set ≡ setting (line.now ∷ past)) }
+{
+    let members = stated_with(LineKind::Members, 0, line, before.members);
+    Ok(Setting {
+        region: region_with(alloc, line, before.region)?,
+        members,
+        clients: homes.len() as u128,
+    })
+}
+
+fn counted_with(line: &Saying, counts: Counted) -> Counted
+    requires { (past : List Saying) × (counts ≡ counted past) × (length past < most_lines) }
+    ensures { (past : List Saying) → counts ≡ counted past → result ≡ counted (line.now ∷ past) }
+{
+    let kind = line.kind;
+    Counted {
+        reports: counted(is_kind(LineKind::Report, kind), counts.reports),
+        hears: counted(is_kind(LineKind::Hear, kind), counts.hears),
+        sweeps: counted(is_kind(LineKind::Sweep, kind), counts.sweeps),
+        opens: counted(is_kind(LineKind::Open, kind), counts.opens),
+        queries: counted(is_query(kind), counts.queries),
+    }
+}

@@ -1,0 +1,82 @@
+ghost use Rattle.std.specs.Prelude.{◌≡◌, ◌≤◌, ◌<◌, ◌+◌, [], length, IfOk};
+ghost use Rattle.gr_script.specs.Cuts.{line_count};
+ghost use Rattle.gr_script.specs.Halts.{Yields};
+ghost use Rattle.gr_script.specs.Index.{most_lines};
+ghost use Rattle.gr_script.specs.Refusals.{past_with};
+ghost use Rattle.gr_script.specs.Sayings.{Gives, ended, end_of, sayings_from, sayings_of};
+ghost use Rattle.gr_script.specs.Texts.{lines_of};
+
+use crate::cuts::{is_skipped, line_count, text_said};
+use crate::ending::{ScriptEnd, ScriptFault, end_at};
+use crate::halt::Halt;
+use crate::items::text_at;
+use crate::past::Past;
+use crate::reason::Reason;
+use crate::refusal::saying_at;
+use crate::text::next_line;
+use std::alloc::Global;
+
+/// The most lines of a script.
+const MOST_LINES: u64 = 200000;
+
+/// How many lines the heading cannot lack.
+const REQUIRED_LINES: u8 = 4;
+
+/// The earlier lines with one more, which may be skipped.
+fn past_with(alloc: Global, runs: bool, past: Past, line: &[u8]) -> Result<Past, Halt>
+    requires { length past < most_lines }
+    ensures exact { Yields (λ longer. longer) result (past_with runs past line.now) }
+    ensures longer { IfOk result (λ longer. length longer ≤ length past + 1) }
+{
+    let text = text_said(text_at(line)?.as_bytes());
+    if is_skipped(text) {
+        return Ok(past);
+    }
+    let saying = saying_at(alloc, runs, &past, text)?;
+    Ok(past.with(alloc, saying)?)
+}
+
+/// The text ends in front of the line of this number.
+fn ended(number: u32, past: Past) -> Result<Past, ScriptEnd>
+    ensures { Gives (λ past. past) result (end_of (ended number past)) }
+{
+    let stage = past.stage();
+    if stage < REQUIRED_LINES {
+        let reason = Reason::Header(stage + 1);
+        Err(ScriptEnd::Fault(ScriptFault {
+            line: number,
+            reason,
+        }))
+    } else {
+        Ok(past)
+    }
+}
+
+fn read_lines(alloc: Global, runs: bool, bytes: &[u8]) -> Result<Past, ScriptEnd>
+    requires { length (lines_of bytes.now) ≤ most_lines }
+    ensures { Gives (λ past. past) result (end_of (sayings_from runs 1 [] (lines_of bytes.now))) }
+{
+    let mut past = Past::new(alloc)?;
+    let mut number = 1;
+    let mut rest = bytes;
+    while let Some((line, after)) = next_line(rest) {
+        match past_with(alloc, runs, past, line) {
+            Ok(longer) => past = longer,
+            Err(halt) => return Err(end_at(number, halt)),
+        }
+        number += 1;
+        rest = after;
+    }
+    Ok(ended(number, past)?)
+}
+
+/// What the lines of a text say. How many there are is looked at before any fault.
+pub(crate) fn read_sayings(alloc: Global, runs: bool, bytes: &[u8]) -> Result<Past, ScriptEnd>
+    ensures { Gives (λ past. past) result (sayings_of runs bytes.now) }
+{
+    let lines = line_count(bytes);
+    if MOST_LINES < lines {
+        return Err(ScriptEnd::TooManyLines(lines));
+    }
+    Ok(read_lines(alloc, runs, bytes)?)
+}

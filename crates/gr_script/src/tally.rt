@@ -1,0 +1,33 @@
+ghost use Rattle.std.specs.Prelude.{◌≡◌, ℕ, ◌+◌, ◌<◌, ◌^◌, ◌&&◌, ◌==◌, if◌then◌else◌, IfOk};
+ghost use Rattle.gr_script.specs.Tallies.{count_in};
+
+use gr_value::Memory;
+use std::collections::BTreeMap;
+
+/// How many lines have this number.
+pub(crate) fn count_in(counts: &BTreeMap<u128, u32>, number: u128) -> u32
+    ensures { result ≡ count_in counts.now number }
+{
+    match counts.get(&number) {
+        Some(count) => *count,
+        None => 0,
+    }
+}
+
+/// The counts with one more line of this number, where the test holds.
+pub(crate) fn counts_with(
+    counts: BTreeMap<u128, u32>,
+    test: bool,
+    number: u128,
+) -> Result<BTreeMap<u128, u32>, Memory>
+    requires { count_in counts number + 1 < 2 ^ 32 }
+    ensures { IfOk result (λ counts_with. (n : ℕ) → count_in counts_with n ≡ (if test && number == n then 1 else 0) + count_in counts n) }
+{
+    if !test {
+        return Ok(counts);
+    }
+    let mut counts = counts;
+    let count = count_in(&counts, number) + 1;
+    counts.insert(number, count)?;
+    Ok(counts)
+}
