@@ -2,7 +2,7 @@
 use Rattle.std.specs.Prelude.{ℕ, ◌+◌, List, [], ◌∷◌, ◌++◌, codes, decimal}
 use Rattle.gr_value.specs.ValueText.{value_text}
 use Rattle.gr_history.specs.declared.reply.Reply.{Reply}
-use Rattle.gr_history.specs.declared.reply.Reply.TheVariants.{Null, Value, Done, Yes, No, NotFound, Limit}
+use Rattle.gr_history.specs.declared.reply.Reply.TheVariants.{Null, Value, Done, Yes, No, NotFound, NotReady, Limit}
 use Rattle.gr_history.specs.declared.record.Answer.{Answer}
 use Rattle.gr_history.specs.declared.record.Answer.TheVariants as answer
 use Rattle.gr_history.specs.declared.record.ClientRecord.{ClientRecord}
@@ -14,6 +14,7 @@ reply_text Done = codes "done"
 reply_text Yes = codes "true"
 reply_text No = codes "false"
 reply_text NotFound = codes "not-found"
+reply_text NotReady = codes "not-ready"
 reply_text Limit = codes "limit"
 
 abbrev pub answer_text : Answer → List ℕ

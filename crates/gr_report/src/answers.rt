@@ -17,6 +17,7 @@ fn put_reply(alloc: Global, out: &mut Vec<u8>, reply: &Reply) -> Result<(), Memo
         Reply::Yes => put_text(out, "true"),
         Reply::No => put_text(out, "false"),
         Reply::NotFound => put_text(out, "not-found"),
+        Reply::NotReady => put_text(out, "not-ready"),
         Reply::Limit => put_text(out, "limit"),
     }
 }

@@ -132,6 +132,7 @@ fn said(reply: &Reply) -> (&'static str, i64) {
         Reply::Yes => ("true", 0),
         Reply::No => ("false", 0),
         Reply::NotFound => ("not-found", 0),
+        Reply::NotReady => ("not-ready", 0),
         Reply::Limit => ("limit", 0),
     }
 }

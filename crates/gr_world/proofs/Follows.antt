@@ -8,7 +8,7 @@ use Rattle.std.proofs.lemmas.Grind.{reverse_onto}
 use Rattle.std.proofs.lemmas.Bool.Decides.{nat_tests}
 use Rattle.gr_value.specs.Shard.{shard_of, key_hash}
 use Rattle.gr_history.specs.declared.deed.Deed.{Deed}
-use Rattle.gr_history.specs.declared.deed.Deed.TheVariants.{Call}
+use Rattle.gr_history.specs.declared.deed.Deed.TheVariants.{Call, Taken, Gave, Imaged, Reported, Heard, Swept}
 use Rattle.gr_history.specs.declared.record.Answer.{Answer}
 use Rattle.gr_history.specs.Deeds.{is_of_client}
 use Rattle.gr_history.specs.Asks.{key_of}
@@ -18,7 +18,7 @@ use Rattle.gr_script.specs.declared.line.Line.TheVariants.{Step}
 use Rattle.gr_script.specs.declared.script.Script.{Script}
 use Rattle.gr_script.specs.Rules.{Heading, heading, IsScript, AllStand, IsStated}
 use Rattle.gr_shard.specs.View.{Account}
-use Rattle.gr_world.specs.Calls.{identity, member_of, asked_at, all_asked_at, asking_of, answer_of}
+use Rattle.gr_world.specs.Calls.{Asking, identity, member_of, asked_at, all_asked_at, asking_of, AskJust, answer_of}
 use Rattle.gr_world.specs.Plays.{asking_in, IsPlayed}
 
 abbrev client_in : Line → ℕ
@@ -28,8 +28,8 @@ client_in (Step client seq act) = client
 pub record Follows (script : Script) (lines : List Line) (shard : Account) (answers : List Answer) : Type 0 where
   pub id : shard.id ≡ identity script 1 0
   pub opening : shard.opening ≡ 0
-  pub asked : map asking_of shard.deeds ≡ all_asked_at script 1 0 lines
-  pub told : answers ≡ map answer_of (filter (is_of_client 1) shard.deeds)
+  pub asked : AskJust shard.deeds (all_asked_at script 1 0 lines)
+  pub told : answers ≡ filter_map answer_of (filter (is_of_client 1) shard.deeds)
 
 all-append : {X : Type 0} (P : X → Type 0) (xs ys : List X) → AllByRecursion P xs → AllByRecursion P ys → AllByRecursion P (xs ++ ys)
 all-append P [] ys all more = more
@@ -63,9 +63,17 @@ asked_here script clients shards (Step client seq (act.Call ask)) one =
     ∙ only_shard (key_hash (key_of ask)) in
     rw (member, shard) refl
 
-of_client : (deed : Deed) (line : Line) → asking_of deed ≡ asking_in line → client_in line ≡ 1 → is_of_client 1 deed ≡ true
+of_client : (deed : Deed) (line : Line) → asking_of deed ≡ Some (asking_in line) → client_in line ≡ 1 → is_of_client 1 deed ≡ true
 of_client (Call client seq ask reply made to) (Step own number (act.Call wants)) same one =
-    ap (λ n. n == 1) (ap (λ asking. asking.client) same ∙ one)
+    let here : Asking = record { client = client; seq = seq; ask = ask } in
+    let is : here ≡ asking_in (Step own number (act.Call wants)) = cc in
+    ap (λ n. n == 1) (ap (λ asking. asking.client) is ∙ one)
+of_client (Taken change verdict) line same one = absurd (cc)
+of_client (Gave to what) line same one = absurd (cc)
+of_client (Imaged image) line same one = absurd (cc)
+of_client (Reported report) line same one = absurd (cc)
+of_client (Heard report) line same one = absurd (cc)
+of_client (Swept moment expired) line same one = absurd (cc)
 
 -- a shard that follows lines follows one more
 pub follows-more : (script : Script)
@@ -84,21 +92,24 @@ follows-more script ruled old new answers i line answer follows within is (deed,
     let longer : take (i + 1) all ≡ take i all ++ line ∷ [] = take_more all i line within ∙ ap (λ x. take i all ++ x ∷ []) (sym is) in
     let one_asked : filter_map (asked_at script 1 0) (line ∷ []) ≡ asking_in line ∷ [] =
     rw (asked_here script clients ruled.heading.one_shard line one) refl in
+    let one_told : filter_map answer_of (deed ∷ []) ≡ answer ∷ [] = rw adds.told refl in
     let kept : filter (is_of_client 1) (deed ∷ []) ≡ deed ∷ [] = rw (of_client deed line adds.asked one) refl in
     record {
       id = ap (λ a. a.id) adds.added ∙ follows.id;
       opening = ap (λ a. a.opening) adds.added ∙ follows.opening;
       asked = ap (λ a. map asking_of a.deeds) adds.added ∙ map-append asking_of old.deeds (deed ∷ [])
           ∙ ap (λ xs. xs ++ asking_of deed ∷ []) follows.asked
-          ∙ ap (λ x. all_asked_at script 1 0 (take i all) ++ x ∷ []) adds.asked
-          ∙ sym (ap (all_asked_at script 1 0) longer ∙ filter_map-append (asked_at script 1 0) (take i all) (line ∷ [])
-          ∙ ap (λ rest. all_asked_at script 1 0 (take i all) ++ rest) one_asked);
+          ∙ ap (λ x. map (λ a. Some a) (all_asked_at script 1 0 (take i all)) ++ x ∷ []) adds.asked
+          ∙ sym (ap (λ ls. map (λ a. Some a) (all_asked_at script 1 0 ls)) longer
+          ∙ ap (map (λ a. Some a)) (filter_map-append (asked_at script 1 0) (take i all) (line ∷ [])
+          ∙ ap (λ rest. all_asked_at script 1 0 (take i all) ++ rest) one_asked)
+          ∙ map-append (λ a. Some a) (all_asked_at script 1 0 (take i all)) (asking_in line ∷ []));
       told = ap (λ told. told ++ answer ∷ []) follows.told
-          ∙ ap (λ a. map answer_of (filter (is_of_client 1) old.deeds) ++ a ∷ []) (sym adds.told)
-          ∙ sym (ap (λ a. map answer_of (filter (is_of_client 1) a.deeds)) adds.added
-          ∙ ap (map answer_of) (filter-append (is_of_client 1) old.deeds (deed ∷ [])
+          ∙ sym (ap (λ a. filter_map answer_of (filter (is_of_client 1) a.deeds)) adds.added
+          ∙ ap (filter_map answer_of) (filter-append (is_of_client 1) old.deeds (deed ∷ [])
           ∙ ap (λ rest. filter (is_of_client 1) old.deeds ++ rest) kept)
-          ∙ map-append answer_of (filter (is_of_client 1) old.deeds) (deed ∷ []));
+          ∙ filter_map-append answer_of (filter (is_of_client 1) old.deeds) (deed ∷ [])
+          ∙ ap (λ rest. filter_map answer_of (filter (is_of_client 1) old.deeds) ++ rest) one_told);
     }
 
 -- the same over a list that is the script's lines

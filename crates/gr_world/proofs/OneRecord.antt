@@ -1,15 +1,19 @@
 -- A script has one record: each deed is told from the oldest on, and all else from the deeds.
 use Rattle.std.proofs.Common.{◌≡◌, ◌∙◌, ap, sym, refl, ℕ, ◌+◌, ◌==◌, ◌≤◌, Bool, true, false, cond, List, [], ◌∷◌, ◌++◌, map, filter}
-use Rattle.std.proofs.Common.{reverse, length, flat_map, arith}
+use Rattle.std.proofs.Common.{reverse, length, flat_map, arith, Some, subst}
+use Rattle.std.specs.List.{filter_map}
+use Rattle.gr_stamp.specs.declared.change.Change.{Change}
+use Rattle.gr_vector.specs.Ids.{Id}
 use Rattle.std.specs.Prelude.{Result, IfOk}
 use Rattle.std.proofs.lemmas.Result.{IfOk-weaker}
 use Rattle.std.proofs.lemmas.List.{map-append, reverse-reverse}
 use Rattle.std.proofs.lemmas.Grind.{reverse_onto}
 use Rattle.gr_history.specs.declared.deed.Deed.{Deed}
-use Rattle.gr_history.specs.declared.deed.Deed.TheVariants.{Call}
+use Rattle.gr_history.specs.declared.deed.Deed.TheVariants.{Call, Taken, Gave, Imaged, Reported, Heard, Swept}
 use Rattle.gr_history.specs.declared.done.Done.{Done}
 use Rattle.gr_history.specs.declared.identity.Identity.{Identity}
 use Rattle.gr_history.specs.declared.record.Answer.{Answer}
+use Rattle.gr_history.specs.declared.record.Region.{Region}
 use Rattle.gr_history.specs.declared.record.ShardRecord.{ShardRecord}
 use Rattle.gr_history.specs.declared.record.MemberRecord.{MemberRecord}
 use Rattle.gr_history.specs.declared.record.ClientRecord.{ClientRecord}
@@ -17,11 +21,11 @@ use Rattle.gr_history.specs.declared.record.Record.{Record}
 use Rattle.gr_history.specs.Calls.{call_gives}
 use Rattle.gr_history.specs.Deeds.{is_of_client}
 use Rattle.gr_history.specs.Lawful.{IsLawful, IsLawfulDeed}
-use Rattle.gr_history.specs.Regions.{region_of}
+use Rattle.gr_history.specs.Regions.{IsRegionOf}
 use Rattle.gr_script.specs.declared.script.Script.{Script}
-use Rattle.gr_world.specs.Calls.{Asking, identity, asking_of, answer_of}
+use Rattle.gr_world.specs.Calls.{Asking, identity, all_asked_at, asking_of, AskJust, answer_of}
 use Rattle.gr_world.specs.Replayed.{IsShardRecord, AreShardRecords, AreMemberRecords, IsClientRecord, AreClientRecords, IsReplayed}
-use Rattle.gr_world.specs.Replayed.{IsOnlyReplayed, deeds_at, trimmed_shard, trimmed_member, trimmed}
+use Rattle.gr_world.specs.Replayed.{IsOnlyReplayed, deeds_at, trimmed_region, trimmed_shard, trimmed_member, trimmed}
 
 map-reverse : {X Y : Type 0} (f : X → Y) (xs : List X) → map f (reverse xs) ≡ reverse (map f xs)
 map-reverse f [] = refl
@@ -33,47 +37,81 @@ deed_with : Asking → Done → Deed
 deed_with asking done = Call asking.client asking.seq asking.ask done.reply done.made done.to
 
 -- a lawful deed is the one that was asked for, with what the call gives
-deed_is : (id : Identity) (opening : ℕ) (deed : Deed) (past : List Deed) → IsLawfulDeed id opening deed past
-    → deed ≡ deed_with (asking_of deed) (call_gives id opening past (asking_of deed).ask)
+deed_is : (id : Identity) (opening : ℕ) (deed : Deed) (past : List Deed) (asking : Asking) → IsLawfulDeed id opening deed past
+    → asking_of deed ≡ Some asking → deed ≡ deed_with asking (call_gives id opening past asking.ask)
 unfolding deed_with
-deed_is id opening (Call client seq ask reply made to) past lawful =
-    ap (deed_with (record { client = client; seq = seq; ask = ask })) lawful
+deed_is id opening (Call client seq ask reply made to) past asking lawful is =
+    let here : Asking = record { client = client; seq = seq; ask = ask } in
+    let same : here ≡ asking = cc in
+    ap (deed_with here) lawful ∙ ap (λ a. deed_with a (call_gives id opening past a.ask)) same
+deed_is id opening (Taken change verdict) past asking lawful is = absurd (cc)
+deed_is id opening (Gave member what) past asking lawful is = absurd (cc)
+deed_is id opening (Imaged image) past asking lawful is = absurd (cc)
+deed_is id opening (Reported report) past asking lawful is = absurd (cc)
+deed_is id opening (Heard report) past asking lawful is = absurd (cc)
+deed_is id opening (Swept moment expired) past asking lawful is = absurd (cc)
 
 -- lawful histories that the same was asked of, the last deed first
-one_past : (id : Identity) (opening : ℕ) (one other : List Deed) → IsLawful id opening one → IsLawful id opening other
-    → map asking_of one ≡ map asking_of other → one ≡ other
-one_past id opening [] [] lawful also same = refl
-one_past id opening [] (deed ∷ past) lawful also same = absurd (cc)
-one_past id opening (deed ∷ past) [] lawful also same = absurd (cc)
-one_past id opening (deed ∷ past) (last ∷ others) lawful also same =
-    let asked : asking_of deed ≡ asking_of last = cc in
-    let before : past ≡ others = one_past id opening past others lawful.1 also.1 (cc) in
-    let gives : List Deed → Asking → Deed = λ ds asking. deed_with asking (call_gives id opening ds asking.ask) in
+one_past : (id : Identity) (opening : ℕ) (askings : List Asking) (one other : List Deed) → IsLawful id opening one
+    → IsLawful id opening other → AskJust one askings → AskJust other askings → one ≡ other
+one_past id opening [] [] [] lawful also asked again = refl
+one_past id opening [] (deed ∷ past) other lawful also asked again = absurd (cc)
+one_past id opening [] [] (last ∷ others) lawful also asked again = absurd (cc)
+one_past id opening (asking ∷ askings) [] other lawful also asked again = absurd (cc)
+one_past id opening (asking ∷ askings) (deed ∷ past) [] lawful also asked again = absurd (cc)
+one_past id opening (asking ∷ askings) (deed ∷ past) (last ∷ others) lawful also asked again =
+    let here : asking_of deed ≡ Some asking = cc in
+    let there : asking_of last ≡ Some asking = cc in
+    let before : past ≡ others = one_past id opening askings past others lawful.1 also.1 (cc) (cc) in
     let first : deed ≡ last =
-    deed_is id opening deed past lawful.0 ∙ ap (λ ds. gives ds (asking_of deed)) before ∙ ap (gives others) asked
-    ∙ sym (deed_is id opening last others also.0) in
+    deed_is id opening deed past asking lawful.0 here
+    ∙ ap (λ ds. deed_with asking (call_gives id opening ds asking.ask)) before
+    ∙ sym (deed_is id opening last others asking also.0 there) in
     ap (λ d. d ∷ past) first ∙ ap (λ ds. last ∷ ds) before
 
+turned : (deeds : List Deed) (askings : List Asking) → AskJust deeds askings → AskJust (reverse deeds) (reverse askings)
+turned deeds askings asked =
+    map-reverse asking_of deeds ∙ ap (λ xs. reverse xs) asked ∙ sym (map-reverse (λ asking. Some asking) askings)
+
 -- the same, the oldest deed first
-one_history : (id : Identity) (opening : ℕ) (one other : List Deed) → IsLawful id opening (reverse one)
-    → IsLawful id opening (reverse other)
-    → map asking_of one ≡ map asking_of other → one ≡ other
-one_history id opening one other lawful also same =
-    let turned : reverse one ≡ reverse other =
-    one_past id opening (reverse one) (reverse other) lawful also
-    (map-reverse asking_of one ∙ ap (λ askings. reverse askings) same ∙ sym (map-reverse asking_of other)) in
-    sym (reverse-reverse one) ∙ ap (λ deeds. reverse deeds) turned ∙ reverse-reverse other
+one_history : (id : Identity) (opening : ℕ) (askings : List Asking) (one other : List Deed) → IsLawful id opening (reverse one)
+    → IsLawful id opening (reverse other) → AskJust one askings → AskJust other askings → one ≡ other
+one_history id opening askings one other lawful also asked again =
+    let same : reverse one ≡ reverse other =
+    one_past id opening (reverse askings) (reverse one) (reverse other) lawful also (turned one askings asked)
+    (turned other askings again) in
+    sym (reverse-reverse one) ∙ ap (λ deeds. reverse deeds) same ∙ reverse-reverse other
+
+region_with : List Change → ℕ → ℕ → List Id → Region
+region_with rows tombstones floor ids = record {
+  rows = rows;
+  tombstones = tombstones;
+  floor = floor;
+  vector = record { ids = ids; spare = 0 };
+}
+
+one_region : (past : List Deed) (one other : Region) → IsRegionOf 0 past one → IsRegionOf 0 past other
+    → trimmed_region one ≡ trimmed_region other
+unfolding region_with
+one_region past one other is also =
+    ap (λ rows. region_with rows one.tombstones one.floor one.vector.ids) (is.rows_are ∙ sym also.rows_are)
+    ∙ ap (λ n. region_with other.rows n one.floor one.vector.ids) (is.tombstones_are ∙ sym also.tombstones_are)
+    ∙ ap (λ n. region_with other.rows other.tombstones n one.vector.ids) (is.floor_is ∙ sym also.floor_is)
+    ∙ ap (region_with other.rows other.tombstones other.floor) (is.vector_is ∙ sym also.vector_is)
 
 one_shard : (script : Script) (member shard : ℕ) (one other : ShardRecord) → IsShardRecord script member shard one
     → IsShardRecord script member shard other
     → trimmed_shard one ≡ trimmed_shard other
 one_shard script member shard one other left also =
     let deeds : one.history.deeds ≡ other.history.deeds =
-    one_history (identity script member shard) 0 one.history.deeds other.history.deeds left.lawful also.lawful (left.asked
-    ∙ sym also.asked) in
-    let region : one.region ≡ other.region = left.region ∙ ap (λ ds. region_of 0 (reverse ds)) deeds ∙ sym also.region in
-    ap (λ ds. trimmed_shard (record one { history = record { deeds = ds; spare = 0 } })) deeds
-    ∙ ap (λ r. trimmed_shard (record { history = other.history; region = r })) region
+    one_history (identity script member shard) 0 (all_asked_at script member shard script.lines) one.history.deeds
+    other.history.deeds left.lawful also.lawful left.asked also.asked in
+    let here : IsRegionOf 0 (reverse other.history.deeds) one.region =
+    subst (λ ds. IsRegionOf 0 (reverse ds) one.region) deeds left.region in
+    let region : trimmed_region one.region ≡ trimmed_region other.region =
+    one_region (reverse other.history.deeds) one.region other.region here also.region in
+    let kept : List Deed → Region → ShardRecord = λ ds r. record { history = record { deeds = ds; spare = 0 }; region = r } in
+    ap (λ ds. kept ds (trimmed_region one.region)) deeds ∙ ap (kept other.history.deeds) region
 
 -- No list of shards goes past the last.
 shards_within : (script : Script) (member shard : ℕ) (lefts : List ShardRecord) → AreShardRecords script member shard lefts
@@ -139,7 +177,7 @@ one_client : (script : Script) (members others : List MemberRecord) (number : �
 one_client script members others number one other deeds left also =
     let member : one.member ≡ other.member = left.member ∙ sym also.member in
     let answers : one.answers ≡ other.answers =
-    left.answers ∙ ap (λ ds. map answer_of (filter (is_of_client number) ds)) (deeds one.member ∙ ap (λ m. deeds_at m others) member)
+    left.answers ∙ ap (λ ds. filter_map answer_of (filter (is_of_client number) ds)) (deeds one.member ∙ ap (λ m. deeds_at m others) member)
     ∙ sym also.answers in
     let client : one.client ≡ other.client = left.client ∙ sym also.client in
     let told : ℕ → ℕ → List Answer → ClientRecord = λ c m answers. record { client = c; member = m; answers = answers } in

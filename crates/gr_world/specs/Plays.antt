@@ -1,5 +1,5 @@
 -- What playing one line adds to a shard.
-use Rattle.std.specs.Prelude.{◌≡◌, List, [], ◌∷◌, ◌++◌}
+use Rattle.std.specs.Prelude.{◌≡◌, List, [], ◌∷◌, ◌++◌, Some}
 use Rattle.gr_history.specs.declared.deed.Deed.{Deed}
 use Rattle.gr_history.specs.declared.record.Answer.{Answer}
 use Rattle.gr_history.specs.declared.record.ShardRecord.{ShardRecord}
@@ -16,8 +16,8 @@ asking_in (Step client seq (act.Call ask)) = record { client = client; seq = seq
 -- The shard has one deed more, which is of this line and has this answer.
 pub record Adds (old new : Account) (line : Line) (answer : Answer) (deed : Deed) : Type 0 where
   pub added : new ≡ record old { deeds = old.deeds ++ deed ∷ [] }
-  pub asked : asking_of deed ≡ asking_in line
-  pub told : answer_of deed ≡ answer
+  pub asked : asking_of deed ≡ Some (asking_in line)
+  pub told : answer_of deed ≡ Some answer
 
 abbrev pub IsPlayed : Account → Account → Line → Answer → Type 0
 IsPlayed old new line answer = (deed : Deed) × Adds old new line answer deed
