@@ -1,5 +1,6 @@
 -- Which tombstones are stable, and which a sweep lets expire.
-use Rattle.std.specs.Prelude.{ℕ, zero, suc, ◌-◌, List, [], ◌∷◌, Bool, true, false, ◌&&◌, ◌||◌, ◌==◌, nat_le, nat_lt, max, filter, Option, Some, None, if◌then◌else◌}
+use Rattle.std.specs.Prelude.{ℕ, zero, suc, ◌-◌, List, [], ◌∷◌, Bool, true, false, ◌&&◌, ◌||◌, ◌==◌, nat_le, nat_lt, max, filter, Option}
+use Rattle.std.specs.Prelude.{Some, None, if◌then◌else◌}
 use Rattle.gr_stamp.specs.declared.change.Change.{Change}
 use Rattle.gr_vector.specs.declared.report.Report.{Report}
 use Rattle.gr_vector.specs.Ids.{Id, has_id, covers}

@@ -48,7 +48,10 @@ ask_ok Get text asked e =
 ask_ok Destroy text asked e =
     let b = bind_ok (key_at text) _ asked e in
     let k = key_ok text b.0 b.1 in
-    subst (SpellsAsk (codes "destroy " ++ text)) (done_is (ask.Destroy b.0) asked b.2) (k.0, ap (λ (t : List ℕ). codes "destroy " ++ t) k.1)
+    subst (SpellsAsk (codes "destroy " ++ text)) (done_is (ask.Destroy b.0) asked b.2) (
+      k.0,
+      ap (λ (t : List ℕ). codes "destroy " ++ t) k.1,
+    )
 ask_ok Put text asked e =
     let f = bind_ok (field_at text) _ asked e in
     let b = bind_ok (key_at f.0.0) _ asked f.2 in
@@ -80,6 +83,7 @@ step_ok text step seq e =
     let r = bind_ok (behind (codes "1") text) _ step e in
     let a = bind_ok (act_at r.0) _ step r.2 in
     let s = act_ok r.0 a.0 a.1 in
-    let one : SpellsLine text (Step 1 seq (Call s.0)) = (r.0, s.1, behind_parts (codes "1") text r.0 r.1 ∙ ap (λ (number : List ℕ). number ++ codes " " ++ r.0) (sym decimal_one)) in
+    let one : SpellsLine text (Step 1 seq (Call s.0)) =
+    (r.0, s.1, behind_parts (codes "1") text r.0 r.1 ∙ ap (λ (number : List ℕ). number ++ codes " " ++ r.0) (sym decimal_one)) in
     let act : SpellsLine text (Step 1 seq a.0) = subst (λ (act : Act). SpellsLine text (Step 1 seq act)) s.2 one in
     subst (λ (st : ℕ × Act). SpellsLine text (Step st.0 seq st.1)) (done_is (1, a.0) step a.2) act

@@ -1,5 +1,6 @@
 -- What is spelled so is read.
-use Rattle.std.proofs.Common.{◌≡◌, ℕ, List, [], ◌∷◌, ◌++◌, length, reverse, Bool, true, eqb, Option, Result, Ok, refl, sym, ap, ◌∙◌, subst, arith, append_assoc}
+use Rattle.std.proofs.Common.{◌≡◌, ℕ, List, [], ◌∷◌, ◌++◌, length, reverse, Bool, true, eqb, Option, Result, Ok, refl, sym, ap, ◌∙◌, subst}
+use Rattle.std.proofs.Common.{arith, append_assoc}
 use Rattle.std.specs.List.{onto_first, list_any, AllByRecursion}
 use Rattle.std.specs.Option.{ok_or}
 use Rattle.std.specs.Prelude.{codes}
@@ -14,7 +15,8 @@ use Rattle.gr_script.specs.declared.line.Act.{Act}
 use Rattle.gr_script.specs.declared.line.Act.TheVariants.{Call}
 use Rattle.gr_script.specs.declared.line.Line.{Line}
 use Rattle.gr_script.specs.declared.line.Line.TheVariants.{Step}
-use Rattle.gr_script.specs.Reading.{◌>>=◌, passing, field_at, key_from, key_at, value_from, value_at, fixed_line, heading_at, act_at, step_at, lines_at, script_in}
+use Rattle.gr_script.specs.Reading.{◌>>=◌, passing, field_at, key_from, key_at, value_from, value_at, fixed_line, heading_at, act_at}
+use Rattle.gr_script.specs.Reading.{step_at, lines_at, script_in}
 use Rattle.gr_script.specs.Rules.{Heading, heading, is_region, IsHeading, IsScript, AllStand, StandsAfter}
 use Rattle.gr_script.specs.Spelling.{heading_lines, SpellsAsk, SpellsLine, AreSpelled, IsSpelled}
 use Rattle.gr_script.specs.Texts.{lines_of, is_ended, IsLine, text_of}
@@ -76,7 +78,8 @@ region_is_line : (region : List ℕ) → is_region region ≡ true → IsLine (c
 region_is_line region named = no_mark 10 region refl (region_key_bytes region named)
 
 heading_is_lines : (region : List ℕ) → is_region region ≡ true
-    → AllByRecursion IsLine (codes "georep 1" ∷ (codes "region " ++ region) ∷ codes "members 1 1" ∷ codes "shards 1" ∷ codes "client 1 at 1" ∷ [])
+    → AllByRecursion IsLine (codes "georep 1" ∷ (codes "region " ++ region) ∷ codes "members 1 1" ∷ codes "shards 1"
+    ∷ codes "client 1 at 1" ∷ [])
 heading_is_lines region named = (refl, (region_is_line region named, (refl, (refl, (refl, tt)))))
 
 -- ---- the lines behind it
@@ -99,7 +102,8 @@ act_again text (Put key value) (piece, is_key, is_value, is) =
     ∙ ap (λ (p : Option (List ℕ × List ℕ)). ok_or p NotBuilt) (cut_again 0x20 key piece (no_mark 0x20 key refl (key_bytes key is_key)))
     in
     ap act_at is ∙ ap put_from parts
-    ∙ ap (λ (k : Result (List ℕ) Reason). act_from (k >>= λ key. value_at piece >>= λ value. Ok (Put key value))) (ap (key_from key) is_key)
+    ∙ ap (λ (k : Result (List ℕ) Reason). act_from (k >>= λ key. value_at piece >>= λ value. Ok (Put key value)))
+    (ap (key_from key) is_key)
     ∙ ap (λ (v : Result (List Field) Reason). act_from (v >>= λ value. Ok (Put key value))) (ap value_from is_value)
 act_again text (PutIfAbsent key value) none = absurd none
 act_again text (Replace key value) none = absurd none
@@ -132,7 +136,8 @@ lines_read h past (text ∷ texts) (Step client seq (Call asked) ∷ lines) one 
     let here : StandsAfter h past line = (rest_stands h (reverse lines) (line ∷ past) stands).0 in
     let first : client ≡ 1 = omega (arith, here.0.0, here.0.1) in
     let spelled_one = subst (λ (c : ℕ). SpellsLine text (Step c seq (Call asked))) first spelled.1 in
-    let read : step_at text ≡ Ok (client, Call asked) = step_again text seq asked spelled_one ∙ ap (λ (c : ℕ). Ok (c, Call asked)) (sym first) in
+    let read : step_at text ≡ Ok (client, Call asked) = step_again text seq asked spelled_one
+    ∙ ap (λ (c : ℕ). Ok (c, Call asked)) (sym first) in
     lines_more past text texts client seq (Call asked) read here.1
     ∙ lines_read h (line ∷ past) texts lines one spelled.2 stands
     ∙ ap (λ (ls : List Line). Ok ls)
@@ -144,7 +149,8 @@ spelled_are_lines [] (line ∷ lines) spelled = absurd spelled
 spelled_are_lines (text ∷ texts) [] spelled = absurd spelled
 spelled_are_lines (text ∷ texts) (line ∷ lines) spelled = (spelled.0, spelled_are_lines texts lines spelled.2)
 
-joined_lines : (front rest : List (List ℕ)) → AllByRecursion IsLine front → AllByRecursion IsLine rest → AllByRecursion IsLine (front ++ rest)
+joined_lines : (front rest : List (List ℕ)) → AllByRecursion IsLine front → AllByRecursion IsLine rest
+    → AllByRecursion IsLine (front ++ rest)
 joined_lines [] rest all more = more
 joined_lines (line ∷ front) rest all more = (all.0, joined_lines front rest all.1 more)
 
@@ -162,15 +168,19 @@ script_again : (region : List ℕ) (texts : List (List ℕ)) (lines : List Line)
 unfolding script_in
 script_again region texts lines named spelled stand =
     let h = heading region 1 1 1 (1 ∷ []) in
-    let all = joined_lines (heading_lines h) texts (subst (AllByRecursion IsLine) (sym (heading_text region)) (heading_is_lines region named)) (spelled_are_lines texts lines spelled) in
+    let all = joined_lines (heading_lines h) texts
+    (subst (AllByRecursion IsLine) (sym (heading_text region)) (heading_is_lines region named)) (spelled_are_lines texts lines spelled)
+    in
     let whole = heading_lines h ++ texts in
     ap (λ (b : Bool). from_lines (passing b (lines_of (text_of whole)))) (text_ended whole)
     ∙ ap (λ (ls : List (List ℕ)). from_lines (Ok ls)) (lines_again whole all)
     ∙ ap with_lines (heading_again region texts named)
-    ∙ ap (λ (r : Result (List Line) Reason). r >>= λ ls. Ok (h, ls)) (lines_read h [] texts lines refl spelled (subst (AllStand h) (sym (append-nil (reverse lines))) stand))
+    ∙ ap (λ (r : Result (List Line) Reason). r
+    >>= λ ls. Ok (h, ls)) (lines_read h [] texts lines refl spelled (subst (AllStand h) (sym (append-nil (reverse lines))) stand))
 
 -- What is spelled so is read.
-pub complete : (bytes : List ℕ) (h : Heading) (lines : List Line) → IsScript h lines → IsSpelled bytes h lines → script_in bytes ≡ Ok (h, lines)
+pub complete : (bytes : List ℕ) (h : Heading) (lines : List Line) → IsScript h lines → IsSpelled bytes h lines
+    → script_in bytes ≡ Ok (h, lines)
 complete bytes h lines script spelled =
     let same = same_heading h script.heading in
     let stand = subst (λ (g : Heading). AllStand g (reverse lines)) same script.lines_stand in

@@ -1,5 +1,6 @@
 -- What the fields of a line say of its text.
-use Rattle.std.proofs.Common.{◌≡◌, ℕ, List, [], ◌∷◌, ◌++◌, false, eqb, Option, Some, None, option_map, Result, Ok, Err, refl, sym, ap, ◌∙◌, subst, inl, inr}
+use Rattle.std.proofs.Common.{◌≡◌, ℕ, List, [], ◌∷◌, ◌++◌, false, eqb, Option, Some, None, option_map, Result, Ok, Err, refl, sym, ap, ◌∙◌}
+use Rattle.std.proofs.Common.{subst, inl, inr}
 use Rattle.std.specs.List.{list_any}
 use Rattle.std.proofs.lemmas.Bool.{cases_Bool, or_parts, eqb-true, eq-eqb}
 use Rattle.gr_value.specs.KeyBytes.{IsKey, key_fault}
@@ -26,7 +27,8 @@ cut_parts mark (byte ∷ bytes) parts e =
     ]
 
 -- where no mark stands in front of it, the first mark is here
-pub cut_again : (mark : ℕ) (front rest : List ℕ) → list_any (λ byte. eqb byte mark) front ≡ false → cut mark (front ++ mark ∷ rest) ≡ Some (front, rest)
+pub cut_again : (mark : ℕ) (front rest : List ℕ) → list_any (λ byte. eqb byte mark) front ≡ false
+    → cut mark (front ++ mark ∷ rest) ≡ Some (front, rest)
 cut_again mark [] rest none = cut_here mark mark rest (eq-eqb mark mark refl)
 cut_again mark (byte ∷ front) rest none =
     let parts = or_parts (eqb byte mark) (list_any (λ byte. eqb byte mark) front) none in
@@ -39,7 +41,8 @@ pub behind_parts : (field text rest : List ℕ) → behind field text ≡ Ok res
 behind_parts field text rest e =
     let b = bind_ok (field_at text) _ rest e in
     let p = passing_ok _ b.0.1 rest b.2 in
-    field_parts text b.0 b.1 ∙ ap (λ (f : List ℕ). f ++ 0x20 ∷ b.0.1) (same_bytes b.0.0 field p.0) ∙ ap (λ (r : List ℕ). field ++ 0x20 ∷ r) p.1
+    field_parts text b.0 b.1 ∙ ap (λ (f : List ℕ). f ++ 0x20 ∷ b.0.1) (same_bytes b.0.0 field p.0)
+    ∙ ap (λ (r : List ℕ). field ++ 0x20 ∷ r) p.1
 
 key_from_ok : (text key : List ℕ) (fault : Option KeyFault) → key_from text fault ≡ Ok key → (fault ≡ None) × (text ≡ key)
 key_from_ok text key None e = (refl, done_is text key e)

@@ -33,7 +33,8 @@ region_key (slash ∷ word) is =
     let parts = and_parts (eqb slash 0x2F) (is_word word) is in
     let sized = and_parts (begins_word word && leb (length word) 254) (list_all is_word_byte word) parts.1 in
     let few = leb-true (length word) 254 (and_parts (begins_word word) (leb (length word) 254) sized.0).1 in
-    ap (key_from (slash ∷ word)) (few_key_bytes (slash ∷ word) (λ e. absurd (omega arith)) (omega (arith, few)) (region_key_bytes (slash ∷ word) is))
+    ap (key_from (slash ∷ word)) (few_key_bytes (slash ∷ word) (λ e. absurd (omega arith)) (omega (arith, few))
+    (region_key_bytes (slash ∷ word) is))
 
 -- ---- a key has none of the bytes that no key has
 
@@ -44,7 +45,8 @@ not_mark mark byte isnt is =
       | inr differs ↦ differs
     ]
 
-pub no_mark : (mark : ℕ) (bytes : List ℕ) → is_key_byte mark ≡ false → list_all is_key_byte bytes ≡ true → list_any (λ byte. eqb byte mark) bytes ≡ false
+pub no_mark : (mark : ℕ) (bytes : List ℕ) → is_key_byte mark ≡ false → list_all is_key_byte bytes ≡ true
+    → list_any (λ byte. eqb byte mark) bytes ≡ false
 no_mark mark [] isnt all = refl
 no_mark mark (byte ∷ bytes) isnt all =
     let parts = and_parts (is_key_byte byte) (list_all is_key_byte bytes) all in

@@ -38,8 +38,11 @@ lines_counted (byte ∷ []) =
 lines_counted (byte ∷ next ∷ bytes) =
     let rest = lines_counted (next ∷ bytes) in
     elim (cases_Bool (eqb byte 10)) [
-      | inl is ↦ let feeds : count_by is_feed (byte ∷ next ∷ bytes) ≡ 1 + count_by is_feed (next ∷ bytes) = rw (feeds_more byte (next ∷ bytes), is) refl in
+      | inl is ↦ let feeds : count_by is_feed (byte ∷ next ∷ bytes) ≡ 1 + count_by is_feed (next ∷ bytes) =
+          rw (feeds_more byte (next ∷ bytes), is) refl in
           ap (length {A = List ℕ}) (lines_here byte (next ∷ bytes) is) ∙ omega (arith, rest, feeds)
-      | inr isnt ↦ let feeds : count_by is_feed (byte ∷ next ∷ bytes) ≡ 0 + count_by is_feed (next ∷ bytes) = rw (feeds_more byte (next ∷ bytes), isnt) refl in
-          ap (length {A = List ℕ}) (lines_there byte (next ∷ bytes) isnt) ∙ onto_some byte (lines_of (next ∷ bytes)) (some_line next bytes) ∙ omega (arith, rest, feeds)
+      | inr isnt ↦ let feeds : count_by is_feed (byte ∷ next ∷ bytes) ≡ 0 + count_by is_feed (next ∷ bytes) =
+          rw (feeds_more byte (next ∷ bytes), isnt) refl in
+          ap (length {A = List ℕ}) (lines_there byte (next ∷ bytes) isnt) ∙ onto_some byte (lines_of (next ∷ bytes)) (some_line next bytes)
+          ∙ omega (arith, rest, feeds)
     ]

@@ -1,5 +1,6 @@
 -- One more line that is read, or that is refused.
-use Rattle.std.proofs.Common.{◌≡◌, ℕ, ◌+◌, List, [], ◌∷◌, ◌++◌, reverse, Bool, cond, Option, Some, None, Result, Ok, Err, refl, sym, ap, ◌∙◌, subst, arith, eq-eqb}
+use Rattle.std.proofs.Common.{◌≡◌, ℕ, ◌+◌, List, [], ◌∷◌, ◌++◌, reverse, Bool, cond, Option, Some, None, Result, Ok, Err, refl, sym, ap}
+use Rattle.std.proofs.Common.{◌∙◌, subst, arith, eq-eqb}
 use Rattle.std.proofs.lemmas.List.{reverse-append, reverse-reverse}
 use Rattle.std.proofs.lemmas.List.Sums.{sum_by-cons}
 use Rattle.std.specs.List.{sum_by}
@@ -20,14 +21,16 @@ use Rattle.gr_script.specs.Stops.{Stops, Gives, end_at}
 
 -- ---- what stops
 
-pub gives_stop : {X Y : Type 0} (view : X → Y) (result : Result X Stop) (stop : Stop) (read : Result Y Reason) → IsErrAnd result (λ s. s ≡ stop)
+pub gives_stop : {X Y : Type 0} (view : X → Y) (result : Result X Stop) (stop : Stop) (read : Result Y Reason)
+    → IsErrAnd result (λ s. s ≡ stop)
     → Stops stop read → Gives view result read
 gives_stop {X = X} view result stop read is stops =
     let p = err_from_is_err_and result is in
     subst (λ (r : Result X Stop). Gives view r read) (sym (p.1 ∙ ap Err p.2)) stops
 
 -- what is read can't have stopped for another cause than memory
-pub never_stops : {X Y : Type 0} (stop : Stop) (x : X) (found : Result X Reason) (read : Result Y Reason) → found ≡ Ok x → Stops stop found → Stops stop read
+pub never_stops : {X Y : Type 0} (stop : Stop) (x : X) (found : Result X Reason) (read : Result Y Reason) → found ≡ Ok x → Stops stop found
+    → Stops stop read
 never_stops Memory x found read is stops = tt
 never_stops (Refused reason) x found read is stops = absurd (let e = sym stops ∙ is in cc)
 
@@ -42,7 +45,8 @@ unfolding lines_at
 lines_more past text texts client seq act read is =
     ap (after past texts) read ∙ ap (λ (n : ℕ). lines_at (line.Step client n act ∷ past) texts) (sym is)
 
-pub lines_stop : (stop : Stop) (past : List Line) (text : List ℕ) (texts : List (List ℕ)) → Stops stop (step_at text) → Stops stop (lines_at past (text ∷ texts))
+pub lines_stop : (stop : Stop) (past : List Line) (text : List ℕ) (texts : List (List ℕ)) → Stops stop (step_at text)
+    → Stops stop (lines_at past (text ∷ texts))
 unfolding lines_at
 lines_stop Memory past text texts stops = tt
 lines_stop (Refused reason) past text texts stops = ap (after past texts) stops
@@ -55,16 +59,19 @@ pub reverse_more : (lines : List Line) (line : Line) → reverse (lines ++ line 
 reverse_more lines line = reverse-append lines (line ∷ [])
 
 -- a step of the client counts
-pub count_step : (client seq : ℕ) (act : Act) (past : List Line) → step_count client (line.Step client seq act ∷ past) ≡ step_count client past + 1
+pub count_step : (client seq : ℕ) (act : Act) (past : List Line)
+    → step_count client (line.Step client seq act ∷ past) ≡ step_count client past + 1
 count_step client seq act past =
     let counts : Line → ℕ = λ l. cond (is_some (step_of client l)) 1 0 in
     let first : counts (line.Step client seq act) ≡ 1 =
-    ap (λ (b : Bool). cond (is_some (cond {A = Option Step} b (Some (record { seq = seq; act = act })) None)) 1 0) (eq-eqb client client refl)
+    ap (λ (b : Bool). cond (is_some (cond {A = Option Step} b (Some (record { seq = seq; act = act })) None)) 1 0)
+    (eq-eqb client client refl)
     in
     let all = sum_by-cons counts (line.Step client seq act) past in
     all ∙ ap (λ (n : ℕ). n + sum_by counts past) first ∙ omega arith
 
 -- what stopped at what can be read stopped for memory
-pub stops_for_memory : {Y : Type 0} (line : ℕ) (stop : Stop) (read : Result Y Reason) (x : Y) → read ≡ Ok x → Stops stop read → end_at line stop ≡ NoMemory
+pub stops_for_memory : {Y : Type 0} (line : ℕ) (stop : Stop) (read : Result Y Reason) (x : Y) → read ≡ Ok x → Stops stop read
+    → end_at line stop ≡ NoMemory
 stops_for_memory line Memory read x is stops = refl
 stops_for_memory line (Refused reason) read x is stops = absurd (let e = sym stops ∙ is in cc)

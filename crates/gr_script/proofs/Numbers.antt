@@ -1,5 +1,6 @@
 -- The steps of a client are numbered from 1, in order.
-use Rattle.std.proofs.Common.{◌≡◌, ℕ, ◌+◌, List, [], ◌∷◌, ◌++◌, length, reverse, Bool, true, false, cond, eqb, Option, Some, None, refl, sym, ap, ◌∙◌, subst, arith}
+use Rattle.std.proofs.Common.{◌≡◌, ℕ, ◌+◌, List, [], ◌∷◌, ◌++◌, length, reverse, Bool, true, false, cond, eqb, Option, Some, None, refl}
+use Rattle.std.proofs.Common.{sym, ap, ◌∙◌, subst, arith}
 use Rattle.std.specs.Option.{is_some, option_to_list}
 use Rattle.std.proofs.lemmas.Bool.{eqb-true}
 use Rattle.std.proofs.lemmas.List.{length-append, append-nil, reverse-append, reverse-reverse}
@@ -14,7 +15,8 @@ use Rattle.gr_script.specs.Steps.{step_of, steps_of, step_count, AreNumbered}
 use Rattle.gr_script.proofs.Steps.{one_or_none}
 
 -- one more step, with the next number
-numbered_more : (number : ℕ) (steps : List Step) (step : Step) → AreNumbered number steps → step.seq ≡ number + length steps → AreNumbered number (steps ++ step ∷ [])
+numbered_more : (number : ℕ) (steps : List Step) (step : Step) → AreNumbered number steps → step.seq ≡ number + length steps
+    → AreNumbered number (steps ++ step ∷ [])
 numbered_more number [] step all next = (omega arith, tt)
 numbered_more number (first ∷ steps) step all next =
     let after : step.seq ≡ number + 1 + length steps = omega (arith, next) in
@@ -52,7 +54,8 @@ more_numbered h client own seq act past steps true is next so_far =
     let count : step_count client (l ∷ past) ≡ length (steps ++ step ∷ []) =
     counts client l past (Some step) found ∙ omega (arith, so_far.1, length-append steps (step ∷ []))
     in
-    subst (λ (f : Option Step). Numbered client (l ∷ past) (steps ++ option_to_list f)) (sym found) (numbered_more 1 steps step so_far.0 number, count)
+    subst (λ (f : Option Step). Numbered client (l ∷ past) (steps ++ option_to_list f)) (sym found)
+    (numbered_more 1 steps step so_far.0 number, count)
 more_numbered h client own seq act past steps false is next so_far =
     let l : Line = line.Step own seq act in
     let found = found_is client own seq act false is in
@@ -64,7 +67,8 @@ numbered_past : (h : Heading) (client : ℕ) (past : List Line) → AllStand h p
 numbered_past h client [] all = (tt, refl)
 numbered_past h client (line.Step own seq act ∷ past) all =
     subst (Numbered client (line.Step own seq act ∷ past)) (sym (steps_before client (line.Step own seq act) past))
-    (more_numbered h client own seq act past (steps_of client (reverse past)) (eqb own client) refl all.0.1 (numbered_past h client past all.1))
+    (more_numbered h client own seq act past (steps_of client (reverse past)) (eqb own client) refl all.0.1
+    (numbered_past h client past all.1))
 
 pub steps_numbered : (h : Heading) (client : ℕ) (lines : List Line) → AllStand h (reverse lines) → AreNumbered 1 (steps_of client lines)
 steps_numbered h client lines all =

@@ -18,7 +18,8 @@ use Rattle.gr_script.specs.Items.{question_of, query_from}
 question_spelled : (text : List ℕ) (q : Question) → Spells text q → question_of text ≡ Ok q
 question_spelled text q is =
     let read = query_complete most_depth (terminals_of text is.0) q.asked is.3 in
-    let there : answer text is.0 (query_at (terminals_of text is.0)) ≡ Ok q = rw read (ap (λ (l : List ℕ). Ok (record { text = l; asked = q.asked })) (sym is.2)) in
+    let there : answer text is.0 (query_at (terminals_of text is.0)) ≡ Ok q =
+    rw read (ap (λ (l : List ℕ). Ok (record { text = l; asked = q.asked })) (sym is.2)) in
     ap (answer_of_tokens text) (tokens_only text is.0 is.1) ∙ there
 
 question_fault : (text : List ℕ) (f : OqlFault) → IsFault text f → question_of text ≡ Err f
@@ -28,7 +29,8 @@ question_fault text f (inr h) = ap (answer_of_tokens text) (tokens_only text (h.
 pub query_spelled : (text : List ℕ) (q : Question) → Spells text q → query_from (question_of text) ≡ Ok q
 query_spelled text q is = ap query_from (question_spelled text q is)
 
-pub query_halted : (text : List ℕ) (f : OqlFault) → (f ≡ query.Memory) ⊎ IsFault text f → Halts (query_halt f) (query_from (question_of text))
+pub query_halted : (text : List ℕ) (f : OqlFault) → (f ≡ query.Memory) ⊎ IsFault text f
+    → Halts (query_halt f) (query_from (question_of text))
 query_halted text query.Memory is = tt
 query_halted text (query.Lex l) (inl none) = absurd cc
 query_halted text (query.Lex l) (inr is) = ap query_from (question_fault text (query.Lex l) is)

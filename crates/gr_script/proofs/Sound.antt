@@ -1,5 +1,6 @@
 -- What is read is spelled so.
-use Rattle.std.proofs.Common.{◌≡◌, ℕ, ◌+◌, List, [], ◌∷◌, ◌++◌, reverse, true, false, eqb, inl, inr, Ok, refl, sym, ap, ◌∙◌, subst, append_assoc}
+use Rattle.std.proofs.Common.{◌≡◌, ℕ, ◌+◌, List, [], ◌∷◌, ◌++◌, reverse, true, false, eqb, inl, inr, Ok, refl, sym, ap, ◌∙◌, subst}
+use Rattle.std.proofs.Common.{append_assoc}
 use Rattle.std.specs.List.{onto_first, list_any, AllByRecursion}
 use Rattle.std.specs.Prelude.{codes}
 use Rattle.std.specs.Str.{bytes_eq}
@@ -19,7 +20,8 @@ use Rattle.gr_script.proofs.Texts.{lines_here, lines_there}
 
 -- ---- lines of a text
 
-first_is_line : (byte : ℕ) (lines : List (List ℕ)) → eqb byte 10 ≡ false → AllByRecursion IsLine lines → AllByRecursion IsLine (onto_first byte lines)
+first_is_line : (byte : ℕ) (lines : List (List ℕ)) → eqb byte 10 ≡ false → AllByRecursion IsLine lines
+    → AllByRecursion IsLine (onto_first byte lines)
 first_is_line byte [] isnt all = (or_from (eqb byte 10) false isnt refl, tt)
 first_is_line byte (line ∷ lines) isnt all = (or_from (eqb byte 10) (list_any (λ b. eqb b 10) line) isnt all.0, all.1)
 
@@ -31,11 +33,13 @@ lines_are_lines (byte ∷ bytes) =
       | inr isnt ↦ rw (lines_there byte bytes isnt) (first_is_line byte (lines_of bytes) isnt (lines_are_lines bytes))
     ]
 
-onto_twice : (byte next : ℕ) (lines : List (List ℕ)) → text_of (onto_first byte (onto_first next lines)) ≡ byte ∷ text_of (onto_first next lines)
+onto_twice : (byte next : ℕ) (lines : List (List ℕ))
+    → text_of (onto_first byte (onto_first next lines)) ≡ byte ∷ text_of (onto_first next lines)
 onto_twice byte next [] = refl
 onto_twice byte next (line ∷ lines) = refl
 
-onto_text : (byte next : ℕ) (bytes : List ℕ) → text_of (onto_first byte (lines_of (next ∷ bytes))) ≡ byte ∷ text_of (lines_of (next ∷ bytes))
+onto_text : (byte next : ℕ) (bytes : List ℕ)
+    → text_of (onto_first byte (lines_of (next ∷ bytes))) ≡ byte ∷ text_of (lines_of (next ∷ bytes))
 onto_text byte next bytes =
     let P : List (List ℕ) → Type 0 = λ lines. text_of (onto_first byte lines) ≡ byte ∷ text_of lines in
     elim (cases_Bool (eqb next 10)) [
@@ -51,7 +55,8 @@ text_again (byte ∷ next ∷ bytes) e =
       | inl is ↦
           ap text_of (lines_here byte (next ∷ bytes) is) ∙ ap (λ (t : List ℕ). 10 ∷ t) (text_again (next ∷ bytes) e)
           ∙ ap (λ (b : ℕ). b ∷ next ∷ bytes) (sym (eqb-true byte 10 is))
-      | inr isnt ↦ ap text_of (lines_there byte (next ∷ bytes) isnt) ∙ onto_text byte next bytes ∙ ap (λ (t : List ℕ). byte ∷ t) (text_again (next ∷ bytes) e)
+      | inr isnt ↦ ap text_of (lines_there byte (next ∷ bytes) isnt) ∙ onto_text byte next bytes
+          ∙ ap (λ (t : List ℕ). byte ∷ t) (text_again (next ∷ bytes) e)
     ]
 
 -- ---- the heading
@@ -62,7 +67,8 @@ fixed_ok text (line ∷ lines) rest e =
     let p = passing_ok (bytes_eq line text) lines rest e in
     ap (λ (l : List ℕ). l ∷ lines) (same_bytes line text p.0) ∙ ap (λ (ls : List (List ℕ)). text ∷ ls) p.1
 
-region_ok : (lines : List (List ℕ)) (found : List ℕ × List (List ℕ)) → region_line lines ≡ Ok found → lines ≡ (codes "region " ++ found.0) ∷ found.1
+region_ok : (lines : List (List ℕ)) (found : List ℕ × List (List ℕ)) → region_line lines ≡ Ok found
+    → lines ≡ (codes "region " ++ found.0) ∷ found.1
 region_ok [] found e = absurd cc
 region_ok (line ∷ lines) found e =
     let b = bind_ok (behind (codes "region") line) _ found e in
@@ -75,10 +81,12 @@ pub heading_text : (region : List ℕ)
     → heading_lines (heading region 1 1 1 (1 ∷ []))
     ≡ codes "georep 1" ∷ (codes "region " ++ region) ∷ codes "members 1 1" ∷ codes "shards 1" ∷ codes "client 1 at 1" ∷ []
 heading_text region =
-    ap (λ (d : List ℕ). codes "georep 1" ∷ (codes "region " ++ region) ∷ (codes "members " ++ d ++ codes " " ++ d) ∷ (codes "shards " ++ d) ∷ (codes "client " ++ d ++ codes " at " ++ d) ∷ [])
+    ap (λ (d : List ℕ). codes "georep 1" ∷ (codes "region " ++ region) ∷ (codes "members " ++ d ++ codes " " ++ d) ∷ (codes "shards " ++ d)
+    ∷ (codes "client " ++ d ++ codes " at " ++ d) ∷ [])
     decimal_one
 
-heading_ok : (lines : List (List ℕ)) (found : Heading × List (List ℕ)) → heading_at lines ≡ Ok found → lines ≡ heading_lines found.0 ++ found.1
+heading_ok : (lines : List (List ℕ)) (found : Heading × List (List ℕ)) → heading_at lines ≡ Ok found → lines ≡ heading_lines found.0
+    ++ found.1
 unfolding heading_at
 heading_ok lines found e =
     let v = bind_ok (fixed_line (codes "georep 1") lines) _ found e in
@@ -86,12 +94,15 @@ heading_ok lines found e =
     let m = bind_ok (fixed_line (codes "members 1 1") r.0.1) _ found r.2 in
     let s = bind_ok (fixed_line (codes "shards 1") m.0) _ found m.2 in
     let c = bind_ok (fixed_line (codes "client 1 at 1") s.0) _ found s.2 in
-    let all : lines ≡ (codes "georep 1" ∷ (codes "region " ++ r.0.0) ∷ codes "members 1 1" ∷ codes "shards 1" ∷ codes "client 1 at 1" ∷ []) ++ c.0 =
+    let all : lines ≡ (codes "georep 1" ∷ (codes "region " ++ r.0.0) ∷ codes "members 1 1" ∷ codes "shards 1" ∷ codes "client 1 at 1" ∷ [])
+    ++ c.0 =
     fixed_ok (codes "georep 1") lines v.0 v.1
     ∙ ap (λ (ls : List (List ℕ)). codes "georep 1" ∷ ls) (region_ok v.0 r.0 r.1)
     ∙ ap (λ (ls : List (List ℕ)). codes "georep 1" ∷ (codes "region " ++ r.0.0) ∷ ls) (fixed_ok (codes "members 1 1") r.0.1 m.0 m.1)
-    ∙ ap (λ (ls : List (List ℕ)). codes "georep 1" ∷ (codes "region " ++ r.0.0) ∷ codes "members 1 1" ∷ ls) (fixed_ok (codes "shards 1") m.0 s.0 s.1)
-    ∙ ap (λ (ls : List (List ℕ)). codes "georep 1" ∷ (codes "region " ++ r.0.0) ∷ codes "members 1 1" ∷ codes "shards 1" ∷ ls) (fixed_ok (codes "client 1 at 1") s.0 c.0 c.1)
+    ∙ ap (λ (ls : List (List ℕ)). codes "georep 1" ∷ (codes "region " ++ r.0.0) ∷ codes "members 1 1" ∷ ls)
+    (fixed_ok (codes "shards 1") m.0 s.0 s.1)
+    ∙ ap (λ (ls : List (List ℕ)). codes "georep 1" ∷ (codes "region " ++ r.0.0) ∷ codes "members 1 1" ∷ codes "shards 1" ∷ ls)
+    (fixed_ok (codes "client 1 at 1") s.0 c.0 c.1)
     in
     all ∙ ap (λ (ls : List (List ℕ)). ls ++ c.0) (sym (heading_text r.0.0))
     ∙ ap (λ (f : Heading × List (List ℕ)). heading_lines f.0 ++ f.1) (done_is (heading r.0.0 1 1 1 (1 ∷ []), c.0) found c.2)

@@ -1,5 +1,6 @@
 -- What cutting a text gives, and how lines make a text.
-use Rattle.std.proofs.Common.{◌≡◌, ℕ, suc, ◌+◌, ◌-◌, slice_get, ◌<◌, ◌≤◌, List, [], ◌∷◌, length, take, drop, Bool, true, false, not, cond, eqb, ltb, Option, Some, None, option_map, position, refl, ap, ◌∙◌, sym, arith, inl, inr}
+use Rattle.std.proofs.Common.{◌≡◌, ℕ, suc, ◌+◌, ◌-◌, slice_get, ◌<◌, ◌≤◌, List, [], ◌∷◌, length, take, drop, Bool, true, false, not, cond}
+use Rattle.std.proofs.Common.{eqb, ltb, Option, Some, None, option_map, position, refl, ap, ◌∙◌, sym, arith, inl, inr}
 use Rattle.std.specs.List.{prefix_len, onto_first}
 use Rattle.std.proofs.lemmas.Bool.{cases_Bool, cases_lt, lt-ltb, le-ltb, cond-true, cond-false}
 use Rattle.std.proofs.lemmas.List.{take_all, length-drop}
@@ -44,25 +45,30 @@ pub cut_is : (mark : ℕ) (bytes : List ℕ) → cut mark bytes ≡ parts_at byt
 cut_is mark [] = refl
 cut_is mark (byte ∷ bytes) =
     elim (cases_Bool (eqb byte mark)) [
-      | inl is ↦ cond-true (eqb byte mark) _ _ is ∙ sym (parts_within (byte ∷ bytes) 0 (omega arith)) ∙ ap (parts_at (byte ∷ bytes)) (sym (before_here mark byte bytes is))
-      | inr isnt ↦ cut_there mark byte bytes isnt ∙ ap (with_first byte) (cut_is mark bytes) ∙ next_parts byte bytes (before mark bytes) ∙ ap (parts_at (byte ∷ bytes)) (sym (before_there mark byte bytes isnt))
+      | inl is ↦ cond-true (eqb byte mark) _ _ is ∙ sym (parts_within (byte ∷ bytes) 0 (omega arith))
+          ∙ ap (parts_at (byte ∷ bytes)) (sym (before_here mark byte bytes is))
+      | inr isnt ↦ cut_there mark byte bytes isnt ∙ ap (with_first byte) (cut_is mark bytes) ∙ next_parts byte bytes (before mark bytes)
+          ∙ ap (parts_at (byte ∷ bytes)) (sym (before_there mark byte bytes isnt))
     ]
 
 -- the same, by the place of the mark
 abbrev parts_of_place : List ℕ → Option ℕ → Parts
 parts_of_place bytes place = option_map (λ n. (take n bytes, drop (suc n) bytes)) place
 
-place_parts : (test : Bool) (bytes : List ℕ) (n : ℕ) → parts_of_place bytes (cond test (Some n) None) ≡ cond test (Some (take n bytes, drop (suc n) bytes)) None
+place_parts : (test : Bool) (bytes : List ℕ) (n : ℕ)
+    → parts_of_place bytes (cond test (Some n) None) ≡ cond test (Some (take n bytes, drop (suc n) bytes)) None
 place_parts true bytes n = refl
 place_parts false bytes n = refl
 
-pub cut_at : (mark : ℕ) (bytes : List ℕ) (place : Option ℕ) → place ≡ position (λ byte. eqb byte mark) bytes → parts_of_place bytes place ≡ cut mark bytes
+pub cut_at : (mark : ℕ) (bytes : List ℕ) (place : Option ℕ) → place ≡ position (λ byte. eqb byte mark) bytes
+    → parts_of_place bytes place ≡ cut mark bytes
 cut_at mark bytes place is =
     ap (parts_of_place bytes) is ∙ place_parts (ltb (before mark bytes) (length bytes)) bytes (before mark bytes) ∙ sym (cut_is mark bytes)
 
 -- all that stands behind a place
 pub all_behind : (bytes : List ℕ) (n m : ℕ) → m ≡ suc n → take (length bytes - m) (drop m bytes) ≡ drop (suc n) bytes
-all_behind bytes n m is = ap (λ (k : ℕ). take (length bytes - k) (drop k bytes)) is ∙ take_all _ _ (omega (arith, length-drop (suc n) bytes))
+all_behind bytes n m is = ap (λ (k : ℕ). take (length bytes - k) (drop k bytes)) is
+    ∙ take_all _ _ (omega (arith, length-drop (suc n) bytes))
 
 -- ---- lines
 
@@ -97,7 +103,8 @@ lines_cut (byte ∷ bytes) parts e =
           lines_here byte bytes is ∙ ap (λ (q : List ℕ × List ℕ). q.0 ∷ lines_of q.1) p
       | inr isnt ↦
           let found = cut_first byte (cut 10 bytes) parts (sym (cut_there 10 byte bytes isnt) ∙ e) in
-          lines_there byte bytes isnt ∙ ap (onto_first byte) (lines_cut bytes found.0 found.1) ∙ ap (λ (q : List ℕ × List ℕ). q.0 ∷ lines_of q.1) found.2
+          lines_there byte bytes isnt ∙ ap (onto_first byte) (lines_cut bytes found.0 found.1)
+          ∙ ap (λ (q : List ℕ × List ℕ). q.0 ∷ lines_of q.1) found.2
     ]
 
 lines_uncut : (byte : ℕ) (bytes : List ℕ) → cut 10 (byte ∷ bytes) ≡ None → lines_of (byte ∷ bytes) ≡ (byte ∷ bytes) ∷ []
@@ -111,13 +118,15 @@ lines_uncut byte (next ∷ bytes) e =
       | inl is ↦ absurd (let h = sym (cut_here 10 byte (next ∷ bytes) is) ∙ e in cc)
       | inr isnt ↦
           lines_there byte (next ∷ bytes) isnt
-          ∙ ap (onto_first byte) (lines_uncut next bytes (uncut_first byte (cut 10 (next ∷ bytes)) (sym (cut_there 10 byte (next ∷ bytes) isnt) ∙ e)))
+          ∙ ap (onto_first byte) (lines_uncut next bytes
+          (uncut_first byte (cut 10 (next ∷ bytes)) (sym (cut_there 10 byte (next ∷ bytes) isnt) ∙ e)))
     ]
 
 number_is : (one two : ℕ) → Some one ≡ Some two → one ≡ two
 number_is one two e = cc
 
-last_ends : (byte : ℕ) (bytes : List ℕ) (last : ℕ) → slice_get (byte ∷ bytes) (length bytes) ≡ Some last → eqb last 10 ≡ is_ended (byte ∷ bytes)
+last_ends : (byte : ℕ) (bytes : List ℕ) (last : ℕ) → slice_get (byte ∷ bytes) (length bytes) ≡ Some last
+    → eqb last 10 ≡ is_ended (byte ∷ bytes)
 last_ends byte [] last e = ap (λ (n : ℕ). eqb n 10) (sym (number_is byte last e))
 last_ends byte (next ∷ bytes) last e = last_ends next bytes last e
 

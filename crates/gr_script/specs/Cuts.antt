@@ -1,5 +1,6 @@
 -- How a text is cut into lines, and a line into what it says.
-use Rattle.std.specs.Prelude.{ℕ, ◌+◌, ◌-◌, List, [], ◌∷◌, length, take, drop, Bool, true, false, ◌==◌, not, if◌then◌else◌, count_by, slice_get}
+use Rattle.std.specs.Prelude.{ℕ, ◌+◌, ◌-◌, List, [], ◌∷◌, length, take, drop, Bool, true, false, ◌==◌, not, if◌then◌else◌, count_by}
+use Rattle.std.specs.Prelude.{slice_get}
 use Rattle.std.specs.List.{prefix_len, suffix_len}
 use Rattle.std.specs.Option.{option_map_or}
 use Rattle.gr_script.specs.Texts.{is_ended}

@@ -2,7 +2,9 @@
 use Rattle.std.specs.Prelude.{ℕ, List, [], ◌∷◌, Bool, true, false, Option, codes, bytes_eq}
 use Rattle.std.specs.List.{find}
 use Rattle.gr_script.specs.declared.forms.LineKind.{LineKind}
-use Rattle.gr_script.specs.declared.forms.LineKind.TheVariants.{Georep, Region, Members, Shards, Inbox, Trouble, Floor, Client, Get, Put, PutIfAbsent, Replace, ReplaceIf, Destroy, Remove, Peek, Open, Stop, Close, Fetch, Deliver, Report, Hear, Sweep, Join}
+use Rattle.gr_script.specs.declared.forms.LineKind.TheVariants.{Georep, Region, Members, Shards, Inbox, Trouble, Floor, Client, Get, Put}
+use Rattle.gr_script.specs.declared.forms.LineKind.TheVariants.{PutIfAbsent, Replace, ReplaceIf, Destroy, Remove, Peek, Open, Stop, Close}
+use Rattle.gr_script.specs.declared.forms.LineKind.TheVariants.{Fetch, Deliver, Report, Hear, Sweep, Join}
 use Rattle.gr_script.specs.declared.forms.FieldKind.{FieldKind}
 use Rattle.gr_script.specs.declared.forms.FieldKind.TheVariants as field
 

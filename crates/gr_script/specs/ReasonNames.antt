@@ -1,7 +1,8 @@
 -- The numbers and the printed names of the reasons.
 use Rattle.std.specs.Prelude.{ℕ, List, codes}
 use Rattle.gr_script.specs.declared.reason.Reason.{Reason}
-use Rattle.gr_script.specs.declared.reason.Reason.TheVariants.{Utf8, Header, Word, Fields, Number, Range, Name, Key, Value, Query, Region, Client, Order, Later, Join, Itself, Count, NotInRun}
+use Rattle.gr_script.specs.declared.reason.Reason.TheVariants.{Utf8, Header, Word, Fields, Number, Range, Name, Key, Value, Query, Region}
+use Rattle.gr_script.specs.declared.reason.Reason.TheVariants.{Client, Order, Later, Join, Itself, Count, NotInRun}
 
 abbrev pub number_of : Reason → ℕ
 number_of Utf8 = 1

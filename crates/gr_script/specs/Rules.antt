@@ -16,7 +16,8 @@ pub record Heading : Type 0 where
   pub clients : List ℕ
 
 abbrev pub heading : List ℕ → ℕ → ℕ → ℕ → List ℕ → Heading
-heading region members founders shards clients = record { region = region; members = members; founders = founders; shards = shards; clients = clients }
+heading region members founders shards clients =
+    record { region = region; members = members; founders = founders; shards = shards; clients = clients }
 
 -- letters, digits and _
 abbrev pub is_word_byte : ℕ → Bool

@@ -14,7 +14,8 @@ use Rattle.gr_script.specs.Texts.{IsLine, text_of}
 -- the lines of the clients from this one on
 abbrev pub client_lines : ℕ → List ℕ → List (List ℕ)
 client_lines client [] = []
-client_lines client (member ∷ members) = (codes "client " ++ decimal client ++ codes " at " ++ decimal member) ∷ client_lines (client + 1) members
+client_lines client (member ∷ members) =
+    (codes "client " ++ decimal client ++ codes " at " ++ decimal member) ∷ client_lines (client + 1) members
 
 abbrev pub heading_lines : Heading → List (List ℕ)
 heading_lines h =
@@ -27,7 +28,8 @@ heading_lines h =
 -- What says that a client asks this. A value has many texts. The other operations have no text yet.
 abbrev pub SpellsAsk : List ℕ → Ask → Type 0
 SpellsAsk text (Get key) = IsKey key × (text ≡ codes "get " ++ key)
-SpellsAsk text (Put key value) = (piece : List ℕ) × IsKey key × (read_value piece ≡ Ok value) × (text ≡ codes "put " ++ (key ++ codes " " ++ piece))
+SpellsAsk text (Put key value) = (piece : List ℕ) × IsKey key × (read_value piece ≡ Ok value)
+    × (text ≡ codes "put " ++ (key ++ codes " " ++ piece))
 SpellsAsk text (Destroy key) = IsKey key × (text ≡ codes "destroy " ++ key)
 SpellsAsk text (PutIfAbsent key value) = ⊥
 SpellsAsk text (Replace key value) = ⊥

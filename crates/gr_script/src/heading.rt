@@ -49,7 +49,7 @@ pub(crate) fn is_region(bytes: &[u8]) -> bool
     }
 }
 
-/// What follows a line that is exactly this.
+// What follows a line that is exactly this.
 fn fixed_line<'a>(text: &[u8], bytes: &'a [u8]) -> Result<&'a [u8], Stop>
     ensures line { Gives (λ rest. lines_of rest.now) result (fixed_line text.now (lines_of bytes.now)) }
     ensures shorter { IfOk result (λ rest. length rest.now ≤ length bytes.now) }
@@ -60,7 +60,7 @@ fn fixed_line<'a>(text: &[u8], bytes: &'a [u8]) -> Result<&'a [u8], Stop>
     }
 }
 
-/// The region, and what follows its line.
+// The region, and what follows its line.
 fn region_line(bytes: &[u8]) -> Result<(&[u8], &[u8]), Stop>
     ensures line { Gives (λ x. (x.0.now, lines_of x.1.now)) result (region_line (lines_of bytes.now)) }
     ensures named { IfOk result (λ x. IsTrue (is_region x.0.now)) }

@@ -97,7 +97,7 @@ fn value_at(alloc: Global, text: &[u8]) -> Result<Value, Halt>
     Ok(Value::read(alloc, text)?)
 }
 
-/// Whether this is the region's name.
+// Whether this is the region's name.
 fn is_own(setting: &Setting, region: &Key) -> bool
     ensures { result ≡ is_own setting.now region.now }
 {

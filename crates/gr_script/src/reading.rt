@@ -24,7 +24,7 @@ fn one_client(alloc: Global) -> Result<MemberNumberList, Memory>
     Ok(clients)
 }
 
-/// The lines behind the heading, each with the number of its step.
+// The lines behind the heading, each with the number of its step.
 fn read_lines(alloc: Global, bytes: &[u8]) -> Result<LineList, Stop>
     requires { length bytes.now < 2 ^ 32 }
     ensures lines { Gives (λ lines. lines) result (lines_at [] (lines_of bytes.now)) }

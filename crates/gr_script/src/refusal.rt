@@ -44,7 +44,7 @@ fn is_begun(kind: LineKind, text: &[u8]) -> bool
     }
 }
 
-/// Whether another line is due.
+// Whether another line is due.
 fn lacks(stage: u8, text: &[u8]) -> bool
     ensures exact { result ≡ lacks stage text.now }
     ensures early { OnTrue result (stage < 4) }
@@ -73,7 +73,7 @@ fn is_no_join(past: &Past, member: u128, provider: u128) -> bool
     member <= past.founders() || past.joins(member) != 0 || past.founders() < provider
 }
 
-/// The reason, where the test holds.
+// The reason, where the test holds.
 fn reason_where(test: bool, why: Reason) -> Option<Reason>
     ensures { result ≡ (if test then Some why else None) }
 {
@@ -93,7 +93,7 @@ fn delivery_refusal(past: &Past, items: &[Item]) -> Option<Reason>
     }
 }
 
-/// The reason of the first test that holds, of these three.
+// The reason of the first test that holds, of these three.
 fn refusal_of(late: bool, own: bool, full: bool) -> Option<Reason>
     ensures { result ≡ refusal ((late, Later) ∷ (own, Itself) ∷ (full, Count) ∷ []) }
 {
@@ -126,7 +126,7 @@ fn joining_refusal(past: &Past, items: &[Item]) -> Option<Reason>
     }
 }
 
-/// The reason against a line with good fields.
+// The reason against a line with good fields.
 fn refusal(past: &Past, kind: LineKind, items: &[Item]) -> Option<Reason>
     ensures { result ≡ refusal (tests past.now kind items.now) }
 {
@@ -159,7 +159,7 @@ fn is_replayed(kind: LineKind) -> bool
     is_kind(LineKind::Deliver, kind) || is_kind(LineKind::Hear, kind)
 }
 
-/// Which form a line has, at the least rank that it may have now.
+// Which form a line has, at the least rank that it may have now.
 fn form_at(runs: bool, stage: u8, text: &[u8]) -> Result<LineKind, Halt>
     ensures { Yields (λ form. form) result (form_at runs stage text.now) }
 {

@@ -12,7 +12,7 @@ pub(crate) struct Saying {
     pub(crate) items: ItemList<Item>,
 }
 
-/// The item's number at this place, or how many places are left behind it.
+// The item's number at this place, or how many places are left behind it.
 fn number_of(item: &Item, place: usize) -> Result<u128, usize>
     ensures { MatchResult result (λ found. (rest : List ℕ) → slice_index (numbers_of item.now ++ rest) place ≡ found)
         (λ left. (rest : List ℕ) → slice_index (numbers_of item.now ++ rest) place ≡ slice_index rest left) }

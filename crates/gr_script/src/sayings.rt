@@ -22,7 +22,7 @@ const MOST_LINES: u64 = 200000;
 /// How many lines the heading cannot lack.
 const REQUIRED_LINES: u8 = 4;
 
-/// The earlier lines with one more, which may be skipped.
+// The earlier lines with one more, which may be skipped.
 fn past_with(alloc: Global, runs: bool, past: Past, line: &[u8]) -> Result<Past, Halt>
     requires { length past < most_lines }
     ensures exact { Yields (λ longer. longer) result (past_with runs past line.now) }
@@ -36,7 +36,7 @@ fn past_with(alloc: Global, runs: bool, past: Past, line: &[u8]) -> Result<Past,
     Ok(past.with(alloc, saying)?)
 }
 
-/// The text ends in front of the line of this number.
+// The text ends in front of the line of this number.
 fn ended(number: u32, past: Past) -> Result<Past, ScriptEnd>
     ensures { Gives (λ past. past) result (end_of (ended number past)) }
 {

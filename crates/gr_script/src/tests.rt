@@ -15,7 +15,7 @@ fn read_text(alloc: Global, text: &str) -> Result<Script, ScriptEnd> {
     read(alloc, text.as_bytes(), Form::Replay)
 }
 
-/// The heading, and then these lines.
+// The heading, and then these lines.
 fn script_text(alloc: Global, lines: &str) -> Result<String, Fail> {
     Ok(format!(in alloc; "{HEADING}{lines}")?)
 }
@@ -166,7 +166,7 @@ fn the_reason_has_a_number_and_a_name(rt: HostRuntime) {
 /// Two members, of which the first is a founder, and a client at each.
 const STATED: &str = "georep 1\nregion /r\nmembers 2 1\nshards 1\nclient 1 at 1\nclient 2 at 2\n";
 
-/// How the lines behind these end: the line and the reason, or None where all are read.
+// How the lines behind these end: the line and the reason, or None where all are read.
 fn fault_of(alloc: Global, runs: bool, text: &str) -> Option<(u32, Reasoned)> {
     match read_sayings(alloc, runs, text.as_bytes()) {
         Err(ending::ScriptEnd::Fault(fault)) => Some((fault.line, fault.reason)),
@@ -335,7 +335,7 @@ hear 2 1 1\nsweep 1 4294967295\njoin 2 1";
     Ok(())
 }
 
-/// The lines behind a heading, one after another.
+// The lines behind a heading, one after another.
 fn repeated(alloc: Global, line: &str, times: usize) -> Result<String, Fail> {
     let mut text = String::from_str(alloc, STATED)?;
     for _ in 0..times {

@@ -119,7 +119,8 @@ module _ (id : Identity) (opening floor_now : ℕ) (old new : Entries) (made : �
         in_order = ap keys_in entered.1 ∙ keys-insert_entry old.entries change.key (held_of change)
             ∙ ap (with_key change.key) kept.in_order;
         counted = ap (λ n. n + 1) kept.counted ∙ top-more id.member change (ids past) is.member_is is.rv_is;
-        within = let below : max (reach opening (key_of ask) past) (last_rv id past) < LIMIT = is.below in let counted = kept.counted in omega arith;
+        within = let below : max (reach opening (key_of ask) past) (last_rv id past) < LIMIT = is.below in let counted = kept.counted in
+            omega arith;
         floored = kept.floored;
         low = kept.low;
       }

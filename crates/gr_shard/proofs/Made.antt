@@ -51,7 +51,8 @@ value-held_of (Some change) = refl
 -- Where no number would pass its limit, this is made.
 pub given-made : (id : Identity) (opening : ℕ) (past : List Deed) (key : List ℕ) (reply : Reply) (kind : Kind) (version : Version)
     → IsInRange (max (ver_of (standing key past)) (floor opening past) + 1) id.member (top id.member (ids past) + 1)
-    → record { ver = max (ver_of (standing key past)) (floor opening past) + 1; member = id.member; rv = top id.member (ids past) + 1 } ≡ version
+    → record { ver = max (ver_of (standing key past)) (floor opening past) + 1; member = id.member; rv = top id.member (ids past) + 1 }
+    ≡ version
     → record { reply = reply; made = Some record { key = key; kind = kind; stamp = version }; to = recipients id past }
     ≡ given id opening past key reply (Some kind)
 given-made id opening past key reply kind version range is =

@@ -177,7 +177,8 @@ one_client : (script : Script) (members others : List MemberRecord) (number : �
 one_client script members others number one other deeds left also =
     let member : one.member ≡ other.member = left.member ∙ sym also.member in
     let answers : one.answers ≡ other.answers =
-    left.answers ∙ ap (λ ds. filter_map answer_of (filter (is_of_client number) ds)) (deeds one.member ∙ ap (λ m. deeds_at m others) member)
+    left.answers ∙ ap (λ ds. filter_map answer_of (filter (is_of_client number) ds)) (deeds one.member
+    ∙ ap (λ m. deeds_at m others) member)
     ∙ sym also.answers in
     let client : one.client ≡ other.client = left.client ∙ sym also.client in
     let told : ℕ → ℕ → List Answer → ClientRecord = λ c m answers. record { client = c; member = m; answers = answers } in

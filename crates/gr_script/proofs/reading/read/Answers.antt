@@ -14,9 +14,11 @@ returns-in-Ok-clause-found c = sound c.args.bytes.now (heading_of c.in-Ok.script
 
 pub returns-in-Ok-clause-only : goal.returns-in-Ok-clause-only
 returns-in-Ok-clause-only c = λ h lines script spelled.
-    let same = done_is (heading_of c.in-Ok.script, c.in-Ok.script.lines) (h, lines) (sym c.in-Ok.ensures ∙ complete c.args.bytes.now h lines script spelled) in
+    let same = done_is (heading_of c.in-Ok.script, c.in-Ok.script.lines) (h, lines) (sym c.in-Ok.ensures
+    ∙ complete c.args.bytes.now h lines script spelled) in
     (ap (λ (s : Heading × List Line). s.0) same, ap (λ (s : Heading × List Line). s.1) same)
 
 pub returns-in-Err-clause-only : goal.returns-in-Err-clause-only
 returns-in-Err-clause-only c = λ h lines script spelled.
-    c.at_line.ensures ∙ stops_for_memory 0 c.in-Err.stop (script_in c.args.bytes.now) (h, lines) (complete c.args.bytes.now h lines script spelled) c.in-Err.ensures
+    c.at_line.ensures ∙ stops_for_memory 0 c.in-Err.stop (script_in c.args.bytes.now) (h, lines)
+    (complete c.args.bytes.now h lines script spelled) c.in-Err.ensures

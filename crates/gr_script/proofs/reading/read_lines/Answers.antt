@@ -14,13 +14,15 @@ returns-in_err-client-clause-lines c =
     let stop = c.in_err-client.field-0.0 in
     let past = reverse c.loop-line.lines in
     let left = ap (lines_at past) (sym c.in-Some.ensures.lines) ∙ c.loop-line.invariant.read in
-    gives_stop _ _ stop _ c.from_residual-in_err-client.ensures.1 (subst (Stops stop) left (lines_stop stop past c.in-Some.line.now (lines_of c.in-Some.after.now) c.in_err-client.ensures.step))
+    gives_stop _ _ stop _ c.from_residual-in_err-client.ensures.1
+    (subst (Stops stop) left (lines_stop stop past c.in-Some.line.now (lines_of c.in-Some.after.now) c.in_err-client.ensures.step))
 
 pub loop-line-preserved : goal.loop-line-preserved
 loop-line-preserved c =
     let past = reverse c.loop-line.lines in
     let step : Line = Step c.in_ok-client.client (c.loop-line.seq + 1) c.in_ok-client.act in
-    let new : reverse c.push.new.self ≡ step ∷ past = ap (reverse {A = Line}) c.in_ok-push.ensures.ok ∙ reverse_more c.loop-line.lines step in
+    let new : reverse c.push.new.self ≡ step ∷ past = ap (reverse {A = Line}) c.in_ok-push.ensures.ok ∙ reverse_more c.loop-line.lines step
+    in
     let one : c.in_ok-client.client ≡ 1 = c.in_ok-client.ensures.client in
     let seq : c.loop-line.seq + 1 ≡ step_count c.in_ok-client.client past + 1 =
     ap (λ (n : ℕ). n + 1) c.loop-line.invariant.numbered ∙ ap (λ (n : ℕ). step_count n past + 1) (sym one)
@@ -28,7 +30,8 @@ loop-line-preserved c =
     record {
       read =
           ap (λ (lines : List Line). lines_at lines (lines_of c.in-Some.after.now)) new
-          ∙ sym (lines_more past c.in-Some.line.now (lines_of c.in-Some.after.now) c.in_ok-client.client (c.loop-line.seq + 1) c.in_ok-client.act c.in_ok-client.ensures.step seq)
+          ∙ sym (lines_more past c.in-Some.line.now (lines_of c.in-Some.after.now) c.in_ok-client.client
+          (c.loop-line.seq + 1) c.in_ok-client.act c.in_ok-client.ensures.step seq)
           ∙ ap (lines_at past) (sym c.in-Some.ensures.lines) ∙ c.loop-line.invariant.read;
       stand = λ h e.
           let count : length h.clients ≡ 1 = ap (length {A = ℕ}) e in

@@ -7,7 +7,8 @@ use Rattle.gr_script.proofs.reading.read_script.Goals as goal
 pub returns-in_err-region-2 : goal.returns-in_err-region-2
 returns-in_err-region-2 c =
     gives_stop _ _ c.in_err-region-2.field-0.0 _ c.from_residual-in_err-region-2.ensures.1
-    (never_stops c.in_err-region-2.field-0.0 c.in_ok-region.region.now _ _ (region_key c.in_ok-region.region.now c.in_ok-region.ensures.named) c.in_err-region-2.ensures)
+    (never_stops c.in_err-region-2.field-0.0 c.in_ok-region.region.now _ _
+    (region_key c.in_ok-region.region.now c.in_ok-region.ensures.named) c.in_err-region-2.ensures)
 
 pub invariant_of-result : goal.invariant_of-result
 invariant_of-result c =

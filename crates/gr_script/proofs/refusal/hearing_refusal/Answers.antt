@@ -16,6 +16,9 @@ returns c =
     let own = ap (λ (n : ℕ). eqb n c.number-of.result) c.number-2.ensures ∙ ap (eqb (number 0 items)) c.number-of.ensures in
     let full = c.is_full-full.ensures ∙ ap (λ (counts : Counted). is_full 1400 counts.hears) c.counted.ensures in
     c.refusal_of.ensures
-    ∙ ap (λ (b : Bool). refusal ((b, Later) ∷ (eqb c.number-2.result c.number-of.result, Itself) ∷ (c.is_full-full.result, Count) ∷ [])) late
-    ∙ ap (λ (b : Bool). refusal ((is_missing (number 2 items) (reports (number 1 items) past), Later) ∷ (b, Itself) ∷ (c.is_full-full.result, Count) ∷ [])) own
-    ∙ ap (λ (b : Bool). refusal ((is_missing (number 2 items) (reports (number 1 items) past), Later) ∷ (eqb (number 0 items) (number 1 items), Itself) ∷ (b, Count) ∷ [])) full
+    ∙ ap (λ (b : Bool). refusal ((b, Later) ∷ (eqb c.number-2.result c.number-of.result, Itself) ∷ (c.is_full-full.result, Count) ∷ []))
+    late
+    ∙ ap (λ (b : Bool). refusal ((is_missing (number 2 items) (reports (number 1 items) past), Later) ∷ (b, Itself)
+    ∷ (c.is_full-full.result, Count) ∷ [])) own
+    ∙ ap (λ (b : Bool). refusal ((is_missing (number 2 items) (reports (number 1 items) past), Later)
+    ∷ (eqb (number 0 items) (number 1 items), Itself) ∷ (b, Count) ∷ [])) full

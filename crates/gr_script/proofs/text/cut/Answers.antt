@@ -3,7 +3,8 @@ use Rattle.gr_script.proofs.Texts.{cut_at, all_behind}
 use Rattle.gr_script.proofs.text.cut.Goals as goal
 
 pub returns-in_err-place-clause-parts : goal.returns-in_err-place-clause-parts
-returns-in_err-place-clause-parts c = rw c.from_residual.ensures (cut_at c.args.mark c.args.bytes.now None (sym c.in_err-place.was ∙ c.place_of.ensures.place))
+returns-in_err-place-clause-parts c =
+    rw c.from_residual.ensures (cut_at c.args.mark c.args.bytes.now None (sym c.in_err-place.was ∙ c.place_of.ensures.place))
 
 pub returns-clause-parts : goal.returns-clause-parts
 returns-clause-parts c =

@@ -19,7 +19,8 @@ returns-in-Err-Fault-read-clause-explained g c sink untouched =
           fits =
               omega (arith, ap length c.as_slice.ensures.value, whole.fits);
         };
-        no_script = λ h lines is spelled. let clash : Fault end.fault ≡ Memory = sym end.field-0-is ∙ end.ensures.only h lines is spelled in
+        no_script = λ h lines is spelled. let clash : Fault end.fault ≡ Memory = sym end.field-0-is ∙ end.ensures.only h lines is spelled
+            in
             cc;
         fault_is = fault_is (script_in text) end.fault fault;
       },

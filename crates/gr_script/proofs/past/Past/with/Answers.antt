@@ -25,9 +25,12 @@ invariant_of-result c =
     let past = reverse c.self.inside.sayings in
     let old = c.self.invariant in
     let first = c.number-first.ensures ∙ ap (number 0) c.as_slice.ensures in
-    let homed = c.in_ok-homes.ensures ∙ ap (λ (hs : List ℕ). cond (is_kind kind.Client c.args.line.kind) (hs ++ number 1 c.args.line.items ∷ []) hs) old.homed in
-    let founded = c.stated_with-founders.ensures ∙ ap (λ (f : ℕ). cond (is_kind kind.Members c.args.line.kind) (number 1 c.args.line.items) f) old.founded in
-    subst (IsIndex c.next_rank.result c.in_ok-setting.setting c.stated_with-founders.result c.in_ok-homes.homes c.in_ok-steps.steps c.in_ok-reports.reports c.in_ok-joins.joins c.counted_with-counted.result)
+    let homed = c.in_ok-homes.ensures
+    ∙ ap (λ (hs : List ℕ). cond (is_kind kind.Client c.args.line.kind) (hs ++ number 1 c.args.line.items ∷ []) hs) old.homed in
+    let founded = c.stated_with-founders.ensures
+    ∙ ap (λ (f : ℕ). cond (is_kind kind.Members c.args.line.kind) (number 1 c.args.line.items) f) old.founded in
+    subst (IsIndex c.next_rank.result c.in_ok-setting.setting c.stated_with-founders.result c.in_ok-homes.homes c.in_ok-steps.steps
+    c.in_ok-reports.reports c.in_ok-joins.joins c.counted_with-counted.result)
     (sym (ap (reverse {A = Saying}) c.in_ok-push.ensures.ok ∙ reverse-append c.self.inside.sayings (c.args.line ∷ [])))
     (record {
       staged = c.next_rank.ensures;
@@ -38,5 +41,6 @@ invariant_of-result c =
       reported = counted_more (is_kind kind.Report) past c.args.line _ _ _ _ c.is_kind.ensures first c.in_ok-reports.ensures old.reported;
       joined = counted_more (is_kind kind.Join) past c.args.line _ _ _ _ c.is_kind-2.ensures first c.in_ok-joins.ensures old.joined;
       counts = c.counted_with-counted.ensures past old.counts;
-      few = let few : length past < most_lines = subst (λ (all : List Saying). length all < most_lines) (sym c.self.view_is) c.requires in omega (arith, few);
+      few = let few : length past < most_lines = subst (λ (all : List Saying). length all < most_lines) (sym c.self.view_is) c.requires in
+          omega (arith, few);
     })

@@ -30,6 +30,7 @@ invariant_of-self-2 c =
     let noted : c.note_made.new.vector.ids ≡ with_made done.made was.vector.ids =
     c.note_made.ensures ∙ ap (λ v. with_made done.made v.ids) c.in_ok-reserve-2.ensures.room in
     rw (pushed, reverse-append, c.count_with-self-inside.ensures, noted)
-    (kept_after was.id was.opening was.floor was.entries c.enter.new.entries was.made was.vector.ids past c.args.client c.args.seq c.args.ask.now
+    (kept_after was.id was.opening was.floor was.entries c.enter.new.entries was.made was.vector.ids past c.args.client c.args.seq
+    c.args.ask.now
     done.reply done.made done.to
     c.self.invariant here gives c.in_ok-enter.ensures.ok)

@@ -8,5 +8,6 @@ returns-clause-record_of c =
     rw (← c.self.view_is) record {
       deeds = refl;
       region = region-kept was.id was.opening was.floor was.entries was.made was.vector.ids (reverse was.history.deeds) c.self.invariant
-          c.in_ok-region.ensures.ordered c.in_ok-region.region c.in_ok-region.ensures.rows c.in_ok-region.ensures.tombstones c.in_ok-region.ensures.floor c.in_ok-region.ensures.vector;
+          c.in_ok-region.ensures.ordered c.in_ok-region.region c.in_ok-region.ensures.rows c.in_ok-region.ensures.tombstones
+          c.in_ok-region.ensures.floor c.in_ok-region.ensures.vector;
     }
