@@ -1,14 +1,14 @@
 -- Each step keeps the rule.
-use Rattle.std.proofs.Common.{◌≡◌, ◌≢◌, ℕ, zero, suc, ◌+◌, ◌-◌, ◌*◌, ◌%◌, ◌<◌, ◌≤◌, ◌⊎◌, Bool, true, false, true≢false, List, [], ◌∷◌, ◌++◌, length, set, get_or, Option, Some, None, refl, sym, ap, ◌∙◌, subst, arith, length-append, length-set, inl, inr, ⊎_elim}
+use Rattle.std.proofs.Common.{◌≡◌, ◌≢◌, ℕ, zero, suc, ◌+◌, ◌-◌, ◌*◌, ◌%◌, ◌<◌, ◌≤◌, Bool, true, false, true≢false, List, [], ◌∷◌, ◌++◌, length, set, get_or, Option, Some, None, refl, sym, ap, ◌∙◌, subst, arith, length-set, inl, inr, ⊎_elim}
 use Rattle.std.specs.Prelude.{bit_or}
 use mathlib.Core.Option.{some, some-injective, some-ne-none}
 use lib.ListN.{get_elem?}
 use mathlib.Core.Logic.{dite}
 use native.Mathlib.Decide.{ℕ_discrete}
-use Rattle.atomic_table.specs.Table.{State, Me, step, Act, keeps, takes, gives, Valid, carried_after, Allows, Splits, Joins, Final, Seen, stepped}
+use Rattle.atomic_table.specs.Table.{State, Me, Act, keeps, takes, gives, Valid, carried_after, Allows, Splits, Joins, Final, Seen, stepped}
 use Rattle.atomic_table.proofs.Lists.{at_set, at_snoc, set_again, set_here, set_else, at_longer}
 use Rattle.gr_turn.specs.declared.view.View.{View}
-use Rattle.gr_turn.specs.Views.{StartsWith, IsIdle, IsRoot, times, total, count_from, bit, won_by, lost_by, left_by, found, is_out, list_in, fresh, claimed, root_view, seat_view, deal_left, deal_right, dealt_of, both, longer, unopened, HasAll, MadeAll, IsAccounted}
+use Rattle.gr_turn.specs.Views.{StartsWith, IsIdle, IsRoot, times, total, count_from, bit, won_by, lost_by, left_by, found, is_out, list_in, fresh, claimed, root_view, deal_left, deal_right, dealt_of, both, longer, unopened, HasAll, MadeAll, IsAccounted}
 use Rattle.gr_turn.specs.Rule.{Fits, IsSound, Opened, Shut, Holds, Grabbed, Released, Claimed, Opens, Looked}
 use Rattle.gr_turn.proofs.Counts.{total_set, total_same, times-append, count_split, starts_long, starts_trans, longer_starts, longer_length, longer_shorter, starts_self, places_split, below_both, even_or, odd_or, total_snoc, total_at, total_only, total_two, count_once, count_has, count_first, count_below}
 

@@ -1,4 +1,4 @@
-use Rattle.std.proofs.Common.{◌≡◌, ◌≤◌, ℕ}
+use Rattle.std.proofs.Common.{◌≡◌, ◌≤◌}
 use Rattle.gr_turn.specs.Views.{with_lost}
 use Rattle.gr_turn.proofs.lock.TurnLock.enter.Given as goal
 

@@ -1,5 +1,4 @@
-use Rattle.std.proofs.Common.{rules, ◌≡◌, [], ◌∷◌, List, ℕ, Option, Some, ap, sym, ◌∙◌, subst}
-use Rattle.gr_turn.specs.declared.view.View.{View}
+use Rattle.std.proofs.Common.{rules, ap, sym, ◌∙◌}
 use Rattle.gr_turn.specs.Views.{Seated}
 use Rattle.gr_turn.proofs.Steps.{joins, looks_as, joined_idle, same_idle}
 use Rattle.gr_turn.proofs.lock.TurnLock.join.Goals as goal

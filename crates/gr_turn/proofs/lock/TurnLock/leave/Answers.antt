@@ -1,4 +1,4 @@
-use Rattle.std.proofs.Common.{rules, ◌≡◌, ◌*◌, [], ◌∷◌, List, ℕ, Option, Some, length, ap, sym, ◌∙◌, subst, arith}
+use Rattle.std.proofs.Common.{rules, ◌≡◌, ◌*◌, [], ◌∷◌, List, ℕ, Option, Some, ap, sym, ◌∙◌, subst, arith}
 use Rattle.atomic_table.specs.Table.{Allows, Me, rest}
 use Rattle.gr_turn.specs.declared.view.View.{View}
 use Rattle.gr_turn.specs.Views.{left_by, Turned, StartsWith, found}

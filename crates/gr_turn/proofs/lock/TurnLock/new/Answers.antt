@@ -1,4 +1,4 @@
-use Rattle.std.proofs.Common.{rules, ◌≡◌, ◌+◌, [], ◌∷◌, ◌++◌, List, ℕ, suc, Option, Some, length, slice_get, ap, sym, ◌∙◌, subst, arith, length-append}
+use Rattle.std.proofs.Common.{◌≡◌, ◌+◌, [], ◌∷◌, List, ℕ, suc, Option, Some, length, slice_get, ap, sym, ◌∙◌, subst, arith, length-append}
 use Rattle.atomic_table.specs.Table.{Me}
 use Rattle.gr_turn.specs.declared.view.View.{View}
 use Rattle.gr_turn.specs.Views.{root_view, seat_view, deal_left, deal_right}

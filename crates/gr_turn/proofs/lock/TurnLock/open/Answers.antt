@@ -1,4 +1,4 @@
-use Rattle.std.proofs.Common.{rules, ◌≡◌, ◌*◌, [], ◌∷◌, List, ℕ, Option, Some, None, length, ap, sym, ◌∙◌, arith}
+use Rattle.std.proofs.Common.{rules, ◌≡◌, ◌*◌, [], ◌∷◌, Option, Some, None, ap, sym, ◌∙◌, arith}
 use Rattle.atomic_table.specs.Table.{Me, rest}
 use Rattle.gr_turn.specs.declared.view.View.{View}
 use Rattle.gr_turn.specs.Views.{fresh, claimed}
