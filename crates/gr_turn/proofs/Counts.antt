@@ -16,13 +16,15 @@ some_of a b e = cc
 none_of : {X : Type 0} (x : X) → None ≡ Some x → ⊥
 none_of x e = cc
 
-pub total_set : {V : Type 0} (f : V → ℕ) (vs : List V) (i : ℕ) (v w : V) → get_elem? vs i ≡ some v → total f (set vs i w) + f v ≡ total f vs + f w
+pub total_set : {V : Type 0} (f : V → ℕ) (vs : List V) (i : ℕ) (v w : V) → get_elem? vs i ≡ some v
+    → total f (set vs i w) + f v ≡ total f vs + f w
 total_set f [] i v w e = absurd (some-ne-none v (sym e))
 total_set f (x ∷ xs) zero v w e = let same : x ≡ v = some-injective x v e in let k : f x ≡ f v = ap f same in omega arith
 total_set f (x ∷ xs) (suc i) v w e = let k : total f (set xs i w) + f v ≡ total f xs + f w = total_set f xs i v w e in omega arith
 
 -- a change that keeps f of the view keeps the total
-pub total_same : {V : Type 0} (f : V → ℕ) (vs : List V) (i : ℕ) (v w : V) → get_elem? vs i ≡ some v → f w ≡ f v → total f (set vs i w) ≡ total f vs
+pub total_same : {V : Type 0} (f : V → ℕ) (vs : List V) (i : ℕ) (v w : V) → get_elem? vs i ≡ some v → f w ≡ f v
+    → total f (set vs i w) ≡ total f vs
 total_same f vs i v w e k = let t = total_set f vs i v w e in omega arith
 
 pub total_snoc : {V : Type 0} (f : V → ℕ) (vs : List V) (w : V) → total f (vs ++ w ∷ []) ≡ total f vs + f w
@@ -78,7 +80,8 @@ pub starts_self : {E : Type 0} (xs : List E) → StartsWith xs xs
 starts_self xs = ([], sym (append-nil xs))
 
 -- the places from `opening` on below n', by way of n
-pub places_split : (p opening n n' : ℕ) → opening ≤ n → n ≤ n' → times p (count_from opening (n - opening)) + times p (count_from n (n' - n)) ≡ times p (count_from opening (n' - opening))
+pub places_split : (p opening n n' : ℕ) → opening ≤ n → n ≤ n'
+    → times p (count_from opening (n - opening)) + times p (count_from n (n' - n)) ≡ times p (count_from opening (n' - opening))
 places_split p opening n n' lo hi =
     let a : (n - opening) + (n' - n) ≡ n' - opening = omega arith in
     let b : opening + (n - opening) ≡ n = omega arith in
@@ -93,7 +96,8 @@ below_both p n a k made own e h = go (times p made) refl
     go zero f = let g : times p (made ++ count_from a k) ≡ times p made + times p (count_from a k) = times-append p made (count_from a k) in let r : p < a + k = count_below p a k (omega arith) in omega arith
 
 -- where f of each other view is 0
-pub total_only : {V : Type 0} (f : V → ℕ) (vs : List V) (i : ℕ) (v : V) → get_elem? vs i ≡ some v → ((j : ℕ) (u : V) → j ≢ i → get_elem? vs j ≡ some u → f u ≡ 0) → total f vs ≡ f v
+pub total_only : {V : Type 0} (f : V → ℕ) (vs : List V) (i : ℕ) (v : V) → get_elem? vs i ≡ some v
+    → ((j : ℕ) (u : V) → j ≢ i → get_elem? vs j ≡ some u → f u ≡ 0) → total f vs ≡ f v
 total_only f [] i v e rest = absurd (some-ne-none v (sym e))
 total_only f (x ∷ xs) zero v e rest = let k : f x ≡ f v = ap f (some-injective x v e) in let z : total f xs ≡ 0 = total_none f xs (λ j u a. rest (suc j) u (λ q. omega arith) a) in omega arith
   where
@@ -106,7 +110,8 @@ total_only f (x ∷ xs) (suc i) v e rest =
     omega arith
 
 -- two views' part of the total
-pub total_two : {V : Type 0} (f : V → ℕ) (vs : List V) (i j : ℕ) (v u : V) → i ≢ j → get_elem? vs i ≡ some v → get_elem? vs j ≡ some u → f v + f u ≤ total f vs
+pub total_two : {V : Type 0} (f : V → ℕ) (vs : List V) (i j : ℕ) (v u : V) → i ≢ j → get_elem? vs i ≡ some v
+    → get_elem? vs j ≡ some u → f v + f u ≤ total f vs
 total_two f [] i j v u ne a b = absurd (some-ne-none v (sym a))
 total_two f (x ∷ xs) zero zero v u ne a b = absurd (ne refl)
 total_two f (x ∷ xs) zero (suc j) v u ne a b = let k : f x ≡ f v = ap f (some-injective x v a) in let r : f u ≤ total f xs = total_at f xs j u b in omega arith
@@ -154,7 +159,8 @@ longer_shorter zs xs ys a b = go (leb (length xs) (length ys)) refl
     go false e = let k = leb-false _ _ e in rw e (starts_short zs ys xs b a (omega arith))
 
 -- what the longer begins with
-pub longer_both : {E : Type 0} (xs ys : List E) → StartsWith (longer xs ys) (shorter xs ys) → StartsWith (longer xs ys) xs × StartsWith (longer xs ys) ys
+pub longer_both : {E : Type 0} (xs ys : List E) → StartsWith (longer xs ys) (shorter xs ys)
+    → StartsWith (longer xs ys) xs × StartsWith (longer xs ys) ys
 longer_both xs ys = elim (leb (length xs) (length ys)) as (λ t. StartsWith (cond t ys xs) (cond t xs ys) → StartsWith (cond t ys xs) xs × StartsWith (cond t ys xs) ys) [ true ↦ (λ s. (s, starts_self ys)) | false ↦ (λ s. (starts_self xs, s)) ]
 
 pub longer_length : {E : Type 0} (xs ys : List E) → (length xs ≤ length (longer xs ys)) × (length ys ≤ length (longer xs ys))
@@ -167,7 +173,8 @@ longer_length xs ys = go (leb (length xs) (length ys)) refl
 pub count_first : (n : ℕ) (ns : List ℕ) → 0 < times n (n ∷ ns)
 count_first n ns = rw (eq-eqb n n refl) (omega arith)
 
-pub each_snoc : {X : Type 0} (P : ℕ → X → Type 0) (xs : List X) (x : X) → ((k : ℕ) (y : X) → slice_get xs k ≡ Some y → P k y) → P (length xs) x → (k : ℕ) (y : X) → slice_get (xs ++ x ∷ []) k ≡ Some y → P k y
+pub each_snoc : {X : Type 0} (P : ℕ → X → Type 0) (xs : List X) (x : X) → ((k : ℕ) (y : X) → slice_get xs k ≡ Some y → P k y)
+    → P (length xs) x → (k : ℕ) (y : X) → slice_get (xs ++ x ∷ []) k ≡ Some y → P k y
 each_snoc P [] x each last zero y e = subst (λ z. P 0 z) (some_of x y e) last
 each_snoc P [] x each last (suc k) y e = absurd (none_of y e)
 each_snoc P (z ∷ xs) x each last zero y e = each 0 y e

@@ -1,4 +1,4 @@
--- The rule of a lock, and what each step tells.
+-- What holds between any two steps of a lock, and what each step tells.
 use Rattle.std.specs.Prelude.{◌≡◌, ◌≢◌, ℕ, ◌+◌, ◌-◌, ◌*◌, ◌%◌, ◌<◌, ◌≤◌, ◌⊎◌, Bool, true, false, List, [], ◌∷◌, length, Option, Some, None}
 use mathlib.Core.Option.{some}
 use lib.ListN.{get_elem?}
@@ -24,6 +24,11 @@ module _ {E B : Type 0} where
   IsSound v = (v.parts ≡ [] → (v.made ≡ []) × (v.turn ≡ None)) × (v.opened ≡ false → (v.next ≡ None) × (v.parts ≡ []))
 
 module _ {T E B : Type 0} (entries : T → List E) (base_of : T → B) where
+  -- the slot has a value, which has this list and this base
+  abbrev pub IsHome : State (Option T) (View E B) → List E → B → Type 0
+  IsHome s list base = (x : T) × (get_elem? s.homes 0 ≡ some (some (Some x))) × (entries x ≡ list) × (base_of x ≡ base)
+
+  -- the lock has had its value, which has the list and the base; each place added is in one view's `made`
   pub record Opened (s : State (Option T) (View E B)) : Type 0 where
     pub list : List E
     pub base : B
@@ -35,7 +40,7 @@ module _ {T E B : Type 0} (entries : T → List E) (base_of : T → B) where
     pub root : ℕ
     pub word : s.words ≡ (length list * 2 + bit out) ∷ []
     pub slot : length s.homes ≡ 1
-    pub home : out ≡ false → (x : T) × (get_elem? s.homes 0 ≡ some (some (Some x))) × (entries x ≡ list) × (base_of x ≡ base)
+    pub home : out ≡ false → IsHome s list base
     pub taken : out ≡ true → (v : View E B) × (get_elem? s.views holder ≡ some v) × (v.turn ≡ Some list)
     pub started : opening ≤ length list
     pub few : dealt ≤ seats
@@ -53,13 +58,19 @@ module _ {T E B : Type 0} (entries : T → List E) (base_of : T → B) where
     pub slot : length s.homes ≡ 1
     pub home : view.won ≡ 0 → get_elem? s.homes 0 ≡ some (some None)
 
+  -- what holds between any two steps
   abbrev pub Holds : State (Option T) (View E B) → Type 0
   Holds s = Shut s ⊎ Opened s
+
+  -- the seat has the slot with the value, whose list begins with what the seat had seen
+  abbrev pub Won : Me (Option T) (View E B) → T → Me (Option T) (View E B) → Type 0
+  Won m x n =
+      (n.0 ≡ won_by m.0 (entries x)) × (n.1 ≡ (0, Some x) ∷ []) × (m.0.base ≡ Some (base_of x)) × StartsWith (entries x) m.0.seen
 
   -- won where the word found is even, and else lost
   abbrev pub Grabbed : Me (Option T) (View E B) → ℕ → Me (Option T) (View E B) → Type 0
   Grabbed m r n =
-      (r % 2 ≡ 0 → (x : T) × (n.0 ≡ won_by m.0 (entries x)) × (n.1 ≡ (0, Some x) ∷ []) × (m.0.base ≡ Some (base_of x)) × StartsWith (entries x) m.0.seen)
+      (r % 2 ≡ 0 → (x : T) × Won m x n)
       × (r % 2 ≢ 0 → (n.0 ≡ lost_by m.0) × (n.1 ≡ []))
 
   -- the value that the slot has goes home
@@ -74,5 +85,6 @@ module _ {T E B : Type 0} (entries : T → List E) (base_of : T → B) where
   abbrev pub Opens : Me (Option T) (View E B) → ℕ → Me (Option T) (View E B) → Type 0
   Opens m r n = (x : T) → m.1 ≡ (0, Some x) ∷ [] → (n.0 ≡ root_view (base_of x) m.0.seats (entries x) 0) × (n.1 ≡ [])
 
+  -- a load that changes nothing
   abbrev pub Looked : Me (Option T) (View E B) → ℕ → Me (Option T) (View E B) → Type 0
   Looked m r n = (n.0 ≡ m.0) × (n.1 ≡ m.1) × IsAccounted m.0

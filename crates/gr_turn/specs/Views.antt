@@ -49,47 +49,76 @@ shorter xs ys = cond (leb (length xs) (length ys)) xs ys
 module _ {E B : Type 0} where
   -- the view before the lock is open, and of a seat that was joined to another
   abbrev pub unopened : ℕ → View E B
-  unopened seats = record { opened = false; base = None; seats = seats; opening = 0; seen = []; met = []; made = []; parts = []; won = 0; lost = 0; turn = None; next = None }
+  unopened seats = record {
+    opened = false;
+    base = None;
+    seats = seats;
+    opening = 0;
+    seen = [];
+    met = [];
+    made = [];
+    parts = [];
+    won = 0;
+    lost = 0;
+    turn = None;
+    next = None;
+  }
 
   -- the first view, while the lock is not open; it has the slot where won is 1
   abbrev pub fresh : ℕ → View E B
   fresh seats = record (unopened seats) { next = Some 0 }
 
+  -- the first view, once it has the empty slot
   abbrev pub claimed : View E B → View E B
   claimed v = record v { won = 1 }
 
   -- the view of the root, which has dealt the numbers below k
   abbrev pub root_view : B → ℕ → List E → ℕ → View E B
-  root_view base seats list k = record { opened = true; base = Some base; seats = seats; opening = length list; seen = list; met = []; made = []; parts = []; won = 0; lost = 0; turn = None; next = Some k }
+  root_view base seats list k = record (unopened seats) { opened = true; base = Some base; opening = length list; seen = list; next = Some k }
 
   -- the view of the seat k, as `new` gives it
   abbrev pub seat_view : B → ℕ → List E → ℕ → View E B
   seat_view base seats list k = record (root_view base seats list k) { parts = k ∷ []; next = None }
 
+  -- the root after it gave its next number, and the seat that got it
   abbrev pub deal_left : View E B → View E B
   deal_left v = record v { next = Some (suc (dealt_of v.next)) }
 
   abbrev pub deal_right : View E B → View E B
   deal_right v = record v { parts = dealt_of v.next ∷ []; next = None }
 
+  -- the first of two seats after a join
   abbrev pub both : View E B → View E B → View E B
-  both v w = record v { seen = longer v.seen w.seen; met = shorter v.seen w.seen; made = v.made ++ w.made; parts = v.parts ++ w.parts; won = v.won + w.won; lost = v.lost + w.lost }
+  both v w = record v {
+    seen = longer v.seen w.seen;
+    met = shorter v.seen w.seen;
+    made = v.made ++ w.made;
+    parts = v.parts ++ w.parts;
+    won = v.won + w.won;
+    lost = v.lost + w.lost;
+  }
 
   -- it has all numbers of its lock
   abbrev pub HasAll : View E B → Type 0
   HasAll v = (n : ℕ) → n < v.seats → 0 < times n v.parts
 
-  -- no place was made twice, and a view with all numbers has made each place; what was seen begins with what was met
-  abbrev pub IsAccounted : View E B → Type 0
-  IsAccounted v = ((p : ℕ) → times p v.made ≤ 1) × (HasAll v → (p : ℕ) → v.opening ≤ p → p < length v.seen → 0 < times p v.made) × StartsWith v.seen v.met
-
-  -- a view with all numbers has made each place below n that was added
+  -- a view with all numbers has made each place below n that was added since the opening
   abbrev pub MadeAll : View E B → ℕ → Type 0
   MadeAll v n = HasAll v → (p : ℕ) → v.opening ≤ p → p < n → 0 < times p v.made
 
+  -- no place was made twice
+  abbrev pub MadeOnce : View E B → Type 0
+  MadeOnce v = (p : ℕ) → times p v.made ≤ 1
+
+  -- what holds of each view after a join; what was seen begins with what was met
+  abbrev pub IsAccounted : View E B → Type 0
+  IsAccounted v = MadeOnce v × MadeAll v (length v.seen) × StartsWith v.seen v.met
+
+  -- after a grab that found the word even, with the list of the value
   abbrev pub won_by : View E B → List E → View E B
   won_by v list = record v { turn = Some list; won = v.won + 1 }
 
+  -- after a grab that found the word odd
   abbrev pub lost_by : View E B → View E B
   lost_by v = record v { lost = v.lost + 1 }
 
@@ -97,12 +126,14 @@ module _ {E B : Type 0} where
   abbrev pub found : View E B → List E
   found v = list_in v.turn
 
+  -- after grabs that brought the lost ones to n
   abbrev pub with_lost : View E B → ℕ → View E B
   with_lost v n = record v { lost = n }
 
-  -- after a turn that left `list`
+  -- after a turn that left the list
   abbrev pub left_by : View E B → List E → View E B
-  left_by v list = record v { turn = None; seen = list; made = v.made ++ count_from (length (found v)) (length list - length (found v)) }
+  left_by v list =
+      record v { turn = None; seen = list; made = v.made ++ count_from (length (found v)) (length list - length (found v)) }
 
 module _ {S E B : Type 0} where
   -- a seat that has a number, no turn and no slot
@@ -111,7 +142,13 @@ module _ {S E B : Type 0} where
 
   -- a first seat that can deal one more number
   abbrev pub IsRoot : Me S (View E B) → Type 0
-  IsRoot m = (m.1 ≡ []) × (m.0.opened ≡ true) × (m.0.turn ≡ None) × (m.0.parts ≡ []) × (is_out m.0.next ≡ true) × (dealt_of m.0.next < m.0.seats)
+  IsRoot m =
+      (m.1 ≡ [])
+      × (m.0.opened ≡ true)
+      × (m.0.turn ≡ None)
+      × (m.0.parts ≡ [])
+      × (is_out m.0.next ≡ true)
+      × (dealt_of m.0.next < m.0.seats)
 
 -- a seat, as its callers see it
 pub record Seated (E B : Type 0) : Type 0 where
@@ -127,4 +164,9 @@ pub record Turned (T E B : Type 0) : Type 0 where
 module _ {S E B : Type 0} where
   -- a seat that has the turn, and the slot, which is empty
   abbrev pub IsHolding : Me (Option S) (View E B) → Type 0
-  IsHolding m = (m.1 ≡ (0, None) ∷ []) × (m.0.opened ≡ true) × (is_out m.0.turn ≡ true) × (m.0.next ≡ None) × (m.0.parts ≢ [])
+  IsHolding m =
+      (m.1 ≡ (0, None) ∷ [])
+      × (m.0.opened ≡ true)
+      × (is_out m.0.turn ≡ true)
+      × (m.0.next ≡ None)
+      × (m.0.parts ≢ [])

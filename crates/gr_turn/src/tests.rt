@@ -1,4 +1,5 @@
 ghost use Rattle.std.specs.Prelude.{◌≡◌, ◌++◌, ◌∷◌, [], IfOk, IfErr};
+ghost use Rattle.std.specs.Thread.{IsSync};
 
 use crate::{Busy, Kept, Seat, TurnLock};
 use std::alloc::{AllocError, Global};
@@ -79,5 +80,68 @@ fn a_turn_is_out_once(rt: HostRuntime) -> Result<(), Fail> {
     };
     assert_eq!(rt; (added, busy, even), (true, 1, 2));
     assert_eq!(rt; (notes.name, notes.items.len()), (7, 1));
+    Ok(())
+}
+
+const TURNS: u64 = 1000;
+
+// Adds the number once in each turn.
+fn take_turns<R: Wait + Sync>(rt: &R, lock: &TurnLock<Notes>, seat: Seat<Notes>, number: u64) -> Seat<Notes>
+    requires { seat.lock ≡ lock.now }
+    ensures { result.lock ≡ lock.now }
+{
+    let mut seat = seat;
+    for _ in 0..TURNS {
+        let mut turn = lock.enter(rt, seat);
+        let _ = turn.value_mut().add(number);
+        seat = lock.leave(turn);
+    }
+    seat
+}
+
+// Two threads take turns at one lock.
+fn take_turns_in_two<R: Threads + Wait + Sync>(
+    rt: &R,
+    lock: &TurnLock<Notes>,
+    one: Seat<Notes>,
+    two: Seat<Notes>,
+) -> (Seat<Notes>, Seat<Notes>)
+    requires { (one.lock ≡ lock.now) × (two.lock ≡ lock.now) }
+    ensures { (result.0.lock ≡ lock.now) × (result.1.lock ≡ lock.now) }
+{
+    thread::join(
+        rt,
+        move || -> Seat<Notes>
+            requires { IsSync R.row × (one.lock ≡ lock.now) }
+            ensures { result.lock ≡ lock.entry.now }
+        { take_turns(rt, lock, one, 1) },
+        move || -> Seat<Notes>
+            requires { IsSync R.row × (two.lock ≡ lock.now) }
+            ensures { result.lock ≡ lock.entry.now }
+        { take_turns(rt, lock, two, 3) },
+    )
+}
+
+#[test]
+fn no_turn_is_lost(rt: HostRuntime) -> Result<(), Fail> {
+    let notes = Notes {
+        name: 7,
+        items: Vec::new(rt.alloc()),
+    };
+    let (lock, mut seats) = match TurnLock::new(rt.alloc(), notes, 2) {
+        Ok(made) => made,
+        Err(_) => panic!(rt; "no memory"),
+    };
+    let (Some(two), Some(one)) = (seats.pop(), seats.pop()) else {
+        panic!(rt; "no seat")
+    };
+    let (mut one, two) = take_turns_in_two(&rt, &lock, one, two);
+    lock.join(&mut one, two);
+    let Ok(notes) = lock.end_with(one) else {
+        panic!(rt; "a turn is out")
+    };
+    let first = notes.items.iter().filter(|item| **item == 1).count();
+    let second = notes.items.iter().filter(|item| **item == 3).count();
+    assert_eq!(rt; (notes.items.len(), first, second), (2000, 1000, 1000));
     Ok(())
 }

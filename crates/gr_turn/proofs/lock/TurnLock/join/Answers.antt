@@ -1,6 +1,7 @@
 use Rattle.std.proofs.Common.{rules, ap, sym, ◌∙◌}
 use Rattle.gr_turn.specs.Views.{Seated}
-use Rattle.gr_turn.proofs.Steps.{joins, looks_as, joined_idle, same_idle}
+use Rattle.gr_turn.proofs.Ending.{looks_as}
+use Rattle.gr_turn.proofs.Joining.{joins, joined_idle, same_idle}
 use Rattle.gr_turn.proofs.lock.TurnLock.join.Goals as goal
 
 pub join_seat-requires : goal.join_seat-requires

@@ -3,7 +3,7 @@ use Rattle.atomic_table.specs.Table.{Allows, Me, rest}
 use Rattle.gr_turn.specs.declared.view.View.{View}
 use Rattle.gr_turn.specs.Views.{left_by, Turned, StartsWith, found}
 use Rattle.gr_turn.specs.Rule.{Holds, Released}
-use Rattle.gr_turn.proofs.Steps.{releases}
+use Rattle.gr_turn.proofs.Releasing.{releases}
 use Rattle.gr_turn.proofs.lock.TurnLock.leave.Goals as goal
 
 pub swap-requires : goal.swap-requires

@@ -2,7 +2,7 @@ use Rattle.std.proofs.Common.{rules, ◌≡◌, ◌*◌, [], ◌∷◌, Option, 
 use Rattle.atomic_table.specs.Table.{Me, rest}
 use Rattle.gr_turn.specs.declared.view.View.{View}
 use Rattle.gr_turn.specs.Views.{fresh, claimed}
-use Rattle.gr_turn.proofs.Steps.{claims_as, opens_as}
+use Rattle.gr_turn.proofs.Opening.{claims_as, opens_as}
 use Rattle.gr_turn.proofs.lock.TurnLock.open.Goals as goal
 
 pub load-requires : goal.load-requires
