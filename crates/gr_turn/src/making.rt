@@ -93,11 +93,10 @@ impl<T: Kept> TurnLock<T> {
         let word = closed.word(0);
         let value = closed.take(0);
         closed.free();
-        if word % 2 == 1 {
-            return value;
+        match value {
+            None if word % 2 == 0 => unreachable!(),
+            value => value,
         }
-        let Some(value) = value else { unreachable!() };
-        Some(value)
     }
 
     /// Hands out the value, of which the seat tells. The fault is for a turn that was never given back.
