@@ -1,17 +1,16 @@
 -- What all numbers together have made, and what is at home at the end.
-use Rattle.std.proofs.Common.{◌≡◌, ◌≢◌, ℕ, zero, suc, ◌+◌, ◌-◌, ◌*◌, ◌%◌, ◌<◌, ◌≤◌, Bool, true, false, true≢false, List, [], ◌∷◌, ◌++◌, length, set, get_or, Option, Some, None, refl, sym, ap, ◌∙◌, subst, arith, length-set, inl, inr, ⊎_elim}
-use Rattle.std.specs.Prelude.{bit_or}
-use mathlib.Core.Option.{some, some-injective, some-ne-none}
+use Rattle.std.proofs.Common.{◌≡◌, ◌≢◌, ℕ, ◌+◌, ◌-◌, ◌*◌, ◌%◌, ◌<◌, Bool, true, false, List, [], ◌∷◌, length, set, get_or, Option, Some, None, refl, sym, ap, ◌∙◌, subst, arith, inr}
+use mathlib.Core.Option.{some, some-injective}
 use lib.ListN.{get_elem?}
 use mathlib.Core.Logic.{dite}
 use native.Mathlib.Decide.{ℕ_discrete}
-use Rattle.atomic_table.specs.Table.{State, Me, Act, keeps, takes, gives, Valid, carried_after, Allows, Splits, Joins, Final, Seen, stepped}
-use Rattle.atomic_table.proofs.Lists.{at_set, at_snoc, set_again, set_here, set_else, at_longer}
+use Rattle.atomic_table.specs.Table.{State, Me, keeps, Allows, Final, Seen}
+use Rattle.atomic_table.proofs.Lists.{set_again}
 use Rattle.gr_turn.specs.declared.view.View.{View}
-use Rattle.gr_turn.specs.Views.{StartsWith, IsIdle, IsRoot, times, total, count_from, bit, won_by, lost_by, left_by, found, is_out, list_in, fresh, claimed, root_view, deal_left, deal_right, dealt_of, both, longer, unopened, HasAll, MadeAll, IsAccounted}
-use Rattle.gr_turn.specs.Rule.{Fits, IsSound, Opened, Shut, Holds, Grabbed, Released, Claimed, Opens, Looked}
-use Rattle.gr_turn.proofs.Counts.{total_set, total_same, times-append, count_split, starts_long, starts_trans, longer_starts, longer_length, longer_shorter, starts_self, places_split, below_both, even_or, odd_or, total_snoc, total_at, total_only, total_two, count_once, count_has, count_first, count_below}
-use Rattle.gr_turn.proofs.Opened.{none_some, some_same, cons_none, append_none, each_set, sound_set, mine_sound, set_at, refit, opened_by, keeps_taken}
+use Rattle.gr_turn.specs.Views.{StartsWith, times, bit, HasAll, MadeAll, IsAccounted}
+use Rattle.gr_turn.specs.Rule.{Opened, Holds, Looked}
+use Rattle.gr_turn.proofs.Counts.{starts_long, total_at, total_only, total_two, count_once, count_has, count_first, count_below}
+use Rattle.gr_turn.proofs.Opened.{none_some, some_same, opened_by}
 
 module _ {T E B : Type 0} (entries : T → List E) (base_of : T → B) where
   -- of a view with all numbers, each other one has none
@@ -118,4 +117,3 @@ module _ {T E B : Type 0} (entries : T → List E) (base_of : T → B) where
           let f = o.each id v final.1.1 op in
           let P : T → Type 0 = λ y. (v.base ≡ Some (base_of y)) × StartsWith (entries y) v.seen × MadeAll v (length (entries y)) in
           subst P same (f.based ∙ ap Some (sym h.3), subst (λ (l : List E). StartsWith l v.seen) (sym h.2) f.saw, subst (λ (l : List E). MadeAll v (length l)) (sym h.2) (made_all s o id v final.1.1 op))
-

@@ -1,17 +1,14 @@
 -- A grab keeps the rule: it wins where the word is even, and changes nothing where it is odd.
-use Rattle.std.proofs.Common.{◌≡◌, ◌≢◌, ℕ, zero, suc, ◌+◌, ◌-◌, ◌*◌, ◌%◌, ◌<◌, ◌≤◌, Bool, true, false, true≢false, List, [], ◌∷◌, ◌++◌, length, set, get_or, Option, Some, None, refl, sym, ap, ◌∙◌, subst, arith, length-set, inl, inr, ⊎_elim}
+use Rattle.std.proofs.Common.{◌≡◌, ◌≢◌, ℕ, ◌+◌, ◌*◌, ◌%◌, Bool, true, false, true≢false, List, [], ◌∷◌, length, set, get_or, Option, Some, None, refl, sym, ap, ◌∙◌, subst, arith, length-set, inr}
 use Rattle.std.specs.Prelude.{bit_or}
-use mathlib.Core.Option.{some, some-injective, some-ne-none}
+use mathlib.Core.Option.{some}
 use lib.ListN.{get_elem?}
-use mathlib.Core.Logic.{dite}
-use native.Mathlib.Decide.{ℕ_discrete}
-use Rattle.atomic_table.specs.Table.{State, Me, Act, keeps, takes, gives, Valid, carried_after, Allows, Splits, Joins, Final, Seen, stepped}
-use Rattle.atomic_table.proofs.Lists.{at_set, at_snoc, set_again, set_here, set_else, at_longer}
+use Rattle.atomic_table.specs.Table.{State, Me, Act, keeps, takes, Valid, carried_after, Allows, stepped}
 use Rattle.gr_turn.specs.declared.view.View.{View}
-use Rattle.gr_turn.specs.Views.{StartsWith, IsIdle, IsRoot, times, total, count_from, bit, won_by, lost_by, left_by, found, is_out, list_in, fresh, claimed, root_view, deal_left, deal_right, dealt_of, both, longer, unopened, HasAll, MadeAll, IsAccounted}
-use Rattle.gr_turn.specs.Rule.{Fits, IsSound, Opened, Shut, Holds, Grabbed, Released, Claimed, Opens, Looked}
-use Rattle.gr_turn.proofs.Counts.{total_set, total_same, times-append, count_split, starts_long, starts_trans, longer_starts, longer_length, longer_shorter, starts_self, places_split, below_both, even_or, odd_or, total_snoc, total_at, total_only, total_two, count_once, count_has, count_first, count_below}
-use Rattle.gr_turn.proofs.Opened.{none_some, some_same, cons_none, append_none, each_set, sound_set, mine_sound, set_at, refit, opened_by, keeps_taken}
+use Rattle.gr_turn.specs.Views.{StartsWith, IsIdle, times, bit, won_by, lost_by}
+use Rattle.gr_turn.specs.Rule.{Opened, Holds, Grabbed}
+use Rattle.gr_turn.proofs.Counts.{total_same, even_or, odd_or}
+use Rattle.gr_turn.proofs.Opened.{some_same, each_set, sound_set, mine_sound, set_at, refit, opened_by, keeps_taken}
 
 module _ {T E B : Type 0} (entries : T → List E) (base_of : T → B) where
   abbrev CanGrab : ℕ → View E B → State (Option T) (View E B) → Type 0
@@ -109,4 +106,3 @@ module _ {T E B : Type 0} (entries : T → List E) (base_of : T → B) where
 
   pub grabs_as : (id : ℕ) (m : Token) → IsIdle m → Allows (Holds entries base_of) 1 id m 0 (λ n. bit_or n 1) (Grabbed entries base_of m)
   grabs_as id m i = subst (λ (l : List (ℕ × Option T)). Allows (Holds entries base_of) 1 id (m.0, l) 0 (λ n. bit_or n 1) (Grabbed entries base_of (m.0, l))) (sym i.0) (grabs id m.0 i.1 i.2 i.4)
-

@@ -1,17 +1,14 @@
 -- A join keeps the rule: each place and each number stays where one view has it.
-use Rattle.std.proofs.Common.{◌≡◌, ◌≢◌, ℕ, zero, suc, ◌+◌, ◌-◌, ◌*◌, ◌%◌, ◌<◌, ◌≤◌, Bool, true, false, true≢false, List, [], ◌∷◌, ◌++◌, length, set, get_or, Option, Some, None, refl, sym, ap, ◌∙◌, subst, arith, length-set, inl, inr, ⊎_elim}
-use Rattle.std.specs.Prelude.{bit_or}
-use mathlib.Core.Option.{some, some-injective, some-ne-none}
+use Rattle.std.proofs.Common.{◌≡◌, ◌≢◌, ℕ, zero, suc, ◌+◌, ◌<◌, ◌≤◌, true, true≢false, List, [], ◌++◌, length, set, Option, None, refl, sym, ap, ◌∙◌, subst, arith, inr}
+use mathlib.Core.Option.{some, some-injective}
 use lib.ListN.{get_elem?}
-use mathlib.Core.Logic.{dite}
-use native.Mathlib.Decide.{ℕ_discrete}
-use Rattle.atomic_table.specs.Table.{State, Me, Act, keeps, takes, gives, Valid, carried_after, Allows, Splits, Joins, Final, Seen, stepped}
-use Rattle.atomic_table.proofs.Lists.{at_set, at_snoc, set_again, set_here, set_else, at_longer}
+use Rattle.atomic_table.specs.Table.{Me, Joins}
+use Rattle.atomic_table.proofs.Lists.{set_else}
 use Rattle.gr_turn.specs.declared.view.View.{View}
-use Rattle.gr_turn.specs.Views.{StartsWith, IsIdle, IsRoot, times, total, count_from, bit, won_by, lost_by, left_by, found, is_out, list_in, fresh, claimed, root_view, deal_left, deal_right, dealt_of, both, longer, unopened, HasAll, MadeAll, IsAccounted}
-use Rattle.gr_turn.specs.Rule.{Fits, IsSound, Opened, Shut, Holds, Grabbed, Released, Claimed, Opens, Looked}
-use Rattle.gr_turn.proofs.Counts.{total_set, total_same, times-append, count_split, starts_long, starts_trans, longer_starts, longer_length, longer_shorter, starts_self, places_split, below_both, even_or, odd_or, total_snoc, total_at, total_only, total_two, count_once, count_has, count_first, count_below}
-use Rattle.gr_turn.proofs.Opened.{none_some, some_same, cons_none, append_none, each_set, sound_set, mine_sound, set_at, refit, opened_by, keeps_taken}
+use Rattle.gr_turn.specs.Views.{IsIdle, times, total, both, longer, unopened}
+use Rattle.gr_turn.specs.Rule.{Holds}
+use Rattle.gr_turn.proofs.Counts.{total_set, times-append, longer_starts, longer_length, longer_shorter}
+use Rattle.gr_turn.proofs.Opened.{none_some, append_none, each_set, sound_set, opened_by, keeps_taken}
 
 module _ {T E B : Type 0} (entries : T → List E) (base_of : T → B) where
   -- a seat takes in what another knows
@@ -88,4 +85,3 @@ module _ {T E B : Type 0} (entries : T → List E) (base_of : T → B) where
 
   pub same_idle : (m n : Token) → IsIdle m → n.0 ≡ m.0 → n.1 ≡ m.1 → IsIdle n
   same_idle m n i e f = subst (λ (y : View E B × List (ℕ × Option T)). IsIdle y) (λ k. (sym e k, sym f k)) i
-

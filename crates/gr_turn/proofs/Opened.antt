@@ -1,16 +1,12 @@
 -- What is known of the views of an open lock, and of one view that changes.
-use Rattle.std.proofs.Common.{◌≡◌, ◌≢◌, ℕ, zero, suc, ◌+◌, ◌-◌, ◌*◌, ◌%◌, ◌<◌, ◌≤◌, Bool, true, false, true≢false, List, [], ◌∷◌, ◌++◌, length, set, get_or, Option, Some, None, refl, sym, ap, ◌∙◌, subst, arith, length-set, inl, inr, ⊎_elim}
-use Rattle.std.specs.Prelude.{bit_or}
+use Rattle.std.proofs.Common.{◌≡◌, ◌≢◌, ℕ, zero, suc, Bool, true, false, true≢false, List, [], ◌∷◌, ◌++◌, set, Option, Some, None, refl, sym, ap, ◌∙◌, subst, ⊎_elim}
 use mathlib.Core.Option.{some, some-injective, some-ne-none}
 use lib.ListN.{get_elem?}
-use mathlib.Core.Logic.{dite}
-use native.Mathlib.Decide.{ℕ_discrete}
-use Rattle.atomic_table.specs.Table.{State, Me, Act, keeps, takes, gives, Valid, carried_after, Allows, Splits, Joins, Final, Seen, stepped}
-use Rattle.atomic_table.proofs.Lists.{at_set, at_snoc, set_again, set_here, set_else, at_longer}
+use Rattle.atomic_table.specs.Table.{State}
+use Rattle.atomic_table.proofs.Lists.{at_set, set_else}
 use Rattle.gr_turn.specs.declared.view.View.{View}
-use Rattle.gr_turn.specs.Views.{StartsWith, IsIdle, IsRoot, times, total, count_from, bit, won_by, lost_by, left_by, found, is_out, list_in, fresh, claimed, root_view, deal_left, deal_right, dealt_of, both, longer, unopened, HasAll, MadeAll, IsAccounted}
-use Rattle.gr_turn.specs.Rule.{Fits, IsSound, Opened, Shut, Holds, Grabbed, Released, Claimed, Opens, Looked}
-use Rattle.gr_turn.proofs.Counts.{total_set, total_same, times-append, count_split, starts_long, starts_trans, longer_starts, longer_length, longer_shorter, starts_self, places_split, below_both, even_or, odd_or, total_snoc, total_at, total_only, total_two, count_once, count_has, count_first, count_below}
+use Rattle.gr_turn.specs.Views.{StartsWith}
+use Rattle.gr_turn.specs.Rule.{Fits, IsSound, Opened, Shut, Holds}
 
 pub none_some : {X : Type 0} (x : X) → None ≡ Some x → ⊥
 none_some x e = cc
@@ -80,4 +76,3 @@ module _ {T E B : Type 0} (entries : T → List E) (base_of : T → B) where
       let t = o.taken out in
       let apart : o.holder ≢ id = λ e. none_some o.list (sym none ∙ ap (λ (u : View E B). u.turn) (some-injective v t.0 (sym at ∙ subst (λ (i : ℕ). get_elem? s.views i ≡ some t.0) e t.1)) ∙ t.2) in
       (t.0, set_else s.views id o.holder w apart ∙ t.1, t.2)
-

@@ -1,17 +1,14 @@
 -- The first seat opens the lock, and gives each seat its number.
-use Rattle.std.proofs.Common.{◌≡◌, ◌≢◌, ℕ, zero, suc, ◌+◌, ◌-◌, ◌*◌, ◌%◌, ◌<◌, ◌≤◌, Bool, true, false, true≢false, List, [], ◌∷◌, ◌++◌, length, set, get_or, Option, Some, None, refl, sym, ap, ◌∙◌, subst, arith, length-set, inl, inr, ⊎_elim}
-use Rattle.std.specs.Prelude.{bit_or}
+use Rattle.std.proofs.Common.{◌≡◌, ℕ, zero, suc, ◌+◌, ◌-◌, ◌*◌, ◌<◌, true, false, true≢false, List, [], ◌∷◌, length, set, get_or, Option, Some, None, refl, sym, ap, ◌∙◌, subst, arith, length-set, inl, inr, ⊎_elim}
 use mathlib.Core.Option.{some, some-injective, some-ne-none}
 use lib.ListN.{get_elem?}
-use mathlib.Core.Logic.{dite}
-use native.Mathlib.Decide.{ℕ_discrete}
-use Rattle.atomic_table.specs.Table.{State, Me, Act, keeps, takes, gives, Valid, carried_after, Allows, Splits, Joins, Final, Seen, stepped}
-use Rattle.atomic_table.proofs.Lists.{at_set, at_snoc, set_again, set_here, set_else, at_longer}
+use Rattle.atomic_table.specs.Table.{State, Me, takes, gives, Allows, Splits}
+use Rattle.atomic_table.proofs.Lists.{at_snoc, set_here, at_longer}
 use Rattle.gr_turn.specs.declared.view.View.{View}
-use Rattle.gr_turn.specs.Views.{StartsWith, IsIdle, IsRoot, times, total, count_from, bit, won_by, lost_by, left_by, found, is_out, list_in, fresh, claimed, root_view, deal_left, deal_right, dealt_of, both, longer, unopened, HasAll, MadeAll, IsAccounted}
-use Rattle.gr_turn.specs.Rule.{Fits, IsSound, Opened, Shut, Holds, Grabbed, Released, Claimed, Opens, Looked}
-use Rattle.gr_turn.proofs.Counts.{total_set, total_same, times-append, count_split, starts_long, starts_trans, longer_starts, longer_length, longer_shorter, starts_self, places_split, below_both, even_or, odd_or, total_snoc, total_at, total_only, total_two, count_once, count_has, count_first, count_below}
-use Rattle.gr_turn.proofs.Opened.{none_some, some_same, cons_none, append_none, each_set, sound_set, mine_sound, set_at, refit, opened_by, keeps_taken}
+use Rattle.gr_turn.specs.Views.{IsRoot, times, total, count_from, is_out, fresh, claimed, root_view, deal_left, deal_right, dealt_of}
+use Rattle.gr_turn.specs.Rule.{Fits, IsSound, Opened, Shut, Holds, Claimed, Opens}
+use Rattle.gr_turn.proofs.Counts.{total_same, times-append, count_split, starts_self, total_snoc}
+use Rattle.gr_turn.proofs.Opened.{none_some, some_same, cons_none, each_set, sound_set, refit, opened_by, keeps_taken}
 use Rattle.gr_turn.proofs.Releasing.{slot_same}
 
 module _ {T E B : Type 0} (entries : T → List E) (base_of : T → B) where
@@ -172,4 +169,3 @@ module _ {T E B : Type 0} (entries : T → List E) (base_of : T → B) where
 
   pub deals_as : (id : ℕ) (m : Token) → IsRoot m → Splits (Holds entries base_of) id m.0 (deal_left m.0) (deal_right m.0)
   deals_as id m i = deals id m.0 (dealt_of m.0.next) i.1 i.2 i.3 (next_is m.0.next i.4) i.5
-

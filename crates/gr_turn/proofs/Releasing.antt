@@ -1,17 +1,13 @@
 -- What a seat gives back becomes the list of the lock.
-use Rattle.std.proofs.Common.{◌≡◌, ◌≢◌, ℕ, zero, suc, ◌+◌, ◌-◌, ◌*◌, ◌%◌, ◌<◌, ◌≤◌, Bool, true, false, true≢false, List, [], ◌∷◌, ◌++◌, length, set, get_or, Option, Some, None, refl, sym, ap, ◌∙◌, subst, arith, length-set, inl, inr, ⊎_elim}
-use Rattle.std.specs.Prelude.{bit_or}
-use mathlib.Core.Option.{some, some-injective, some-ne-none}
-use lib.ListN.{get_elem?}
-use mathlib.Core.Logic.{dite}
-use native.Mathlib.Decide.{ℕ_discrete}
-use Rattle.atomic_table.specs.Table.{State, Me, Act, keeps, takes, gives, Valid, carried_after, Allows, Splits, Joins, Final, Seen, stepped}
-use Rattle.atomic_table.proofs.Lists.{at_set, at_snoc, set_again, set_here, set_else, at_longer}
+use Rattle.std.proofs.Common.{◌≡◌, ◌≢◌, ℕ, ◌+◌, ◌-◌, ◌*◌, ◌≤◌, true, false, true≢false, List, [], ◌∷◌, length, set, Option, Some, None, refl, sym, ap, ◌∙◌, subst, arith, length-set, inr}
+use mathlib.Core.Option.{some}
+use Rattle.atomic_table.specs.Table.{gives, Allows}
+use Rattle.atomic_table.proofs.Lists.{set_here}
 use Rattle.gr_turn.specs.declared.view.View.{View}
-use Rattle.gr_turn.specs.Views.{StartsWith, IsIdle, IsRoot, times, total, count_from, bit, won_by, lost_by, left_by, found, is_out, list_in, fresh, claimed, root_view, deal_left, deal_right, dealt_of, both, longer, unopened, HasAll, MadeAll, IsAccounted}
-use Rattle.gr_turn.specs.Rule.{Fits, IsSound, Opened, Shut, Holds, Grabbed, Released, Claimed, Opens, Looked}
-use Rattle.gr_turn.proofs.Counts.{total_set, total_same, times-append, count_split, starts_long, starts_trans, longer_starts, longer_length, longer_shorter, starts_self, places_split, below_both, even_or, odd_or, total_snoc, total_at, total_only, total_two, count_once, count_has, count_first, count_below}
-use Rattle.gr_turn.proofs.Opened.{none_some, some_same, cons_none, append_none, each_set, sound_set, mine_sound, set_at, refit, opened_by, keeps_taken}
+use Rattle.gr_turn.specs.Views.{StartsWith, times, count_from, left_by, found, is_out, list_in}
+use Rattle.gr_turn.specs.Rule.{Holds, Released}
+use Rattle.gr_turn.proofs.Counts.{total_set, total_same, times-append, starts_long, starts_trans, starts_self, places_split, below_both}
+use Rattle.gr_turn.proofs.Opened.{none_some, some_same, each_set, sound_set, mine_sound, refit, opened_by}
 
 module _ {T E B : Type 0} (entries : T → List E) (base_of : T → B) where
   abbrev slot : T → List (ℕ × Option T)
@@ -87,4 +83,3 @@ module _ {T E B : Type 0} (entries : T → List E) (base_of : T → B) where
         }),
         λ x' e. (ap (λ (y : T). left_by v (entries y)) (slot_same x x' e), refl),
       )
-

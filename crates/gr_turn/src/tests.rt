@@ -86,7 +86,12 @@ fn a_turn_is_out_once(rt: HostRuntime) -> Result<(), Fail> {
 const TURNS: u64 = 1000;
 
 // Adds the number once in each turn.
-fn take_turns<R: Wait + Sync>(rt: &R, lock: &TurnLock<Notes>, seat: Seat<Notes>, number: u64) -> Seat<Notes>
+fn take_turns<R: Wait + Sync>(
+    rt: &R,
+    lock: &TurnLock<Notes>,
+    seat: Seat<Notes>,
+    number: u64,
+) -> Seat<Notes>
     requires { seat.lock ≡ lock.now }
     ensures { result.lock ≡ lock.now }
 {
