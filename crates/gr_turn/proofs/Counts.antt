@@ -42,27 +42,32 @@ times-append p [] ys = omega arith
 times-append p (x ∷ xs) ys = let k : times p (xs ++ ys) ≡ times p xs + times p ys = times-append p xs ys in omega arith
 
 pub count_split : (a x y : ℕ) → count_from a (x + y) ≡ count_from a x ++ count_from (a + x) y
-count_split a zero y = let e : zero + y ≡ y = omega arith in let f : a + zero ≡ a = omega arith in ap (λ (n : ℕ). count_from a n) e ∙ ap (λ (n : ℕ). count_from n y) (sym f)
+count_split a zero y = let e : zero + y ≡ y = omega arith in let f : a + zero ≡ a = omega arith in ap (λ (n : ℕ). count_from a n) e
+    ∙ ap (λ (n : ℕ). count_from n y) (sym f)
 count_split a (suc x) y =
     let e : suc x + y ≡ suc (x + y) = omega arith in
     let f : suc a + x ≡ a + suc x = omega arith in
-    ap (λ (n : ℕ). count_from a n) e ∙ ap (λ (l : List ℕ). a ∷ l) (count_split (suc a) x y ∙ ap (λ (n : ℕ). count_from (suc a) x ++ count_from n y) f)
+    ap (λ (n : ℕ). count_from a n) e
+    ∙ ap (λ (l : List ℕ). a ∷ l) (count_split (suc a) x y ∙ ap (λ (n : ℕ). count_from (suc a) x ++ count_from n y) f)
 
 -- what stands among n numbers from a on is below a + n
 pub count_below : (p a n : ℕ) → 0 < times p (count_from a n) → p < a + n
 count_below p a zero h = absurd (omega arith)
 count_below p a (suc n) h = dite (ℕ_discrete p a) (λ (e : p ≡ a). omega arith)
-    (λ ne. let k : 0 < 0 + times p (count_from (suc a) n) = rw (ne_eqb p a ne) at h in let r : p < suc a + n = count_below p (suc a) n (omega arith) in omega arith)
+    (λ ne. let k : 0 < 0 + times p (count_from (suc a) n) = rw (ne_eqb p a ne) at h in
+    let r : p < suc a + n = count_below p (suc a) n (omega arith) in omega arith)
 
 pub count_above : (p a n : ℕ) → 0 < times p (count_from a n) → a ≤ p
 count_above p a zero h = absurd (omega arith)
 count_above p a (suc n) h = dite (ℕ_discrete p a) (λ (e : p ≡ a). omega arith)
-    (λ ne. let k : 0 < 0 + times p (count_from (suc a) n) = rw (ne_eqb p a ne) at h in let r : suc a ≤ p = count_above p (suc a) n (omega arith) in omega arith)
+    (λ ne. let k : 0 < 0 + times p (count_from (suc a) n) = rw (ne_eqb p a ne) at h in
+    let r : suc a ≤ p = count_above p (suc a) n (omega arith) in omega arith)
 
 pub count_has : (p a n : ℕ) → a ≤ p → p < a + n → 0 < times p (count_from a n)
 count_has p a zero lo hi = absurd (omega arith)
 count_has p a (suc n) lo hi = dite (ℕ_discrete p a) (λ (e : p ≡ a). rw (eq-eqb p a e) (omega arith))
-    (λ ne. let r : 0 < times p (count_from (suc a) n) = count_has p (suc a) n (omega arith) (omega arith) in rw (ne_eqb p a ne) (omega arith))
+    (λ ne. let r : 0 < times p (count_from (suc a) n) = count_has p (suc a) n (omega arith) (omega arith) in
+    rw (ne_eqb p a ne) (omega arith))
 
 pub even_or : (n : ℕ) → bit_or (n * 2 + 0) 1 ≡ n * 2 + 1
 even_or n = or_block 1 n 0 0 1 (omega arith) (omega arith) ∙ ap (λ (k : ℕ). k * 2 + 1) (or_zero_r n)
@@ -85,7 +90,8 @@ pub places_split : (p opening n n' : ℕ) → opening ≤ n → n ≤ n'
 places_split p opening n n' lo hi =
     let a : (n - opening) + (n' - n) ≡ n' - opening = omega arith in
     let b : opening + (n - opening) ≡ n = omega arith in
-    sym (ap (λ (k : ℕ). times p (count_from opening k)) (sym a) ∙ ap (times p) (count_split opening (n - opening) (n' - n)) ∙ times-append p _ _ ∙ ap (λ (k : ℕ). times p (count_from opening (n - opening)) + times p (count_from k (n' - n))) b)
+    sym (ap (λ (k : ℕ). times p (count_from opening k)) (sym a) ∙ ap (times p) (count_split opening (n - opening) (n' - n))
+    ∙ times-append p _ _ ∙ ap (λ (k : ℕ). times p (count_from opening (n - opening)) + times p (count_from k (n' - n))) b)
 
 -- what stands in either of two lists has a bound
 pub below_both : (p n a k : ℕ) (made : List ℕ) → (0 < times p made → p < n) → a + k ≡ n → 0 < times p (made ++ count_from a k) → p < n
@@ -93,17 +99,20 @@ below_both p n a k made own e h = go (times p made) refl
   where
     go : (m : ℕ) → times p made ≡ m → p < n
     go (suc m) f = own (omega arith)
-    go zero f = let g : times p (made ++ count_from a k) ≡ times p made + times p (count_from a k) = times-append p made (count_from a k) in let r : p < a + k = count_below p a k (omega arith) in omega arith
+    go zero f = let g : times p (made ++ count_from a k) ≡ times p made + times p (count_from a k) = times-append p made
+        (count_from a k) in let r : p < a + k = count_below p a k (omega arith) in omega arith
 
 -- where f of each other view is 0
 pub total_only : {V : Type 0} (f : V → ℕ) (vs : List V) (i : ℕ) (v : V) → get_elem? vs i ≡ some v
     → ((j : ℕ) (u : V) → j ≢ i → get_elem? vs j ≡ some u → f u ≡ 0) → total f vs ≡ f v
 total_only f [] i v e rest = absurd (some-ne-none v (sym e))
-total_only f (x ∷ xs) zero v e rest = let k : f x ≡ f v = ap f (some-injective x v e) in let z : total f xs ≡ 0 = total_none f xs (λ j u a. rest (suc j) u (λ q. omega arith) a) in omega arith
+total_only f (x ∷ xs) zero v e rest = let k : f x ≡ f v = ap f (some-injective x v e) in
+    let z : total f xs ≡ 0 = total_none f xs (λ j u a. rest (suc j) u (λ q. omega arith) a) in omega arith
   where
     total_none : {V : Type 0} (f : V → ℕ) (xs : List V) → ((j : ℕ) (u : V) → get_elem? xs j ≡ some u → f u ≡ 0) → total f xs ≡ 0
     total_none f [] each = refl
-    total_none f (x ∷ xs) each = let a : f x ≡ 0 = each 0 x refl in let b : total f xs ≡ 0 = total_none f xs (λ j u q. each (suc j) u q) in omega arith
+    total_none f (x ∷ xs) each = let a : f x ≡ 0 = each 0 x refl in
+        let b : total f xs ≡ 0 = total_none f xs (λ j u q. each (suc j) u q) in omega arith
 total_only f (x ∷ xs) (suc i) v e rest =
     let z : f x ≡ 0 = rest 0 x (λ q. omega arith) refl in
     let k : total f xs ≡ f v = total_only f xs i v e (λ j u n a. rest (suc j) u (λ q. n (omega arith)) a) in
@@ -114,9 +123,12 @@ pub total_two : {V : Type 0} (f : V → ℕ) (vs : List V) (i j : ℕ) (v u : V)
     → get_elem? vs j ≡ some u → f v + f u ≤ total f vs
 total_two f [] i j v u ne a b = absurd (some-ne-none v (sym a))
 total_two f (x ∷ xs) zero zero v u ne a b = absurd (ne refl)
-total_two f (x ∷ xs) zero (suc j) v u ne a b = let k : f x ≡ f v = ap f (some-injective x v a) in let r : f u ≤ total f xs = total_at f xs j u b in omega arith
-total_two f (x ∷ xs) (suc i) zero v u ne a b = let k : f x ≡ f u = ap f (some-injective x u b) in let r : f v ≤ total f xs = total_at f xs i v a in omega arith
-total_two f (x ∷ xs) (suc i) (suc j) v u ne a b = let r : f v + f u ≤ total f xs = total_two f xs i j v u (λ e. ne (ap suc e)) a b in omega arith
+total_two f (x ∷ xs) zero (suc j) v u ne a b = let k : f x ≡ f v = ap f (some-injective x v a) in
+    let r : f u ≤ total f xs = total_at f xs j u b in omega arith
+total_two f (x ∷ xs) (suc i) zero v u ne a b = let k : f x ≡ f u = ap f (some-injective x u b) in
+    let r : f v ≤ total f xs = total_at f xs i v a in omega arith
+total_two f (x ∷ xs) (suc i) (suc j) v u ne a b = let r : f v + f u ≤ total f xs = total_two f xs i j v u (λ e. ne (ap suc e)) a b in
+    omega arith
 
 -- each number stands there once at most
 pub count_once : (p a n : ℕ) → times p (count_from a n) ≤ 1
@@ -127,7 +139,8 @@ count_once p a (suc n) = dite (ℕ_discrete p a)
   where
     go : (m : ℕ) → times p (count_from (suc a) n) ≡ m → p ≡ a → cond (p == a) 1 0 + times p (count_from (suc a) n) ≤ 1
     go zero e q = rw (eq-eqb p a q, e) (omega arith)
-    go (suc m) e q = let r : p < suc a + n = count_below p (suc a) n (omega arith) in let l : suc a ≤ p = count_above p (suc a) n (omega arith) in absurd (omega arith)
+    go (suc m) e q = let r : p < suc a + n = count_below p (suc a) n (omega arith) in
+        let l : suc a ≤ p = count_above p (suc a) n (omega arith) in absurd (omega arith)
 
 -- of two beginnings of one list, the longer
 pub longer_starts : {E : Type 0} (zs xs ys : List E) → StartsWith zs xs → StartsWith zs ys → StartsWith zs (longer xs ys)
@@ -161,7 +174,9 @@ longer_shorter zs xs ys a b = go (leb (length xs) (length ys)) refl
 -- what the longer begins with
 pub longer_both : {E : Type 0} (xs ys : List E) → StartsWith (longer xs ys) (shorter xs ys)
     → StartsWith (longer xs ys) xs × StartsWith (longer xs ys) ys
-longer_both xs ys = elim (leb (length xs) (length ys)) as (λ t. StartsWith (cond t ys xs) (cond t xs ys) → StartsWith (cond t ys xs) xs × StartsWith (cond t ys xs) ys) [ true ↦ (λ s. (s, starts_self ys)) | false ↦ (λ s. (starts_self xs, s)) ]
+longer_both xs ys = elim (leb (length xs) (length ys)) as (λ t. StartsWith (cond t ys xs) (cond t xs ys)
+    → StartsWith (cond t ys xs) xs
+    × StartsWith (cond t ys xs) ys) [ true ↦ (λ s. (s, starts_self ys)) | false ↦ (λ s. (starts_self xs, s)) ]
 
 pub longer_length : {E : Type 0} (xs ys : List E) → (length xs ≤ length (longer xs ys)) × (length ys ≤ length (longer xs ys))
 longer_length xs ys = go (leb (length xs) (length ys)) refl

@@ -52,14 +52,18 @@ module _ {T E B : Type 0} (entries : T → List E) (base_of : T → B) where
       go true e =
           let t = o.taken e in
           dite (ℕ_discrete o.holder id)
-          (λ (same : o.holder ≡ id). none_some o.list (sym none ∙ ap (λ (u : View E B). u.turn) (some-injective v t.0 (sym final.1.1 ∙ subst (λ (i : ℕ). get_elem? s.views i ≡ some t.0) same t.1)) ∙ t.2))
-          (λ ne. none_some o.list (sym ((o.sound o.holder t.0 t.1).0 (others_bare s o id v final.1.1 op all o.holder t.0 ne t.1)).1 ∙ t.2))
+          (λ (same : o.holder ≡ id). none_some o.list (sym none
+          ∙ ap (λ (u : View E B). u.turn) (some-injective v t.0 (sym final.1.1
+          ∙ subst (λ (i : ℕ). get_elem? s.views i ≡ some t.0) same t.1)) ∙ t.2))
+          (λ ne. none_some o.list (sym ((o.sound o.holder t.0 t.1).0 (others_bare s o id v final.1.1 op all o.holder t.0 ne t.1)).1
+          ∙ t.2))
 
   made_all : (s : State (Option T) (View E B)) (o : Opened entries base_of s) (id : ℕ) (v : View E B)
       → get_elem? s.views id ≡ some v → v.opened ≡ true → MadeAll v (length o.list)
   made_all s o id v at op all p lo hi =
       let f = o.each id v at op in
-      let others = λ (j : ℕ) (u : View E B) (ne : j ≢ id) (there : get_elem? s.views j ≡ some u). ap (times p) ((o.sound j u there).0 (others_bare s o id v at op all j u ne there)).0 in
+      let others = λ (j : ℕ) (u : View E B) (ne : j ≢ id) (there : get_elem? s.views j ≡ some u). ap (times p)
+      ((o.sound j u there).0 (others_bare s o id v at op all j u ne there)).0 in
       let a = total_only (λ (u : View E B). times p u.made) s.views id v at others in
       let b = o.places p in
       let c = f.began in
@@ -72,7 +76,8 @@ module _ {T E B : Type 0} (entries : T → List E) (base_of : T → B) where
       → get_elem? s.views id ≡ some v → v.opened ≡ true → IsAccounted v
   accounted s o id v at op =
       let f = o.each id v at op in (
-        (λ p. let a = total_at (λ (u : View E B). times p u.made) s.views id v at in let b = o.places p in let c = count_once p o.opening (length o.list - o.opening) in omega arith),
+        (λ p. let a = total_at (λ (u : View E B). times p u.made) s.views id v at in let b = o.places p in
+            let c = count_once p o.opening (length o.list - o.opening) in omega arith),
         (λ all p lo hi. let d = starts_long o.list v.seen f.saw in made_all s o id v at op all p lo (omega arith)),
         f.near,
       )
@@ -82,8 +87,17 @@ module _ {T E B : Type 0} (entries : T → List E) (base_of : T → B) where
   looks id v op s law slots at fits =
       let o = opened_by entries base_of s id v law at op in
       let e : set s.views id v ≡ s.views = set_again s.views id v at in
-      let f : set s.words 0 (get_or s.words 0 0) ≡ s.words = ap (λ (ws : List ℕ). set ws 0 (get_or ws 0 0)) o.word ∙ sym o.word in
-      (v, keeps, tt, subst (λ (y : List ℕ × List (View E B)). Holds entries base_of (record { words = y.0; homes = s.homes; views = y.1 })) (λ i. (sym f i, sym e i)) (inr o), (refl, refl, accounted s o id v at op))
+      let f : set s.words 0 (get_or s.words 0 0) ≡ s.words = ap (λ (ws : List ℕ). set ws 0 (get_or ws 0 0)) o.word ∙ sym o.word in (
+        v,
+        keeps,
+        tt,
+        subst (λ (y : List ℕ
+            × List (View E B)). Holds entries base_of (record { words = y.0; homes = s.homes; views = y.1 })) (λ i. (
+              sym f i,
+              sym e i,
+            )) (inr o),
+        (refl, refl, accounted s o id v at op),
+      )
 
   -- the steps, at what a seat is known to be
   abbrev Token : Type 0
@@ -91,7 +105,10 @@ module _ {T E B : Type 0} (entries : T → List E) (base_of : T → B) where
 
   pub looks_as : (id : ℕ) (m : Token) → m.1 ≡ [] → m.0.opened ≡ true
       → Allows (Holds entries base_of) 1 id m 0 (λ n. n) (Looked entries base_of m)
-  looks_as id m none op = subst (λ (l : List (ℕ × Option T)). Allows (Holds entries base_of) 1 id (m.0, l) 0 (λ n. n) (Looked entries base_of (m.0, l))) (sym none) (looks id m.0 op)
+  looks_as id m none op = subst (λ (l : List (ℕ × Option T)). Allows (Holds entries base_of) 1 id (
+    m.0,
+    l,
+  ) 0 (λ n. n) (Looked entries base_of (m.0, l))) (sym none) (looks id m.0 op)
 
   -- the last state, where the word is even
   pub ended : (id : ℕ) (v : View E B) (ws : List ℕ) (xs : List (Option T)) (word : ℕ) (x : T)
@@ -110,10 +127,16 @@ module _ {T E B : Type 0} (entries : T → List E) (base_of : T → B) where
       found_word = some-injective _ _ (sym at ∙ ap (λ (l : List ℕ). get_elem? l 0) (sym final.2 ∙ o.word))
 
       go : (b : Bool) → o.out ≡ b → (v.base ≡ Some (base_of x)) × StartsWith (entries x) v.seen × MadeAll v (length (entries x))
-      go true e = let w : word ≡ length o.list * 2 + 1 = found_word ∙ ap (λ (b : Bool). length o.list * 2 + bit b) e in absurd (even (omega arith))
+      go true e = let w : word ≡ length o.list * 2 + 1 = found_word ∙ ap (λ (b : Bool). length o.list * 2 + bit b) e in
+          absurd (even (omega arith))
       go false e =
           let h = o.home e in
           let same : h.0 ≡ x = some_same h.0 x (some-injective _ _ (sym (final.4 0 (Some h.0) h.1) ∙ there)) in
           let f = o.each id v final.1.1 op in
           let P : T → Type 0 = λ y. (v.base ≡ Some (base_of y)) × StartsWith (entries y) v.seen × MadeAll v (length (entries y)) in
-          subst P same (f.based ∙ ap Some (sym h.3), subst (λ (l : List E). StartsWith l v.seen) (sym h.2) f.saw, subst (λ (l : List E). MadeAll v (length l)) (sym h.2) (made_all s o id v final.1.1 op))
+          subst P same (
+            f.based
+                ∙ ap Some (sym h.3),
+            subst (λ (l : List E). StartsWith l v.seen) (sym h.2) f.saw,
+            subst (λ (l : List E). MadeAll v (length l)) (sym h.2) (made_all s o id v final.1.1 op),
+          )

@@ -12,7 +12,9 @@ use Rattle.gr_turn.proofs.Opened.{some_same, each_set, sound_set, mine_sound, se
 
 module _ {T E B : Type 0} (entries : T → List E) (base_of : T → B) where
   abbrev CanGrab : ℕ → View E B → State (Option T) (View E B) → Type 0
-  CanGrab id v s = (w : View E B) × (a : Act (Option T)) × Valid s.homes [] a × Holds entries base_of (stepped s 0 (bit_or (get_or s.words 0 0) 1) id [] w a) × Grabbed entries base_of (v, []) (get_or s.words 0 0) (w, carried_after [] a)
+  CanGrab id v s = (w : View E B) × (a : Act (Option T)) × Valid s.homes [] a
+      × Holds entries base_of (stepped s 0 (bit_or (get_or s.words 0 0) 1) id [] w a)
+      × Grabbed entries base_of (v, []) (get_or s.words 0 0) (w, carried_after [] a)
 
   grabs_even : (id : ℕ) (v : View E B) → v.opened ≡ true → v.parts ≢ []
       → (s : State (Option T) (View E B)) (o : Opened entries base_of s) → o.out ≡ false → get_elem? s.views id ≡ some v
@@ -20,7 +22,8 @@ module _ {T E B : Type 0} (entries : T → List E) (base_of : T → B) where
   grabs_even id v op numbered s o free at =
       let h = o.home free in
       let w : View E B = won_by v o.list in
-      let found : get_or s.words 0 0 ≡ length o.list * 2 + 0 = ap (λ (ws : List ℕ). get_or ws 0 0) o.word ∙ ap (λ (b : Bool). length o.list * 2 + bit b) free in
+      let found : get_or s.words 0 0 ≡ length o.list * 2 + 0 = ap (λ (ws : List ℕ). get_or ws 0 0) o.word
+      ∙ ap (λ (b : Bool). length o.list * 2 + bit b) free in
       let f = o.each id v at op in (
         w,
         takes 0 (Some h.0),
@@ -34,7 +37,8 @@ module _ {T E B : Type 0} (entries : T → List E) (base_of : T → B) where
           out = true;
           holder = id;
           root = o.root;
-          word = ap (λ (ws : List ℕ). set ws 0 (bit_or (get_or s.words 0 0) 1)) o.word ∙ ap (λ (n : ℕ). n ∷ []) (ap (λ (n : ℕ). bit_or n 1) found ∙ even_or (length o.list));
+          word = ap (λ (ws : List ℕ). set ws 0 (bit_or (get_or s.words 0 0) 1)) o.word
+              ∙ ap (λ (n : ℕ). n ∷ []) (ap (λ (n : ℕ). bit_or n 1) found ∙ even_or (length o.list));
           slot = length-set s.homes 0 _ ∙ o.slot;
           home = λ e. absurd (true≢false e);
           taken = λ _. (w, set_at s.views id v w at, refl);
@@ -42,13 +46,33 @@ module _ {T E B : Type 0} (entries : T → List E) (base_of : T → B) where
           few = o.few;
           sound = sound_set s.views id w o.sound (mine_sound v w op numbered refl refl);
           each = each_set s.views id w
-              (λ by u apart at' op'. let g = o.each by u at' op' in refit g g.saw (λ l e. absurd (true≢false (sym (g.held l e).0 ∙ free))) g.deals)
-              (λ _. record { based = f.based; counted = f.counted; began = f.began; saw = f.saw; near = f.near; long = f.long; held = λ l e. (refl, refl, sym (some_same o.list l e)); deals = f.deals; own = f.own });
+              (λ by u apart at' op'. let g = o.each by u at' op' in
+              refit g g.saw (λ l e. absurd (true≢false (sym (g.held l e).0 ∙ free))) g.deals)
+              (λ _. record {
+                based = f.based;
+                counted = f.counted;
+                began = f.began;
+                saw = f.saw;
+                near = f.near;
+                long = f.long;
+                held = λ l e. (refl, refl, sym (some_same o.list l e));
+                deals = f.deals;
+                own = f.own;
+              });
           places = λ p. total_same (λ (u : View E B). times p u.made) s.views id v w at refl ∙ o.places p;
           numbers = λ p. total_same (λ (u : View E B). times p u.parts) s.views id v w at refl ∙ o.numbers p;
         }),
         (
-          (λ _. (h.0, (ap (won_by v) (sym h.2), refl, f.based ∙ ap Some (sym h.3), subst (λ (l : List E). StartsWith l v.seen) (sym h.2) f.saw))),
+          (λ _. (
+            h.0,
+            (
+              ap (won_by v) (sym h.2),
+              refl,
+              f.based
+                  ∙ ap Some (sym h.3),
+              subst (λ (l : List E). StartsWith l v.seen) (sym h.2) f.saw,
+            ),
+          )),
           (λ odd. absurd (odd (rw found (omega arith)))),
         ),
       )
@@ -58,7 +82,8 @@ module _ {T E B : Type 0} (entries : T → List E) (base_of : T → B) where
       → CanGrab id v s
   grabs_odd id v op none numbered s o busy at =
       let w : View E B = lost_by v in
-      let found : get_or s.words 0 0 ≡ length o.list * 2 + 1 = ap (λ (ws : List ℕ). get_or ws 0 0) o.word ∙ ap (λ (b : Bool). length o.list * 2 + bit b) busy in
+      let found : get_or s.words 0 0 ≡ length o.list * 2 + 1 = ap (λ (ws : List ℕ). get_or ws 0 0) o.word
+      ∙ ap (λ (b : Bool). length o.list * 2 + bit b) busy in
       let f = o.each id v at op in (
         w,
         keeps,
@@ -72,7 +97,8 @@ module _ {T E B : Type 0} (entries : T → List E) (base_of : T → B) where
           out = true;
           holder = o.holder;
           root = o.root;
-          word = ap (λ (ws : List ℕ). set ws 0 (bit_or (get_or s.words 0 0) 1)) o.word ∙ ap (λ (n : ℕ). n ∷ []) (ap (λ (n : ℕ). bit_or n 1) found ∙ odd_or (length o.list));
+          word = ap (λ (ws : List ℕ). set ws 0 (bit_or (get_or s.words 0 0) 1)) o.word
+              ∙ ap (λ (n : ℕ). n ∷ []) (ap (λ (n : ℕ). bit_or n 1) found ∙ odd_or (length o.list));
           slot = o.slot;
           home = λ e. absurd (true≢false e);
           taken = λ _. keeps_taken entries base_of s o id v w at none busy;
@@ -81,7 +107,17 @@ module _ {T E B : Type 0} (entries : T → List E) (base_of : T → B) where
           sound = sound_set s.views id w o.sound (mine_sound v w op numbered refl refl);
           each = each_set s.views id w
               (λ by u apart at' op'. let g = o.each by u at' op' in refit g g.saw (λ l e. (refl, (g.held l e).1, (g.held l e).2)) g.deals)
-              (λ _. record { based = f.based; counted = f.counted; began = f.began; saw = f.saw; near = f.near; long = f.long; held = λ l e. (refl, (f.held l e).1, (f.held l e).2); deals = f.deals; own = f.own });
+              (λ _. record {
+                based = f.based;
+                counted = f.counted;
+                began = f.began;
+                saw = f.saw;
+                near = f.near;
+                long = f.long;
+                held = λ l e. (refl, (f.held l e).1, (f.held l e).2);
+                deals = f.deals;
+                own = f.own;
+              });
           places = λ p. total_same (λ (u : View E B). times p u.made) s.views id v w at refl ∙ o.places p;
           numbers = λ p. total_same (λ (u : View E B). times p u.parts) s.views id v w at refl ∙ o.numbers p;
         }),
@@ -105,4 +141,7 @@ module _ {T E B : Type 0} (entries : T → List E) (base_of : T → B) where
   Token = Me (Option T) (View E B)
 
   pub grabs_as : (id : ℕ) (m : Token) → IsIdle m → Allows (Holds entries base_of) 1 id m 0 (λ n. bit_or n 1) (Grabbed entries base_of m)
-  grabs_as id m i = subst (λ (l : List (ℕ × Option T)). Allows (Holds entries base_of) 1 id (m.0, l) 0 (λ n. bit_or n 1) (Grabbed entries base_of (m.0, l))) (sym i.0) (grabs id m.0 i.1 i.2 i.4)
+  grabs_as id m i = subst (λ (l : List (ℕ × Option T)). Allows (Holds entries base_of) 1 id (
+    m.0,
+    l,
+  ) 0 (λ n. bit_or n 1) (Grabbed entries base_of (m.0, l))) (sym i.0) (grabs id m.0 i.1 i.2 i.4)

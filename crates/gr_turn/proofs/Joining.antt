@@ -43,11 +43,16 @@ module _ {T E B : Type 0} (entries : T → List E) (base_of : T → B) where
         home = o.home;
         taken = λ out.
             let t = keeps_taken entries base_of s o id v b at none out in
-            let apart' : o.holder ≢ other = λ e. none_some o.list (sym none' ∙ ap (λ (u : View E B). u.turn) (some-injective w t.0 (sym there ∙ subst (λ (i : ℕ). get_elem? views' i ≡ some t.0) e t.1)) ∙ t.2) in
+            let apart' : o.holder ≢ other = λ e. none_some o.list (sym none'
+            ∙ ap (λ (u : View E B). u.turn) (some-injective w t.0 (sym there
+            ∙ subst (λ (i : ℕ). get_elem? views' i ≡ some t.0) e t.1)) ∙ t.2) in
             (t.0, set_else views' other o.holder spent apart' ∙ t.1, t.2);
         started = o.started;
         few = o.few;
-        sound = sound_set views' other spent (sound_set s.views id b o.sound ((λ e. absurd (alive e)), (λ shut. absurd (true≢false (sym op ∙ shut))))) ((λ _. (refl, refl)), (λ _. (refl, refl)));
+        sound = sound_set views' other spent (sound_set s.views id b o.sound (
+          (λ e. absurd (alive e)),
+          (λ shut. absurd (true≢false (sym op ∙ shut))),
+        )) ((λ _. (refl, refl)), (λ _. (refl, refl)));
         each = each_set views' other spent
             (λ by u far. each_set s.views id b (λ j y apart' at'' op''. o.each j y at'' op'')
             (λ _. record {
@@ -69,12 +74,14 @@ module _ {T E B : Type 0} (entries : T → List E) (base_of : T → B) where
     where
       joined_own : (p : ℕ) → 0 < times p (v.made ++ w.made) → (0 < times p v.made → p < length v.seen)
           → (0 < times p w.made → p < length w.seen)
-          → (length v.seen ≤ length (longer v.seen w.seen)) × (length w.seen ≤ length (longer v.seen w.seen)) → p < length (longer v.seen w.seen)
+          → (length v.seen ≤ length (longer v.seen w.seen)) × (length w.seen ≤ length (longer v.seen w.seen))
+          → p < length (longer v.seen w.seen)
       joined_own p e mine theirs longs = go (times p v.made) refl
         where
           go : (m : ℕ) → times p v.made ≡ m → p < length (longer v.seen w.seen)
           go (suc m) q = let k : p < length v.seen = mine (omega arith) in let l = longs.0 in omega arith
-          go zero q = let t = times-append p v.made w.made in let k : p < length w.seen = theirs (omega arith) in let l = longs.1 in omega arith
+          go zero q = let t = times-append p v.made w.made in let k : p < length w.seen = theirs (omega arith) in let l = longs.1 in
+              omega arith
 
   -- the steps, at what a seat is known to be
   abbrev Token : Type 0

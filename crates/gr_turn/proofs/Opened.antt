@@ -23,13 +23,17 @@ append_none (x ∷ xs) ys e = absurd (cons_none x (xs ++ ys) e)
 
 module _ {E B : Type 0} where
   -- what is known of a view after one seat's view became w
-  pub each_set : {list' : List E} {base : B} {seats opening dealt' : ℕ} {out' : Bool} {holder' root : ℕ} (views : List (View E B)) (id : ℕ) (w : View E B)
-      → ((by : ℕ) (v : View E B) → by ≢ id → get_elem? views by ≡ some v → v.opened ≡ true → Fits list' base seats opening dealt' out' holder' root by v)
+  pub each_set : {list' : List E} {base : B} {seats opening dealt' : ℕ} {out' : Bool} {holder' root : ℕ} (views : List (View E B))
+      (id : ℕ) (w : View E B)
+      → ((by : ℕ) (v : View E B) → by ≢ id → get_elem? views by ≡ some v → v.opened ≡ true
+      → Fits list' base seats opening dealt' out' holder' root by v)
       → (w.opened ≡ true → Fits list' base seats opening dealt' out' holder' root id w)
-      → (by : ℕ) (v : View E B) → get_elem? (set views id w) by ≡ some v → v.opened ≡ true → Fits list' base seats opening dealt' out' holder' root by v
+      → (by : ℕ) (v : View E B) → get_elem? (set views id w) by ≡ some v → v.opened ≡ true
+      → Fits list' base seats opening dealt' out' holder' root by v
   each_set {list'} {base} {seats} {opening} {dealt'} {out'} {holder'} {root} views id w others mine by v e =
       ⊎_elim
-      (λ (x : (by ≡ id) × (w ≡ v)). subst (λ (y : ℕ × View E B). y.1.opened ≡ true → Fits list' base seats opening dealt' out' holder' root y.0 y.1) (λ i. (sym x.0 i, x.1 i)) mine)
+      (λ (x : (by ≡ id) × (w ≡ v)). subst (λ (y : ℕ × View E B). y.1.opened ≡ true
+      → Fits list' base seats opening dealt' out' holder' root y.0 y.1) (λ i. (sym x.0 i, x.1 i)) mine)
       (λ (x : (by ≢ id) × (get_elem? views by ≡ some v)). others by v x.0 x.1)
       (at_set views id by w v e)
 
@@ -37,7 +41,8 @@ module _ {E B : Type 0} where
       → ((by : ℕ) (v : View E B) → get_elem? views by ≡ some v → IsSound v) → IsSound w
       → (by : ℕ) (v : View E B) → get_elem? (set views id w) by ≡ some v → IsSound v
   sound_set views id w others mine by v e =
-      ⊎_elim (λ (x : (by ≡ id) × (w ≡ v)). subst (λ (y : View E B). IsSound y) x.1 mine) (λ (x : (by ≢ id) × (get_elem? views by ≡ some v)). others by v x.1) (at_set views id by w v e)
+      ⊎_elim (λ (x : (by ≡ id) × (w ≡ v)). subst (λ (y : View E B). IsSound y) x.1 mine) (λ (x : (by ≢ id)
+      × (get_elem? views by ≡ some v)). others by v x.1) (at_set views id by w v e)
 
   pub mine_sound : (v w : View E B) → v.opened ≡ true → v.parts ≢ [] → w.opened ≡ v.opened → w.parts ≡ v.parts → IsSound w
   mine_sound v w op numbered e f = ((λ none. absurd (numbered (sym f ∙ none))), (λ shut. absurd (true≢false (sym (e ∙ op) ∙ shut))))
@@ -52,7 +57,17 @@ module _ {E B : Type 0} where
       → ((l : List E) → v.turn ≡ Some l → (out' ≡ true) × (by ≡ holder') × (l ≡ list'))
       → ((n : ℕ) → v.next ≡ Some n → (by ≡ root) × (n ≡ dealt'))
       → Fits list' base seats opening dealt' out' holder' root by v
-  refit f saw held deals = record { based = f.based; counted = f.counted; began = f.began; saw = saw; near = f.near; long = f.long; held = held; deals = deals; own = f.own }
+  refit f saw held deals = record {
+    based = f.based;
+    counted = f.counted;
+    began = f.began;
+    saw = saw;
+    near = f.near;
+    long = f.long;
+    held = held;
+    deals = deals;
+    own = f.own;
+  }
 
 module _ {T E B : Type 0} (entries : T → List E) (base_of : T → B) where
   shut_view : (s : State (Option T) (View E B)) (shut : Shut entries base_of s) (id : ℕ) (v : View E B)
@@ -66,7 +81,8 @@ module _ {T E B : Type 0} (entries : T → List E) (base_of : T → B) where
   -- an opened view shows that the lock is open
   pub opened_by : (s : State (Option T) (View E B)) (id : ℕ) (v : View E B) → Holds entries base_of s
       → get_elem? s.views id ≡ some v → v.opened ≡ true → Opened entries base_of s
-  opened_by s id v law at op = ⊎_elim (λ (shut : Shut entries base_of s). absurd (true≢false (sym op ∙ shut_view s shut id v at))) (λ o. o) law
+  opened_by s id v law at op = ⊎_elim (λ (shut : Shut entries base_of s). absurd (true≢false (sym op ∙ shut_view s shut id v at)))
+      (λ o. o) law
 
   -- a step of a seat without a turn leaves the holder's turn
   pub keeps_taken : (s : State (Option T) (View E B)) (o : Opened entries base_of s) (id : ℕ) (v w : View E B)
@@ -74,5 +90,7 @@ module _ {T E B : Type 0} (entries : T → List E) (base_of : T → B) where
       → (u : View E B) × (get_elem? (set s.views id w) o.holder ≡ some u) × (u.turn ≡ Some o.list)
   keeps_taken s o id v w at none out =
       let t = o.taken out in
-      let apart : o.holder ≢ id = λ e. none_some o.list (sym none ∙ ap (λ (u : View E B). u.turn) (some-injective v t.0 (sym at ∙ subst (λ (i : ℕ). get_elem? s.views i ≡ some t.0) e t.1)) ∙ t.2) in
+      let apart : o.holder ≢ id = λ e. none_some o.list (sym none
+      ∙ ap (λ (u : View E B). u.turn) (some-injective v t.0 (sym at ∙ subst (λ (i : ℕ). get_elem? s.views i ≡ some t.0) e t.1))
+      ∙ t.2) in
       (t.0, set_else s.views id o.holder w apart ∙ t.1, t.2)

@@ -47,7 +47,10 @@ module _ {T E B : Type 0} (entries : T → List E) (base_of : T → B) where
 
   -- the first value goes home
   pub opens : (id seats : ℕ) (x : T) (new : ℕ) → new ≡ length (entries x) * 2
-      → Allows (Holds entries base_of) 1 id (claimed (fresh seats), (0, Some x) ∷ []) 0 (λ _. new) (Opens entries base_of (claimed (fresh seats), (0, Some x) ∷ []))
+      → Allows (Holds entries base_of) 1 id (
+        claimed (fresh seats),
+        (0, Some x) ∷ [],
+      ) 0 (λ _. new) (Opens entries base_of (claimed (fresh seats), (0, Some x) ∷ []))
   opens id seats x new is s law slots at fits =
       ⊎_elim
       (λ (u : Shut entries base_of s).
@@ -56,7 +59,8 @@ module _ {T E B : Type 0} (entries : T → List E) (base_of : T → B) where
       let list = entries x in
       let w : View E B = root_view (base_of x) seats list 0 in
       let alone : set s.views id w ≡ w ∷ [] = shut_set s u id w h.0 in
-      let there = λ (by : ℕ) (y : View E B) (e : get_elem? (set s.views id w) by ≡ some y). one_view w by y (subst (λ (l : List (View E B)). get_elem? l by ≡ some y) alone e) in (
+      let there = λ (by : ℕ) (y : View E B) (e : get_elem? (set s.views id w) by ≡ some y). one_view w by y
+      (subst (λ (l : List (View E B)). get_elem? l by ≡ some y) alone e) in (
         w,
         gives,
         tt,
@@ -75,19 +79,27 @@ module _ {T E B : Type 0} (entries : T → List E) (base_of : T → B) where
           taken = λ e. absurd (true≢false (sym e));
           started = omega arith;
           few = omega arith;
-          sound = λ by y e. subst (λ (z : View E B). IsSound z) (there by y e).1 ((λ _. (refl, refl)), (λ shut. absurd (true≢false shut)));
-          each = λ by y e _. subst (λ (z : ℕ × View E B). Fits list (base_of x) seats (length list) 0 false 0 0 z.0 z.1) (λ i. (sym (there by y e).0 i, (there by y e).1 i)) (record {
-            based = refl;
-            counted = refl;
-            began = refl;
-            saw = starts_self list;
-            near = (list, refl);
-            long = omega arith;
-            held = λ l e. absurd (none_some l e);
-            deals = λ n e. (refl, sym (some_same 0 n e));
-            own = λ p (e : 0 < 0). absurd (omega arith);
-          });
-          places = λ p. ap (total (λ (y : View E B). times p y.made)) alone ∙ sym (ap (λ (k : ℕ). times p (count_from (length list) k)) (let k : length list - length list ≡ 0 = omega arith in k));
+          sound = λ by y e. subst (λ (z : View E B). IsSound z) (there by y e).1 (
+            (λ _. (refl, refl)),
+            (λ shut. absurd (true≢false shut)),
+          );
+          each = λ by y e _. subst (λ (z : ℕ
+              × View E B). Fits list (base_of x) seats (length list) 0 false 0 0 z.0 z.1) (λ i. (
+                sym (there by y e).0 i,
+                (there by y e).1 i,
+              )) (record {
+                based = refl;
+                counted = refl;
+                began = refl;
+                saw = starts_self list;
+                near = (list, refl);
+                long = omega arith;
+                held = λ l e. absurd (none_some l e);
+                deals = λ n e. (refl, sym (some_same 0 n e));
+                own = λ p (e : 0 < 0). absurd (omega arith);
+              });
+          places = λ p. ap (total (λ (y : View E B). times p y.made)) alone
+              ∙ sym (ap (λ (k : ℕ). times p (count_from (length list) k)) (let k : length list - length list ≡ 0 = omega arith in k));
           numbers = λ p. ap (total (λ (y : View E B). times p y.parts)) alone;
         }),
         λ y e. (ap (λ (z : T). root_view (base_of z) seats (entries z) 0) (slot_same entries base_of x y e), refl),
@@ -119,20 +131,46 @@ module _ {T E B : Type 0} (entries : T → List E) (base_of : T → B) where
         word = o.word;
         slot = o.slot;
         home = o.home;
-        taken = λ out. let t = keeps_taken entries base_of s o id v left at none out in (t.0, at_longer (set s.views id left) (right ∷ []) o.holder t.0 t.1, t.2);
+        taken = λ out. let t = keeps_taken entries base_of s o id v left at none out in
+            (t.0, at_longer (set s.views id left) (right ∷ []) o.holder t.0 t.1, t.2);
         started = o.started;
         few = let a = d.1 in let b = f.counted in omega arith;
         sound = λ by u e. ⊎_elim
             (λ was. sound_set s.views id left o.sound ((λ _. (clean, none)), (λ shut. absurd (true≢false (sym op ∙ shut)))) by u was)
-            (λ (same : right ≡ u). subst (λ (z : View E B). IsSound z) same ((λ e'. absurd (cons_none _ [] e')), (λ shut. absurd (true≢false (sym op ∙ shut)))))
+            (λ (same : right ≡ u). subst (λ (z : View E B). IsSound z) same (
+              (λ e'. absurd (cons_none _ [] e')),
+              (λ shut. absurd (true≢false (sym op ∙ shut))),
+            ))
             (at_snoc (set s.views id left) right u by e);
         each = λ by u e op'. ⊎_elim
             (λ was. each_set s.views id left
-            (λ j y apart at' op''. let g = o.each j y at' op'' in refit g g.saw g.held (λ n e'. absurd (apart ((g.deals n e').0 ∙ sym d.0))))
-            (λ _. record { based = f.based; counted = f.counted; began = f.began; saw = f.saw; near = f.near; long = f.long; held = λ l e'. absurd (none_some l (sym none ∙ e')); deals = λ n e'. (d.0, sym (some_same _ n e') ∙ ap suc (is ∙ d.1)); own = f.own })
+            (λ j y apart at' op''. let g = o.each j y at' op'' in
+            refit g g.saw g.held (λ n e'. absurd (apart ((g.deals n e').0 ∙ sym d.0))))
+            (λ _. record {
+              based = f.based;
+              counted = f.counted;
+              began = f.began;
+              saw = f.saw;
+              near = f.near;
+              long = f.long;
+              held = λ l e'. absurd (none_some l (sym none ∙ e'));
+              deals = λ n e'. (d.0, sym (some_same _ n e') ∙ ap suc (is ∙ d.1));
+              own = f.own;
+            })
             by u was op')
-            (λ (same : right ≡ u). subst (λ (z : View E B). Fits o.list o.base o.seats o.opening (suc o.dealt) o.out o.holder o.root by z) same
-            (record { based = f.based; counted = f.counted; began = f.began; saw = f.saw; near = f.near; long = f.long; held = λ l e'. absurd (none_some l (sym none ∙ e')); deals = λ n e'. absurd (none_some n e'); own = f.own }))
+            (λ (same : right ≡ u). subst
+            (λ (z : View E B). Fits o.list o.base o.seats o.opening (suc o.dealt) o.out o.holder o.root by z) same
+            (record {
+              based = f.based;
+              counted = f.counted;
+              began = f.began;
+              saw = f.saw;
+              near = f.near;
+              long = f.long;
+              held = λ l e'. absurd (none_some l (sym none ∙ e'));
+              deals = λ n e'. absurd (none_some n e');
+              own = f.own;
+            }))
             (at_snoc (set s.views id left) right u by e);
         places = λ p.
             let a = total_snoc (λ (u : View E B). times p u.made) (set s.views id left) right in
@@ -147,7 +185,8 @@ module _ {T E B : Type 0} (entries : T → List E) (base_of : T → B) where
             let e : suc o.dealt ≡ o.dealt + 1 = omega arith in
             let z : 0 + o.dealt ≡ dealt_of v.next = omega arith ∙ sym d.1 ∙ sym is in
             let r : times p (count_from 0 (suc o.dealt)) ≡ times p (count_from 0 o.dealt) + times p (dealt_of v.next ∷ []) =
-            ap (λ (n : ℕ). times p (count_from 0 n)) e ∙ ap (times p) (count_split 0 o.dealt 1) ∙ times-append p _ _ ∙ ap (λ (n : ℕ). times p (count_from 0 o.dealt) + times p (n ∷ [])) z in
+            ap (λ (n : ℕ). times p (count_from 0 n)) e ∙ ap (times p) (count_split 0 o.dealt 1) ∙ times-append p _ _
+            ∙ ap (λ (n : ℕ). times p (count_from 0 o.dealt) + times p (n ∷ [])) z in
             omega arith;
       })
 
@@ -157,11 +196,13 @@ module _ {T E B : Type 0} (entries : T → List E) (base_of : T → B) where
 
   pub claims_as : (id seats : ℕ) (m : Token) → m ≡ (fresh seats, [])
       → Allows (Holds entries base_of) 1 id m 0 (λ n. n) (Claimed entries base_of m)
-  claims_as id seats m e = subst (λ (n : Token). Allows (Holds entries base_of) 1 id n 0 (λ k. k) (Claimed entries base_of n)) (sym e) (claims id seats)
+  claims_as id seats m e = subst (λ (n : Token). Allows (Holds entries base_of) 1 id n 0 (λ k. k) (Claimed entries base_of n))
+      (sym e) (claims id seats)
 
   pub opens_as : (id seats : ℕ) (x : T) (new : ℕ) (m : Token) → m ≡ (claimed (fresh seats), (0, Some x) ∷ [])
       → new ≡ length (entries x) * 2 → Allows (Holds entries base_of) 1 id m 0 (λ _. new) (Opens entries base_of m)
-  opens_as id seats x new m e is = subst (λ (n : Token). Allows (Holds entries base_of) 1 id n 0 (λ _. new) (Opens entries base_of n)) (sym e) (opens id seats x new is)
+  opens_as id seats x new m e is = subst
+      (λ (n : Token). Allows (Holds entries base_of) 1 id n 0 (λ _. new) (Opens entries base_of n)) (sym e) (opens id seats x new is)
 
   next_is : (o : Option ℕ) → is_out o ≡ true → o ≡ Some (dealt_of o)
   next_is (Some k) e = refl

@@ -55,13 +55,19 @@ module _ {T E B : Type 0} (entries : T → List E) (base_of : T → B) where
           root = o.root;
           word = ap (λ (ws : List ℕ). set ws 0 new) o.word ∙ ap (λ (n : ℕ). n ∷ []) (is ∙ omega arith);
           slot = length-set s.homes 0 _ ∙ o.slot;
-          home = λ _. (x, set_here s.homes 0 (some (Some x)) (let k = o.slot in omega arith), refl, some_same (base_of x) o.base (sym based ∙ f.based));
+          home = λ _. (
+            x,
+            set_here s.homes 0 (some (Some x)) (let k = o.slot in omega arith),
+            refl,
+            some_same (base_of x) o.base (sym based ∙ f.based),
+          );
           taken = λ e. absurd (true≢false (sym e));
           started = let k = o.started in omega arith;
           few = o.few;
           sound = sound_set s.views id w o.sound (mine_sound v w op numbered refl refl);
           each = each_set s.views id w
-              (λ by u apart at' op'. let g = o.each by u at' op' in refit g (starts_trans now o.list u.seen grown g.saw) (λ l' e. absurd (apart ((g.held l' e).1 ∙ sym h.1))) g.deals)
+              (λ by u apart at' op'. let g = o.each by u at' op' in
+              refit g (starts_trans now o.list u.seen grown g.saw) (λ l' e. absurd (apart ((g.held l' e).1 ∙ sym h.1))) g.deals)
               (λ _. record {
                 based = f.based;
                 counted = f.counted;
@@ -71,7 +77,8 @@ module _ {T E B : Type 0} (entries : T → List E) (base_of : T → B) where
                 long = let k = o.started in omega arith;
                 held = λ l' e. absurd (none_some l' e);
                 deals = f.deals;
-                own = λ p e. below_both p (length now) (length l) (length now - length l) v.made (λ i. let k = f.own p i in omega arith) (omega arith) e;
+                own = λ p e. below_both p (length now) (length l) (length now - length l) v.made (λ i. let k = f.own p i in
+                    omega arith) (omega arith) e;
               });
           places = λ p.
               let t = total_set (λ (u : View E B). times p u.made) s.views id v w at in

@@ -45,7 +45,8 @@ module _ {T E B : Type 0} (entries : T → List E) (base_of : T → B) where
     pub started : opening ≤ length list
     pub few : dealt ≤ seats
     pub sound : (by : ℕ) (v : View E B) → get_elem? s.views by ≡ some v → IsSound v
-    pub each : (by : ℕ) (v : View E B) → get_elem? s.views by ≡ some v → v.opened ≡ true → Fits list base seats opening dealt out holder root by v
+    pub each : (by : ℕ) (v : View E B) → get_elem? s.views by ≡ some v → v.opened ≡ true
+        → Fits list base seats opening dealt out holder root by v
     pub places : (p : ℕ) → total (λ (v : View E B). times p v.made) s.views ≡ times p (count_from opening (length list - opening))
     pub numbers : (p : ℕ) → total (λ (v : View E B). times p v.parts) s.views ≡ times p (count_from 0 dealt)
 

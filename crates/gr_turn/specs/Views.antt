@@ -74,7 +74,8 @@ module _ {E B : Type 0} where
 
   -- the view of the root, which has dealt the numbers below k
   abbrev pub root_view : B → ℕ → List E → ℕ → View E B
-  root_view base seats list k = record (unopened seats) { opened = true; base = Some base; opening = length list; seen = list; next = Some k }
+  root_view base seats list k = record
+      (unopened seats) { opened = true; base = Some base; opening = length list; seen = list; next = Some k }
 
   -- the view of the seat k, as `new` gives it
   abbrev pub seat_view : B → ℕ → List E → ℕ → View E B

@@ -10,16 +10,26 @@ join_seat-requires g c =
     let t = c.into_token-token in
     let i = c.into.invariant in
     let j = t.ensures.idle in
-    let m = c.into.inside.token in
-    (ap (λ (h : H). h.lock) c.into.view_is ∙ c.requires.lock.0 ∙ sym c.self.view_is, t.ensures.same.0 ∙ c.requires.lock.1 ∙ sym c.self.view_is, j.0, search rules, joins g.T.Kept.entries g.T.Kept.base m.id m.me.0 t.result.id t.result.me.0 i.1 i.2 i.3 i.4 j.1 j.2)
+    let m = c.into.inside.token in (
+      ap (λ (h : H). h.lock) c.into.view_is ∙ c.requires.lock.0 ∙ sym c.self.view_is,
+      t.ensures.same.0 ∙ c.requires.lock.1
+          ∙ sym c.self.view_is,
+      j.0,
+      search rules,
+      joins g.T.Kept.entries g.T.Kept.base m.id m.me.0 t.result.id t.result.me.0 i.1 i.2 i.3 i.4 j.1 j.2,
+    )
 
 pub load-requires : goal.load-requires
 load-requires g c =
     let H : Type 0 = Seated g.row.T-Entry.Denot g.row.T-Base.Denot in
     let e = c.join_seat.ensures in
     let m = c.into.inside.token in
-    let i = joined_idle g.T.Kept.entries g.T.Kept.base m.me c.into_token-token.result.me c.join_seat.new.seat.me c.into.invariant e.2 in
-    (e.0 ∙ ap (λ (h : H). h.lock) c.into.view_is ∙ c.requires.lock.0 ∙ sym c.self.view_is, search rules, rw c.self.invariant.1 (looks_as g.T.Kept.entries g.T.Kept.base c.join_seat.new.seat.id c.join_seat.new.seat.me i.0 i.1))
+    let i = joined_idle g.T.Kept.entries g.T.Kept.base m.me c.into_token-token.result.me c.join_seat.new.seat.me c.into.invariant e.2 in (
+      e.0 ∙ ap (λ (h : H). h.lock) c.into.view_is ∙ c.requires.lock.0
+          ∙ sym c.self.view_is,
+      search rules,
+      rw c.self.invariant.1 (looks_as g.T.Kept.entries g.T.Kept.base c.join_seat.new.seat.id c.join_seat.new.seat.me i.0 i.1),
+    )
 
 pub invariant_of-into : goal.invariant_of-into
 invariant_of-into g c =

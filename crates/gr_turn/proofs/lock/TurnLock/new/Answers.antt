@@ -17,9 +17,14 @@ loop-k-preserved g c =
     let next : suc k ≡ k + 1 = omega arith in
     let was = ap (λ (m : Me (Option g.row.T.Denot) V). m.0) i.1 in (
       d.lock.0 ∙ i.0,
-      d.root ∙ ap (λ (v : V). let m : Me (Option g.row.T.Denot) V = (deal_left v, []) in m) was ∙ ap (λ (n : ℕ). let m : Me (Option g.row.T.Denot) V = (root_view b c.args.seats l n, []) in m) next,
+      d.root ∙ ap (λ (v : V). let m : Me (Option g.row.T.Denot) V = (deal_left v, []) in m) was
+          ∙ ap (λ (n : ℕ). let m : Me (Option g.row.T.Denot) V = (root_view b c.args.seats l n, []) in m) next,
       ap length p.items ∙ (let e = length-append c.loop-k.items.items (c.deal.result ∷ []) in let f = i.2 in omega arith),
       rw p.capacity i.3,
-      λ j seat at. each_snoc (λ j' (s : _). (s.lock ≡ c.in-Ok-vacant.table.shared.table_id) × (s.view ≡ seat_view b c.args.seats l j')) c.loop-k.items.items c.deal.result i.4
-          (d.lock.1 ∙ i.0, d.seat ∙ ap deal_right was ∙ ap (seat_view b c.args.seats l) (sym i.2)) j seat (subst (λ (xs : List _). slice_get xs j ≡ Some seat) p.items at),
+      λ j seat at. each_snoc (λ j' (s : _). (s.lock ≡ c.in-Ok-vacant.table.shared.table_id)
+          × (s.view ≡ seat_view b c.args.seats l j')) c.loop-k.items.items c.deal.result i.4 (
+            d.lock.1 ∙ i.0,
+            d.seat ∙ ap deal_right was
+                ∙ ap (seat_view b c.args.seats l) (sym i.2),
+          ) j seat (subst (λ (xs : List _). slice_get xs j ≡ Some seat) p.items at),
     )

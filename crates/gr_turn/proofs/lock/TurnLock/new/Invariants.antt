@@ -9,4 +9,5 @@ invariant-loop-k g l =
     × (l.root.me ≡ (root_view (g.T.Kept.base l.fn.value) l.fn.seats (g.T.Kept.entries l.fn.value) l._k, []))
     × (length l.items.items ≡ l._k)
     × (l.fn.seats ≤ vec_capacity l.items)
-    × ((k : ℕ) (seat : _) → slice_get l.items.items k ≡ Some seat → (seat.lock ≡ l.lock) × (seat.view ≡ seat_view (g.T.Kept.base l.fn.value) l.fn.seats (g.T.Kept.entries l.fn.value) k))
+    × ((k : ℕ) (seat : _) → slice_get l.items.items k ≡ Some seat → (seat.lock ≡ l.lock)
+    × (seat.view ≡ seat_view (g.T.Kept.base l.fn.value) l.fn.seats (g.T.Kept.entries l.fn.value) k))
