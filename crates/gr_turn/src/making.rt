@@ -1,4 +1,4 @@
-ghost use Rattle.std.specs.Prelude.{◌≡◌, ◌<◌, ◌≤◌, ℕ, [], ◌∷◌, ◌++◌, length, slice_get, Some, IfOk, IfErr, IfNone, IsOk};
+ghost use Rattle.std.specs.Prelude.{◌≡◌, ◌<◌, ◌≤◌, ℕ, [], ◌∷◌, ◌++◌, length, slice_get, Some, IfOk, IfErr, IfNone, IsOk, option_copied};
 ghost use Rattle.std.specs.Option.{option_to_list};
 ghost use Rattle.gr_turn.specs.Views.{StartsWith, HasAll, MadeAll, IsRoot, fresh, root_view, seat_view, deal_left, deal_right};
 
@@ -11,7 +11,7 @@ use gr_value::Memory;
 use std::alloc::Global;
 use std::marker::Model;
 
-/// A list of seats, which contracts see as that list. A seat has no bytes, so none is lent: `pop` hands them out.
+/// A list of seats, which contracts see as that list.
 #[derive(Drop)]
 pub struct SeatList<T: Kept> {
     seats: Vec<Seat<T>>,
@@ -49,6 +49,13 @@ impl<T: Kept> SeatList<T> {
         ensures { result ≡ length self.now }
     {
         self.seats.len()
+    }
+
+    /// The seat at a place, counted from 0.
+    pub fn get(&self, place: usize) -> Option<&Seat<T>>
+        ensures { option_copied result ≡ slice_get self.now place }
+    {
+        self.seats.get(place)
     }
 
     /// Takes the last seat out.

@@ -63,10 +63,8 @@ fn a_turn_is_out_once(rt: HostRuntime) -> Result<(), Fail> {
         Ok(made) => made,
         Err(_) => panic!(rt; "no memory"),
     };
-    let Some(second) = seats.pop() else {
-        panic!(rt; "no seat")
-    };
-    let Some(first) = seats.pop() else {
+    let shown = (seats.len(), seats.get(1).is_some(), seats.get(2).is_some());
+    let (Some(second), Some(first)) = (seats.pop(), seats.pop()) else {
         panic!(rt; "no seat")
     };
     let mut turn = lock.enter(&rt, first);
@@ -78,6 +76,7 @@ fn a_turn_is_out_once(rt: HostRuntime) -> Result<(), Fail> {
     let Some(notes) = lock.end() else {
         panic!(rt; "a turn is out")
     };
+    assert_eq!(rt; shown, (2, true, false));
     assert_eq!(rt; (added, busy, even), (true, 1, 2));
     assert_eq!(rt; (notes.name, notes.items.len()), (7, 1));
     Ok(())
