@@ -8,7 +8,7 @@ use Rattle.gr_turn.specs.declared.view.View.{View}
 use Rattle.gr_turn.specs.Views.{StartsWith, IsIdle, times, bit, won_by, lost_by}
 use Rattle.gr_turn.specs.Rule.{Opened, Holds, Grabbed}
 use Rattle.gr_turn.proofs.Counts.{total_same, even_or, odd_or}
-use Rattle.gr_turn.proofs.Opened.{some_same, each_set, sound_set, mine_sound, set_at, refit, opened_by, keeps_taken}
+use Rattle.gr_turn.proofs.Opened.{refit_near, some_same, each_set, sound_set, mine_sound, set_at, refit, opened_by, keeps_taken}
 
 module _ {T E B : Type 0} (entries : T → List E) (base_of : T → B) where
   abbrev CanGrab : ℕ → View E B → State (Option T) (View E B) → Type 0
@@ -48,17 +48,7 @@ module _ {T E B : Type 0} (entries : T → List E) (base_of : T → B) where
           each = each_set s.views id w
               (λ by u apart at' op'. let g = o.each by u at' op' in
               refit g g.saw (λ l e. absurd (true≢false (sym (g.held l e).0 ∙ free))) g.deals)
-              (λ _. record {
-                based = f.based;
-                counted = f.counted;
-                began = f.began;
-                saw = f.saw;
-                near = f.near;
-                long = f.long;
-                held = λ l e. (refl, refl, sym (some_same o.list l e));
-                deals = f.deals;
-                own = f.own;
-              });
+              (λ _. refit_near f (refl, refl, refl, refl, refl, refl) f.saw (λ l e. (refl, refl, sym (some_same o.list l e))) f.deals);
           places = λ p. total_same (λ (u : View E B). times p u.made) s.views id v w at refl ∙ o.places p;
           numbers = λ p. total_same (λ (u : View E B). times p u.parts) s.views id v w at refl ∙ o.numbers p;
         }),
@@ -107,17 +97,7 @@ module _ {T E B : Type 0} (entries : T → List E) (base_of : T → B) where
           sound = sound_set s.views id w o.sound (mine_sound v w op numbered refl refl);
           each = each_set s.views id w
               (λ by u apart at' op'. let g = o.each by u at' op' in refit g g.saw (λ l e. (refl, (g.held l e).1, (g.held l e).2)) g.deals)
-              (λ _. record {
-                based = f.based;
-                counted = f.counted;
-                began = f.began;
-                saw = f.saw;
-                near = f.near;
-                long = f.long;
-                held = λ l e. (refl, (f.held l e).1, (f.held l e).2);
-                deals = f.deals;
-                own = f.own;
-              });
+              (λ _. refit_near f (refl, refl, refl, refl, refl, refl) f.saw (λ l e. (refl, (f.held l e).1, (f.held l e).2)) f.deals);
           places = λ p. total_same (λ (u : View E B). times p u.made) s.views id v w at refl ∙ o.places p;
           numbers = λ p. total_same (λ (u : View E B). times p u.parts) s.views id v w at refl ∙ o.numbers p;
         }),

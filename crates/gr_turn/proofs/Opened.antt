@@ -1,11 +1,11 @@
 -- What is known of the views of an open lock, and of one view that changes.
-use Rattle.std.proofs.Common.{◌≡◌, ◌≢◌, ℕ, zero, suc, Bool, true, false, true≢false, List, [], ◌∷◌, ◌++◌, set, Option, Some, None, refl, sym, ap, ◌∙◌, subst, ⊎_elim}
+use Rattle.std.proofs.Common.{◌<◌, ◌≤◌, length, ◌≡◌, ◌≢◌, ℕ, zero, suc, Bool, true, false, true≢false, List, [], ◌∷◌, ◌++◌, set, Option, Some, None, refl, sym, ap, ◌∙◌, subst, ⊎_elim}
 use mathlib.Core.Option.{some, some-injective, some-ne-none}
 use lib.ListN.{get_elem?}
 use Rattle.atomic_table.specs.Table.{State}
 use Rattle.atomic_table.proofs.Lists.{at_set, set_else}
 use Rattle.gr_turn.specs.declared.view.View.{View}
-use Rattle.gr_turn.specs.Views.{StartsWith}
+use Rattle.gr_turn.specs.Views.{times, StartsWith}
 use Rattle.gr_turn.specs.Rule.{Fits, IsSound, Opened, Shut, Holds}
 
 pub none_some : {X : Type 0} (x : X) → None ≡ Some x → ⊥
@@ -52,22 +52,40 @@ module _ {E B : Type 0} where
   set_at (x ∷ xs) zero v w e = refl
   set_at (x ∷ xs) (suc i) v w e = set_at xs i v w e
 
+  -- the two views differ in turn, next, numbers and grabs alone
+  abbrev pub IsNear : View E B → View E B → Type 0
+  IsNear v w =
+      (w.base ≡ v.base)
+      × (w.seats ≡ v.seats)
+      × (w.opening ≡ v.opening)
+      × (w.seen ≡ v.seen)
+      × (w.met ≡ v.met)
+      × (w.made ≡ v.made)
+
+  pub refit_near : {list list' : List E} {base : B} {seats opening dealt dealt' : ℕ} {out out' : Bool} {holder holder' root by by' : ℕ}
+      {v w : View E B}
+      → Fits list base seats opening dealt out holder root by v → IsNear v w → StartsWith list' v.seen
+      → ((l : List E) → w.turn ≡ Some l → (out' ≡ true) × (by' ≡ holder') × (l ≡ list'))
+      → ((n : ℕ) → w.next ≡ Some n → (by' ≡ root) × (n ≡ dealt'))
+      → Fits list' base seats opening dealt' out' holder' root by' w
+  refit_near {list' = list'} {opening = opening} f same saw held deals = record {
+    based = same.0 ∙ f.based;
+    counted = same.1 ∙ f.counted;
+    began = same.2 ∙ f.began;
+    saw = subst (λ (l : List E). StartsWith list' l) (sym same.3) saw;
+    near = subst (λ (x : List E × List E). StartsWith x.0 x.1) (λ i. (sym same.3 i, sym same.4 i)) f.near;
+    long = subst (λ (l : List E). opening ≤ length l) (sym same.3) f.long;
+    held = held;
+    deals = deals;
+    own = subst (λ (x : List E × List ℕ). (p : ℕ) → 0 < times p x.1 → p < length x.0) (λ i. (sym same.3 i, sym same.5 i)) f.own;
+  }
+
   pub refit : {list list' : List E} {base : B} {seats opening dealt dealt' : ℕ} {out out' : Bool} {holder holder' root by : ℕ} {v : View E B}
       → Fits list base seats opening dealt out holder root by v → StartsWith list' v.seen
       → ((l : List E) → v.turn ≡ Some l → (out' ≡ true) × (by ≡ holder') × (l ≡ list'))
       → ((n : ℕ) → v.next ≡ Some n → (by ≡ root) × (n ≡ dealt'))
       → Fits list' base seats opening dealt' out' holder' root by v
-  refit f saw held deals = record {
-    based = f.based;
-    counted = f.counted;
-    began = f.began;
-    saw = saw;
-    near = f.near;
-    long = f.long;
-    held = held;
-    deals = deals;
-    own = f.own;
-  }
+  refit f saw held deals = refit_near f (refl, refl, refl, refl, refl, refl) saw held deals
 
 module _ {T E B : Type 0} (entries : T → List E) (base_of : T → B) where
   shut_view : (s : State (Option T) (View E B)) (shut : Shut entries base_of s) (id : ℕ) (v : View E B)

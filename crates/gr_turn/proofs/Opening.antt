@@ -8,7 +8,7 @@ use Rattle.gr_turn.specs.declared.view.View.{View}
 use Rattle.gr_turn.specs.Views.{IsRoot, times, total, count_from, is_out, fresh, claimed, root_view, deal_left, deal_right, dealt_of}
 use Rattle.gr_turn.specs.Rule.{Fits, IsSound, Opened, Shut, Holds, Claimed, Opens}
 use Rattle.gr_turn.proofs.Counts.{total_same, times-append, count_split, starts_self, total_snoc}
-use Rattle.gr_turn.proofs.Opened.{none_some, some_same, cons_none, each_set, sound_set, refit, opened_by, keeps_taken}
+use Rattle.gr_turn.proofs.Opened.{refit_near, none_some, some_same, cons_none, each_set, sound_set, refit, opened_by, keeps_taken}
 use Rattle.gr_turn.proofs.Releasing.{slot_same}
 
 module _ {T E B : Type 0} (entries : T → List E) (base_of : T → B) where
@@ -146,31 +146,11 @@ module _ {T E B : Type 0} (entries : T → List E) (base_of : T → B) where
             (λ was. each_set s.views id left
             (λ j y apart at' op''. let g = o.each j y at' op'' in
             refit g g.saw g.held (λ n e'. absurd (apart ((g.deals n e').0 ∙ sym d.0))))
-            (λ _. record {
-              based = f.based;
-              counted = f.counted;
-              began = f.began;
-              saw = f.saw;
-              near = f.near;
-              long = f.long;
-              held = λ l e'. absurd (none_some l (sym none ∙ e'));
-              deals = λ n e'. (d.0, sym (some_same _ n e') ∙ ap suc (is ∙ d.1));
-              own = f.own;
-            })
+            (λ _. refit_near f (refl, refl, refl, refl, refl, refl) f.saw (λ l e'. absurd (none_some l (sym none ∙ e'))) (λ n e'. (d.0, sym (some_same _ n e') ∙ ap suc (is ∙ d.1))))
             by u was op')
             (λ (same : right ≡ u). subst
             (λ (z : View E B). Fits o.list o.base o.seats o.opening (suc o.dealt) o.out o.holder o.root by z) same
-            (record {
-              based = f.based;
-              counted = f.counted;
-              began = f.began;
-              saw = f.saw;
-              near = f.near;
-              long = f.long;
-              held = λ l e'. absurd (none_some l (sym none ∙ e'));
-              deals = λ n e'. absurd (none_some n e');
-              own = f.own;
-            }))
+            (refit_near f (refl, refl, refl, refl, refl, refl) f.saw (λ l e'. absurd (none_some l (sym none ∙ e'))) (λ n e'. absurd (none_some n e'))))
             (at_snoc (set s.views id left) right u by e);
         places = λ p.
             let a = total_snoc (λ (u : View E B). times p u.made) (set s.views id left) right in
