@@ -32,6 +32,13 @@ module _ {T E B : Type 0} (entries : T → List E) (base_of : T → B) where
           let has = all n (omega arith) in
           absurd (omega arith)
 
+  -- the word of the last state
+  last_word : (id : ℕ) (v : View E B) (ws : List ℕ) (xs : List (Option T)) (word : ℕ) (final : Final (Seen (Holds entries base_of) id v) ws xs)
+      → v.opened ≡ true → get_elem? ws 0 ≡ some word → (o : Opened entries base_of final.0) × (word ≡ length o.list * 2 + bit o.out)
+  last_word id v ws xs word final op at =
+      let o = opened_by entries base_of final.0 id v final.1.0 final.1.1 op in
+      (o, some-injective _ _ (sym at ∙ ap (λ (l : List ℕ). get_elem? l 0) (sym final.2 ∙ o.word)))
+
   -- where all numbers are with a seat that has no turn, no turn is out
   pub all_home : (id : ℕ) (v : View E B) (ws : List ℕ) (xs : List (Option T)) (word : ℕ)
       → Final (Seen (Holds entries base_of) id v) ws xs → v.opened ≡ true → v.turn ≡ None → HasAll v → get_elem? ws 0 ≡ some word
@@ -42,10 +49,10 @@ module _ {T E B : Type 0} (entries : T → List E) (base_of : T → B) where
       s = final.0
 
       o : Opened entries base_of s
-      o = opened_by entries base_of s id v final.1.0 final.1.1 op
+      o = (last_word id v ws xs word final op at).0
 
       found_word : word ≡ length o.list * 2 + bit o.out
-      found_word = some-injective _ _ (sym at ∙ ap (λ (l : List ℕ). get_elem? l 0) (sym final.2 ∙ o.word))
+      found_word = (last_word id v ws xs word final op at).1
 
       go : (b : Bool) → o.out ≡ b → ⊥
       go false e = let w : word ≡ length o.list * 2 + 0 = found_word ∙ ap (λ (b : Bool). length o.list * 2 + bit b) e in omega arith
@@ -121,10 +128,10 @@ module _ {T E B : Type 0} (entries : T → List E) (base_of : T → B) where
       s = final.0
 
       o : Opened entries base_of s
-      o = opened_by entries base_of s id v final.1.0 final.1.1 op
+      o = (last_word id v ws xs word final op at).0
 
       found_word : word ≡ length o.list * 2 + bit o.out
-      found_word = some-injective _ _ (sym at ∙ ap (λ (l : List ℕ). get_elem? l 0) (sym final.2 ∙ o.word))
+      found_word = (last_word id v ws xs word final op at).1
 
       go : (b : Bool) → o.out ≡ b → (v.base ≡ Some (base_of x)) × StartsWith (entries x) v.seen × MadeAll v (length (entries x))
       go true e = let w : word ≡ length o.list * 2 + 1 = found_word ∙ ap (λ (b : Bool). length o.list * 2 + bit b) e in
