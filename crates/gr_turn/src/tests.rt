@@ -1,9 +1,8 @@
-ghost use Rattle.std.specs.Prelude.{◌≡◌, ◌++◌, ◌∷◌, [], IfOk, IfErr, ℕ, slice_get, Some};
+ghost use Rattle.std.specs.Prelude.{◌≡◌, ◌++◌, ◌∷◌, [], IfOk, IfErr, IfSome, ℕ, slice_get, Some};
 ghost use Rattle.std.specs.Thread.{IsSync};
 
 use crate::{Busy, Kept, Seat, SeatList, TurnLock};
 use std::alloc::{AllocError, Global};
-use std::process::Abort;
 use std::sync::Wait;
 use std::test::Fail;
 use std::thread::{self, Threads};
@@ -41,17 +40,14 @@ impl Notes {
 }
 
 // A lock over no notes.
-fn with_two_seats<R: Abort>(rt: &R, alloc: Global) -> (TurnLock<Notes>, SeatList<Notes>)
-    ensures { (k : ℕ) (seat : _) → slice_get result.1 k ≡ Some seat → seat.lock ≡ result.0 }
+fn with_two_seats(alloc: Global) -> Option<(TurnLock<Notes>, SeatList<Notes>)>
+    ensures { IfSome result (λ made. (k : ℕ) (seat : _) → slice_get made.1 k ≡ Some seat → seat.lock ≡ made.0) }
 {
     let notes = Notes {
         name: 7,
         items: Vec::new(alloc),
     };
-    match TurnLock::new(alloc, notes, 2) {
-        Ok(made) => made,
-        Err(_) => panic!(rt; "no memory"),
-    }
+    TurnLock::new(alloc, notes, 2).ok()
 }
 
 // Twice the length that was found, or the odd word.
@@ -70,7 +66,9 @@ fn word_at(lock: &TurnLock<Notes>, seat: Seat<Notes>) -> (Seat<Notes>, u64)
 
 #[test]
 fn a_turn_is_out_once(rt: HostRuntime) -> Result<(), Fail> {
-    let (lock, mut seats) = with_two_seats(&rt, rt.alloc());
+    let Some((lock, mut seats)) = with_two_seats(rt.alloc()) else {
+        panic!(rt; "no memory")
+    };
     let shown = (seats.len(), seats.get(1).is_some(), seats.get(2).is_some());
     let (Some(second), Some(first)) = (seats.pop(), seats.pop()) else {
         panic!(rt; "no seat")
@@ -136,7 +134,9 @@ fn take_turns_in_two<R: Threads + Wait + Sync>(
 
 #[test]
 fn no_turn_is_lost(rt: HostRuntime) -> Result<(), Fail> {
-    let (lock, mut seats) = with_two_seats(&rt, rt.alloc());
+    let Some((lock, mut seats)) = with_two_seats(rt.alloc()) else {
+        panic!(rt; "no memory")
+    };
     let (Some(two), Some(one)) = (seats.pop(), seats.pop()) else {
         panic!(rt; "no seat")
     };
