@@ -1,5 +1,6 @@
 -- What all numbers together have made, and what is at home at the end.
-use Rattle.std.proofs.Common.{◌≡◌, ◌≢◌, ℕ, ◌+◌, ◌-◌, ◌*◌, ◌%◌, ◌<◌, Bool, true, false, List, [], ◌∷◌, length, set, get_or, Option, Some, None, refl, sym, ap, ◌∙◌, subst, arith, inr}
+use Rattle.std.proofs.Common.{◌≡◌, ◌≢◌, ℕ, ◌+◌, ◌-◌, ◌*◌, ◌%◌, ◌<◌, Bool, true, false, List, [], ◌∷◌, length, set, get_or, Option, Some}
+use Rattle.std.proofs.Common.{None, refl, sym, ap, ◌∙◌, subst, arith, inr}
 use mathlib.Core.Option.{some, some-injective}
 use lib.ListN.{get_elem?}
 use mathlib.Core.Logic.{dite}
@@ -33,7 +34,8 @@ module _ {T E B : Type 0} (entries : T → List E) (base_of : T → B) where
           absurd (omega arith)
 
   -- the word of the last state
-  last_word : (id : ℕ) (v : View E B) (ws : List ℕ) (xs : List (Option T)) (word : ℕ) (final : Final (Seen (Holds entries base_of) id v) ws xs)
+  last_word : (id : ℕ) (v : View E B) (ws : List ℕ) (xs : List (Option T)) (word : ℕ)
+      (final : Final (Seen (Holds entries base_of) id v) ws xs)
       → v.opened ≡ true → get_elem? ws 0 ≡ some word → (o : Opened entries base_of final.0) × (word ≡ length o.list * 2 + bit o.out)
   last_word id v ws xs word final op at =
       let o = opened_by entries base_of final.0 id v final.1.0 final.1.1 op in

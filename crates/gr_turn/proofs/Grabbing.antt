@@ -1,5 +1,6 @@
 -- A grab keeps the rule: it wins where the word is even, and changes nothing where it is odd.
-use Rattle.std.proofs.Common.{◌≡◌, ◌≢◌, ℕ, ◌+◌, ◌*◌, ◌%◌, Bool, true, false, true≢false, List, [], ◌∷◌, length, set, get_or, Option, Some, None, refl, sym, ap, ◌∙◌, subst, arith, length-set, inr}
+use Rattle.std.proofs.Common.{◌≡◌, ◌≢◌, ℕ, ◌+◌, ◌*◌, ◌%◌, Bool, true, false, true≢false, List, [], ◌∷◌, length, set, get_or, Option, Some}
+use Rattle.std.proofs.Common.{None, refl, sym, ap, ◌∙◌, subst, arith, length-set, inr}
 use Rattle.std.specs.Prelude.{bit_or}
 use mathlib.Core.Option.{some}
 use lib.ListN.{get_elem?}

@@ -1,5 +1,6 @@
 -- What is known of the views of an open lock, and of one view that changes.
-use Rattle.std.proofs.Common.{◌<◌, ◌≤◌, length, ◌≡◌, ◌≢◌, ℕ, zero, suc, Bool, true, false, true≢false, List, [], ◌∷◌, ◌++◌, set, Option, Some, None, refl, sym, ap, ◌∙◌, subst, ⊎_elim}
+use Rattle.std.proofs.Common.{◌<◌, ◌≤◌, length, ◌≡◌, ◌≢◌, ℕ, zero, suc, Bool, true, false, true≢false, List, [], ◌∷◌, ◌++◌, set, Option}
+use Rattle.std.proofs.Common.{Some, None, refl, sym, ap, ◌∙◌, subst, ⊎_elim}
 use mathlib.Core.Option.{some, some-injective, some-ne-none}
 use lib.ListN.{get_elem?}
 use Rattle.atomic_table.specs.Table.{State}
@@ -80,7 +81,8 @@ module _ {E B : Type 0} where
     own = subst (λ (x : List E × List ℕ). (p : ℕ) → 0 < times p x.1 → p < length x.0) (λ i. (sym same.3 i, sym same.5 i)) f.own;
   }
 
-  pub refit : {list list' : List E} {base : B} {seats opening dealt dealt' : ℕ} {out out' : Bool} {holder holder' root by : ℕ} {v : View E B}
+  pub refit : {list list' : List E} {base : B} {seats opening dealt dealt' : ℕ} {out out' : Bool} {holder holder' root by : ℕ}
+      {v : View E B}
       → Fits list base seats opening dealt out holder root by v → StartsWith list' v.seen
       → ((l : List E) → v.turn ≡ Some l → (out' ≡ true) × (by ≡ holder') × (l ≡ list'))
       → ((n : ℕ) → v.next ≡ Some n → (by ≡ root) × (n ≡ dealt'))

@@ -1,5 +1,6 @@
 -- The first seat opens the lock, and gives each seat its number.
-use Rattle.std.proofs.Common.{◌≡◌, ℕ, zero, suc, ◌+◌, ◌-◌, ◌*◌, ◌<◌, true, false, true≢false, List, [], ◌∷◌, length, set, get_or, Option, Some, None, refl, sym, ap, ◌∙◌, subst, arith, length-set, inl, inr, ⊎_elim}
+use Rattle.std.proofs.Common.{◌≡◌, ℕ, zero, suc, ◌+◌, ◌-◌, ◌*◌, ◌<◌, true, false, true≢false, List, [], ◌∷◌, length, set, get_or, Option}
+use Rattle.std.proofs.Common.{Some, None, refl, sym, ap, ◌∙◌, subst, arith, length-set, inl, inr, ⊎_elim}
 use mathlib.Core.Option.{some, some-injective, some-ne-none}
 use lib.ListN.{get_elem?}
 use Rattle.atomic_table.specs.Table.{State, Me, takes, gives, Allows, Splits}
@@ -146,11 +147,13 @@ module _ {T E B : Type 0} (entries : T → List E) (base_of : T → B) where
             (λ was. each_set s.views id left
             (λ j y apart at' op''. let g = o.each j y at' op'' in
             refit g g.saw g.held (λ n e'. absurd (apart ((g.deals n e').0 ∙ sym d.0))))
-            (λ _. refit_near f (refl, refl, refl, refl, refl, refl) f.saw (λ l e'. absurd (none_some l (sym none ∙ e'))) (λ n e'. (d.0, sym (some_same _ n e') ∙ ap suc (is ∙ d.1))))
+            (λ _. refit_near f (refl, refl, refl, refl, refl, refl) f.saw (λ l e'. absurd (none_some l (sym none ∙ e')))
+            (λ n e'. (d.0, sym (some_same _ n e') ∙ ap suc (is ∙ d.1))))
             by u was op')
             (λ (same : right ≡ u). subst
             (λ (z : View E B). Fits o.list o.base o.seats o.opening (suc o.dealt) o.out o.holder o.root by z) same
-            (refit_near f (refl, refl, refl, refl, refl, refl) f.saw (λ l e'. absurd (none_some l (sym none ∙ e'))) (λ n e'. absurd (none_some n e'))))
+            (refit_near f (refl, refl, refl, refl, refl, refl) f.saw (λ l e'. absurd (none_some l (sym none ∙ e')))
+            (λ n e'. absurd (none_some n e'))))
             (at_snoc (set s.views id left) right u by e);
         places = λ p.
             let a = total_snoc (λ (u : View E B). times p u.made) (set s.views id left) right in

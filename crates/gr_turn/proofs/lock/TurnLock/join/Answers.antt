@@ -33,5 +33,6 @@ load-requires g c =
 
 pub invariant_of-into : goal.invariant_of-into
 invariant_of-into g c =
-    let i = joined_idle g.T.Kept.entries g.T.Kept.base c.into.inside.token.me c.into_token-token.result.me c.join_seat.new.seat.me c.into.invariant c.join_seat.ensures.2 in
+    let i = joined_idle g.T.Kept.entries g.T.Kept.base c.into.inside.token.me c.into_token-token.result.me c.join_seat.new.seat.me
+    c.into.invariant c.join_seat.ensures.2 in
     same_idle g.T.Kept.entries g.T.Kept.base c.join_seat.new.seat.me c.load.new.seat.me i c.load.ensures.2.0 c.load.ensures.2.1
