@@ -1,4 +1,4 @@
-use crate::{Copied, Key, KeyFault, KeyList, Scalar, Value, ValueFault};
+use crate::{Copied, Key, KeyFault, KeyList, Memory, Scalar, Value, ValueFault};
 
 // What the value of a text prints, or why the text is none.
 fn printed(rt: &HostRuntime, text: &[u8]) -> Result<Vec<u8>, ValueFault> {
@@ -84,7 +84,7 @@ fn values_are_refused_for_their_first_fault(rt: HostRuntime) {
 }
 
 // So many opening brackets and as many closing ones.
-fn brackets(rt: &HostRuntime, depth: usize) -> Result<Vec<u8>, ValueFault> {
+fn brackets(rt: &HostRuntime, depth: usize) -> Result<Vec<u8>, Memory> {
     let mut text = vec![in rt.alloc(); b'['; depth]?;
     text.extend_from_slice(&vec![in rt.alloc(); b']'; depth]?)?;
     Ok(text)
