@@ -75,7 +75,7 @@ still_there grid m me deed image gift = at_test (image.from == m)
     short : nat_le (suc (length (grid.history image.from))) image.at ≡ false
     short =
         let l : suc (length (giver_of grid image)) ≤ length (grid.history image.from) =
-            older_length (Gave me what.Image ∷ giver_of grid image) (grid.history image.from) gift.gave in
+        older_length (Gave me what.Image ∷ giver_of grid image) (grid.history image.from) gift.gave in
         let e : image.at ≡ length (giver_of grid image) = gift.is_image.at_is in
         over (length (grid.history image.from)) (omega (arith, l, e))
       where
@@ -144,8 +144,10 @@ once_more (Swept moment named) past first h = h
 pub whole_pushed : (grid : Grid) → IsWhole grid → (m : ℕ) (deed : Deed) → IsNext grid m deed → IsWhole (pushed grid m deed)
 whole_pushed grid whole m deed next = record {
   sound = record {
-    lawful = at_each grid m deed (λ i h. IsLawful (identity grid i) (grid.opening i) h) (next.lawful,
-        whole.sound.lawful m) whole.sound.lawful;
+    lawful = at_each grid m deed (λ i h. IsLawful (identity grid i) (grid.opening i) h) (
+      next.lawful,
+      whole.sound.lawful m,
+    ) whole.sound.lawful;
     genuine = at_each grid m deed (λ i h. IsGenuine (pushed grid m deed) i h)
         (still_genuine_deed grid m m deed deed next.genuine, still_genuine grid m m deed (grid.history m) (whole.sound.genuine m))
         (λ i. still_genuine grid m i deed (grid.history i) (whole.sound.genuine i));

@@ -57,15 +57,15 @@ settled grid sound me (Call client seq ask reply None to ∷ past) o law own ord
 settled grid sound me (Call client seq ask reply (Some c) to ∷ past) o law own orderly given key =
     more_settled key (took grid past) (gone grid past) c (standing key past)
     (settled grid sound me past (older_past (Call client seq ask reply (Some c) to) past
-        (grid.history me) o) law.1 own.1 orderly.2 given key) (orderly.0 c (inl refl))
+    (grid.history me) o) law.1 own.1 orderly.2 given key) (orderly.0 c (inl refl))
 settled grid sound me (Taken c Applied ∷ past) o law own orderly given key =
     more_settled key (took grid past) (gone grid past) c (standing key past)
     (settled grid sound me past (older_past (Taken c Applied) past (grid.history me) o) law.1 own.1 orderly.2 given key)
-        (orderly.0 c (inl refl))
+    (orderly.0 c (inl refl))
 settled grid sound me (Taken c Discarded ∷ past) o law own orderly given key =
     more_settled key (took grid past) (gone grid past) c (standing key past)
     (settled grid sound me past (older_past (Taken c Discarded) past (grid.history me) o) law.1 own.1 orderly.2 given key)
-        (orderly.0 c (inl refl))
+    (orderly.0 c (inl refl))
 settled grid sound me (Taken c Repeat ∷ past) o law own orderly given key =
     let o' = older_past (Taken c Repeat) past (grid.history me) o in
     again_settled key (took grid past) (gone grid past) c (standing key past)
@@ -84,7 +84,7 @@ settled grid sound me (Imaged image ∷ past) o law own orderly given key =
       known = known_took grid sound me past o' law.1 own.1;
       carried = λ change is h. known_taken grid sound image.from (giver_of grid image) own.0.1.from_founder (giver_older grid image)
           (giver_lawful grid sound image) (giver_genuine grid sound image) change is
-              (sym (known_ids image.vector.ids (giver_of grid image) own.0.1.is_image.vector_is (id_of change)) ∙ h);
+          (sym (known_ids image.vector.ids (giver_of grid image) own.0.1.is_image.vector_is (id_of change)) ∙ h);
       rows_made = carried.0.rows_made;
       made_lasting = lasting_sound grid sound me past o' law.1 own.1 carried.1 key;
       after = orderly.0;
@@ -204,7 +204,7 @@ orderly_from grid id opening (deed ∷ past) law late apart = (
   at_deed deed apart.0,
   orderly_from grid id opening past law.1 late.1
       (apart_fewer grid (changes past) (changes (deed ∷ past)) past
-          (λ change a. among_right change (came deed past) (changes past) a) apart.1),
+      (λ change a. among_right change (came deed past) (changes past) a) apart.1),
 )
   where
     at_deed : (d : Deed) → IsApart grid (came deed past ++ changes past) d → IsOrderlyDeed grid d past
@@ -273,7 +273,7 @@ settled_from grid sound me past o late givers apart key =
     let law = older_lawful (identity grid me) (grid.opening me) past (grid.history me) o (sound.lawful me) in
     let own = older_genuine grid me past (grid.history me) o (sound.genuine me) in
     settled grid sound me past o law own (orderly_from grid (identity grid me) (grid.opening me) past law late apart)
-        (all_given grid sound me past own givers) key
+    (all_given grid sound me past own givers) key
 
 took_made : (grid : Grid) → IsSound grid → (me : ℕ) (past : List Deed) → Older past (grid.history me) → (change : Change)
     → Among change (took grid past) → IsMade grid change
@@ -324,7 +324,7 @@ all_apart grid whole me all made_ (deed ∷ past) own = (at_deed deed own.0, all
 
 changes_made : (grid : Grid) → IsSound grid → (me : ℕ) (past : List Deed) → Older past (grid.history me)
     → IsLawful (identity grid me) (grid.opening me) past → IsGenuine grid me past → (change : Change) → Among change (changes past)
-        → IsMade grid change
+    → IsMade grid change
 changes_made grid sound me [] o law own change a = absurd a
 changes_made grid sound me (deed ∷ past) o law own change a = ⊎_elim
     (λ here. (came_sound grid sound me deed past o law.0 own.0 (all_carried grid sound me (deed ∷ past) own).0 change here).0)
@@ -348,7 +348,7 @@ pub law_4-holds : (grid : Grid) → IsWhole grid → law_4 grid
 law_4-holds grid whole me past o tombstone held a removes stands puts =
     let key = tombstone.key in
     let b : Best key (took grid past) held =
-        subst (IsSettled key (took grid past) (gone grid past)) stands (whole_settled grid whole me past o key) in
+    subst (IsSettled key (took grid past) (gone grid past)) stands (whole_settled grid whole me past o key) in
     at_test b (either (beats held.stamp tombstone.stamp))
   where
     at_test : Best tombstone.key (took grid past) held → (beats held.stamp tombstone.stamp ≡ true)
@@ -357,6 +357,6 @@ law_4-holds grid whole me past o tombstone held a removes stands puts =
     at_test b (inr isnt) =
         let s = unbeaten-same held.stamp tombstone.stamp isnt (b.unbeaten tombstone a (bytes_eq-itself tombstone.key)) in
         let e = made_unique grid whole.sound held tombstone (took_made grid whole.sound me past o held b.among)
-            (took_made grid whole.sound me past o tombstone a)
+        (took_made grid whole.sound me past o tombstone a)
         (one_name held tombstone s.1 s.2) in
         absurd (true_isnt_false (sym removes ∙ sym (ap (λ c. is_removal c.kind) e) ∙ puts))

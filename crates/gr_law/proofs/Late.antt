@@ -42,11 +42,11 @@ made_behind grid sound i (deed ∷ past) q o (inr older) tombstone change is kno
     ⊎_elim
     (λ here.
     let law : IsLawful (identity grid i) (grid.opening i) (deed ∷ past) =
-        older_lawful (identity grid i) (grid.opening i) (deed ∷ past) (grid.history i) o (sound.lawful i) in
+    older_lawful (identity grid i) (grid.opening i) (deed ∷ past) (grid.history i) o (sound.lawful i) in
     let s = made_stamped (identity grid i) (grid.opening i) change deed past law.0 here in
     let v : change.stamp.ver ≡ 1 + (reach (grid.opening i) change.key past) = s.ver_is in
     let low : tombstone.stamp.ver ≤ reach (grid.opening i) change.key past =
-        subst (λ k. tombstone.stamp.ver ≤ reach (grid.opening i) k past) same
+    subst (λ k. tombstone.stamp.ver ≤ reach (grid.opening i) k past) same
     (law_0-holds grid sound i past o' tombstone is (older_ids (id_of tombstone) q past older known)) in
     omega (arith, v, low))
     (λ there. made_behind grid sound i past q o' older tombstone change is known there not_before same)
@@ -218,7 +218,7 @@ seen_at grid whole past heard i id None e h = absurd (true_isnt_false (sym h))
 seen_at grid whole past heard i id (Some report) e h =
     let l = last_among i past report e in
     let a : Among (Reported report) (grid.history i) =
-        subst (λ k. Among (Reported report) (grid.history k)) l.1 (heard_made grid past heard report l.0) in
+    subst (λ k. Among (Reported report) (grid.history k)) l.1 (heard_made grid past heard report l.0) in
     let r = reported_at (identity grid i) (grid.opening i) (grid.history i) (whole.sound.lawful i) report a in
     let is : IsReportOf i r.0 report = r.2 in
     record {
@@ -241,21 +241,21 @@ pub seen_greater : (grid : Grid) → IsSound grid → (past : List Deed) → (to
     → tombstone.stamp.ver < change.stamp.ver
 seen_greater grid sound past tombstone change made_tombstone is unknown same seen =
     made_behind grid sound change.stamp.member (grid.history change.stamp.member) seen.place
-        (older_itself (grid.history change.stamp.member)) seen.older
+    (older_itself (grid.history change.stamp.member)) seen.older
     tombstone change made_tombstone seen.known is not_before same
   where
     not_before : Among change (made seen.place) → ⊥
     not_before before =
         let i = change.stamp.member in
         let below = made_below (identity grid i) (grid.opening i) change seen.place
-            (older_lawful (identity grid i) (grid.opening i) seen.place (grid.history i) seen.older (sound.lawful i)) before in
+        (older_lawful (identity grid i) (grid.opening i) seen.place (grid.history i) seen.older (sound.lawful i)) before in
         let from = (made_member (identity grid i) (grid.opening i) change (grid.history i) (sound.lawful i) is).1 in
         true_isnt_false (sym (seen.covered change.stamp.rv from below) ∙ unknown)
 
 -- A change of this member that it didn't know yet is greater than what it knew.
 pub own_greater : (grid : Grid) → IsSound grid → (me : ℕ) (past : List Deed) → Older past (grid.history me)
     → (tombstone change : Change) → IsMade grid tombstone → has_id (id_of tombstone) (ids past) ≡ true → IsMade grid change
-        → change.stamp.member ≡ me
+    → change.stamp.member ≡ me
     → has_id (id_of change) (ids past) ≡ false → tombstone.key ≡ change.key → tombstone.stamp.ver < change.stamp.ver
 own_greater grid sound me past o tombstone change made_tombstone known is home unknown same =
     made_behind grid sound me (grid.history me) past (older_itself (grid.history me)) o tombstone change made_tombstone known
@@ -290,7 +290,7 @@ late_greater grid whole me h o tombstone change t is unknown same =
     (λ home. own_greater grid sound me e.past o' tombstone change known.0 known.1 is home unknown' same)
     (λ covered. seen_greater grid sound e.past tombstone change known.0 is unknown' same
     (seen_at grid whole e.past (older_heard grid e.past (grid.history me) o' (whole.heard me)) i (id_of tombstone)
-        (last_heard i e.past) refl covered))
+    (last_heard i e.past) refl covered))
     (stable_of me grid.members (id_of tombstone) e.past e.stable i within.0 within.1))
     (λ none. absurd (subst (λ z. Among change (made z)) none is))
     (sound.outside i)
@@ -306,7 +306,7 @@ late_from grid whole me (deed ∷ past) o law own =
           let made_it = (came_sound grid whole.sound me deed past o law.0 own.0 carried.0 change a).0 in
           ver-beats change.stamp tombstone.stamp
           (late_greater grid whole me past o' tombstone change t made_it
-              (came_fresh (identity grid me) (grid.opening me) deed past law.0 change a) (sym same))),
+          (came_fresh (identity grid me) (grid.opening me) deed past law.0 change a) (sym same))),
       late_from grid whole me past o' law.1 own.1,
     )
 

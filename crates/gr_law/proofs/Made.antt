@@ -188,7 +188,7 @@ made_unique grid sound one two a b same =
     let m : one.stamp.member ≡ two.stamp.member = ap (λ i. i.member) same in
     let r : one.stamp.rv ≡ two.stamp.rv = ap (λ i. i.rv) same in
     made_once (identity grid two.stamp.member) (grid.opening two.stamp.member) one two (grid.history two.stamp.member)
-        (sound.lawful two.stamp.member)
+    (sound.lawful two.stamp.member)
     (subst (λ k. Among one (made (grid.history k))) m a) b r
 
 pub older_made : (change : Change) (q h : List Deed) → Older q h → Among change (made q) → Among change (made h)

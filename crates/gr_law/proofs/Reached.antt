@@ -43,7 +43,7 @@ swept_floor id opening moment named past law key h =
     let d = named_due id opening moment named past law key h in
     let e : removal_of (standing key past) ≡ Some d.0 = removal_is (standing key past) d.0 d.1.stands d.1.removes in
     let a = among_greatest d.0 (expired_at (Swept moment named) past)
-        (named_expires (λ key. removal_of (standing key past)) key d.0 named h e) in
+    (named_expires (λ key. removal_of (standing key past)) key d.0 named h e) in
     at_version (standing key past) d.0 d.1.stands (greatest_ver (expired_at (Swept moment named) past)) a
   where
     removal_is : (o : Option Change) (c : Change) → o ≡ Some c → is_removal c.kind ≡ true → removal_of o ≡ Some c
@@ -80,7 +80,7 @@ imaged_floor grid opening image past key carried made h = at_standing (standing 
         let same = (standing_best key past best e).of_key in
         ⊎_elim (λ low. low)
         (λ row. absurd (no_row row.0 image.rows row.1
-            (subst (λ k. bytes_eq row.0.key k ≡ true) ((bytes_eq-Decides best.key key).0 same) row.2) (and_left _ _ h)))
+        (subst (λ k. bytes_eq row.0.key k ≡ true) ((bytes_eq-Decides best.key key).0 same) row.2) (and_left _ _ h)))
         (carried.reached best (made best e) (and_right _ _ h))
 
 -- what is reached stays reached
@@ -108,7 +108,7 @@ reach_grows grid sound me deed past o law own carried key =
     dropped (Imaged image) law image_carried h =
         let low = imaged_floor grid (grid.opening me) image past key image_carried
         (λ best is. (standing_sound grid sound me past (older_past deed past (grid.history me) o) past_law own.1 carried.1 key best is).0)
-            h in
+        h in
         omega (arith, low)
     dropped (Reported report) law carried h = absurd (true_isnt_false (sym h))
     dropped (Heard report) law carried h = absurd (true_isnt_false (sym h))
@@ -159,7 +159,7 @@ new_reached grid sound me (Call client seq ask reply None to) past o law own car
 new_reached grid sound me (Call client seq ask reply (Some one) to) past o law own carried before grows change is has =
     let s = came_sound grid sound me (Call client seq ask reply (Some one) to) past o law.0 own.0 carried.0 one (inl refl) in
     came_reached (grid.opening me) (Call client seq ask reply (Some one) to) past change refl
-        (inl (one_id grid sound change one is s.0 has))
+    (inl (one_id grid sound change one is s.0 has))
 new_reached grid sound me (Taken c Applied) past o law own carried before grows change is has =
     came_reached (grid.opening me) (Taken c Applied) past change refl (inl (one_id grid sound change c is own.0 has))
 new_reached grid sound me (Taken c Discarded) past o law own carried before grows change is has =
@@ -167,12 +167,12 @@ new_reached grid sound me (Taken c Discarded) past o law own carried before grow
 new_reached grid sound me (Taken c Repeat) past o law own carried before grows change is has =
     let e : change ≡ c = one_id grid sound change c is own.0 has in
     let known : has_id (id_of change) (ids past) ≡ true =
-        subst (λ z. has_id (id_of z) (ids past) ≡ true) (sym e) (repeat_known _ _ c law.0) in
+    subst (λ z. has_id (id_of z) (ids past) ≡ true) (sym e) (repeat_known _ _ c law.0) in
     omega (arith, before change is known, grows change.key)
 new_reached grid sound me (Gave to what) past o law own carried before grows change is has = absurd (true_isnt_false (sym has))
 new_reached grid sound me (Imaged image) past o law own carried before grows change is has =
     ⊎_elim (λ low. at_floor _ _ _ _ low) (λ row. at_row row.0 row.1 row.2 row.3 (either (has_id (id_of row.0) (ids past))))
-        (carried.0.reached change is has)
+    (carried.0.reached change is has)
   where
     at_floor : (v a c d : ℕ) → v ≤ c → v ≤ max a (max c d)
     at_floor v a c d h = omega arith
@@ -183,17 +183,17 @@ new_reached grid sound me (Imaged image) past o law own carried before grows cha
     at_row row a same le (inl known) =
         let e : row.key ≡ change.key = (bytes_eq-Decides row.key change.key).0 same in
         let low : row.stamp.ver ≤ reach (grid.opening me) change.key past =
-            subst (λ k. row.stamp.ver ≤ reach (grid.opening me) k past) e (before row (carried.0.rows_made row a) known) in
+        subst (λ k. row.stamp.ver ≤ reach (grid.opening me) k past) e (before row (carried.0.rows_made row a) known) in
         let up = grows change.key in
         omega (arith, le, low, up)
     at_row row a same le (inr fresh) =
         let e : row.key ≡ change.key = (bytes_eq-Decides row.key change.key).0 same in
         let kept : drops row.key (Imaged image) (standing row.key past) ≡ false =
-            rw (has_row row.key row image.rows a (bytes_eq-itself row.key)) refl in
+        rw (has_row row.key row image.rows a (bytes_eq-itself row.key)) refl in
         let low = came_reached (grid.opening me) (Imaged image) past row kept
         (filter_keeps (λ row. not (has_id (id_of row) (ids past))) row image.rows (rw fresh refl) a) in
         let low' : row.stamp.ver ≤ reach (grid.opening me) change.key (Imaged image ∷ past) =
-            subst (λ k. row.stamp.ver ≤ reach (grid.opening me) k (Imaged image ∷ past)) e low in
+        subst (λ k. row.stamp.ver ≤ reach (grid.opening me) k (Imaged image ∷ past)) e low in
         omega (arith, le, low')
 new_reached grid sound me (Reported report) past o law own carried before grows change is has = absurd (true_isnt_false (sym has))
 new_reached grid sound me (Heard report) past o law own carried before grows change is has = absurd (true_isnt_false (sym has))
@@ -253,14 +253,18 @@ gift_carried grid sound me image gift =
 
     at_standing : (change : Change) (o : Option Change) → standing change.key (giver_of grid image) ≡ o
         → change.stamp.ver ≤ max (ver_of (standing change.key (giver_of grid image)))
-            (floor (grid.opening image.from) (giver_of grid image))
+        (floor (grid.opening image.from) (giver_of grid image))
         → (change.stamp.ver ≤ image.floor)
-            ⊎ ((row : Change) × Among row image.rows × (bytes_eq row.key change.key ≡ true) × (change.stamp.ver ≤ row.stamp.ver))
+        ⊎ ((row : Change) × Among row image.rows × (bytes_eq row.key change.key ≡ true) × (change.stamp.ver ≤ row.stamp.ver))
     at_standing change None e h = inl (rw gift.is_image.floor_is (left _ _ (rw e at h)))
     at_standing change (Some row) e h =
         ⊎_elim (λ low. inl (rw gift.is_image.floor_is low))
-        (λ high. inr (row, stands_row (giver_of grid image) image.rows gift.is_image.rows_are change.key row e,
-            (standing_best change.key (giver_of grid image) row e).of_key, high))
+        (λ high. inr (
+          row,
+          stands_row (giver_of grid image) image.rows gift.is_image.rows_are change.key row e,
+          (standing_best change.key (giver_of grid image) row e).of_key,
+          high,
+        ))
         (two _ _ _ (rw e at h))
 
 pub all_carried : (grid : Grid) → IsSound grid → (me : ℕ) (past : List Deed) → IsGenuine grid me past → AreCarried grid past

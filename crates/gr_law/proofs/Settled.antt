@@ -39,7 +39,7 @@ known_here : (grid : Grid) → IsSound grid
     → Older (Call client seq ask reply own to ∷ past) (grid.history me)
     → IsLawfulDeed (identity grid me) (grid.opening me) (Call client seq ask reply own to) past
     → (change : Change) → IsMade grid change → has_id (id_of change) (ids_at (Call client seq ask reply own to)) ≡ true
-        → Among change (option_to_list own)
+    → Among change (option_to_list own)
 known_here grid sound me client seq ask reply None to past o law change is h = absurd (true_isnt_false (sym h))
 known_here grid sound me client seq ask reply (Some one) to past o law change is h =
     let s = came_sound grid sound me (Call client seq ask reply (Some one) to) past o law tt tt one (inl refl) in
@@ -53,7 +53,7 @@ known_taken grid sound me [] le o law own change is h = absurd (true_isnt_false 
 known_taken grid sound me (deed ∷ past) le o law own change is h = ⊎_elim
     (λ here. among_left change (taken_at deed) (taken past) (at_deed deed o law.0 own.0 here))
     (λ there. among_right change (taken_at deed) (taken past)
-        (known_taken grid sound me past le (older_past deed past (grid.history me) o) law.1 own.1 change is there))
+    (known_taken grid sound me past le (older_past deed past (grid.history me) o) law.1 own.1 change is there))
     (has_either (id_of change) (ids_at deed) (ids past) h)
   where
     at_deed : (d : Deed) → Older (d ∷ past) (grid.history me) → IsLawfulDeed (identity grid me) (grid.opening me) d past
@@ -75,7 +75,7 @@ known_took grid sound me [] o law own change is h = absurd (true_isnt_false (sym
 known_took grid sound me (deed ∷ past) o law own change is h = ⊎_elim
     (λ here. among_left change (took_at grid deed) (took grid past) (at_deed deed o law.0 own.0 here))
     (λ there. among_right change (took_at grid deed) (took grid past)
-        (known_took grid sound me past (older_past deed past (grid.history me) o) law.1 own.1 change is there))
+    (known_took grid sound me past (older_past deed past (grid.history me) o) law.1 own.1 change is there))
     (has_either (id_of change) (ids_at deed) (ids past) h)
   where
     at_deed : (d : Deed) → Older (d ∷ past) (grid.history me) → IsLawfulDeed (identity grid me) (grid.opening me) d past
@@ -86,7 +86,7 @@ known_took grid sound me (deed ∷ past) o law own change is h = ⊎_elim
     at_deed (Gave to what) o law own h = absurd (true_isnt_false (sym h))
     at_deed (Imaged image) o law own h =
         known_taken grid sound image.from (giver_of grid image) own.1.from_founder (giver_older grid image) (giver_lawful grid sound image)
-            (giver_genuine grid sound image)
+        (giver_genuine grid sound image)
         change is (sym (known_ids image.vector.ids (giver_of grid image) own.1.is_image.vector_is (id_of change)) ∙ h)
     at_deed (Reported report) o law own h = absurd (true_isnt_false (sym h))
     at_deed (Heard report) o law own h = absurd (true_isnt_false (sym h))
@@ -207,7 +207,7 @@ pub swept_settled : (grid : Grid) (id : Identity) (opening moment : ℕ) (named 
     → IsLawfulDeed id opening (Swept moment named) past
     → (key : List ℕ) → IsSettled key (took grid past) (gone grid past) (standing key past)
     → IsSettled key (took grid (Swept moment named ∷ past)) (gone grid (Swept moment named ∷ past))
-        (standing key (Swept moment named ∷ past))
+    (standing key (Swept moment named ∷ past))
 swept_settled grid id opening moment named past law key h = at_name (names key named) refl
   where
     removal_is : (o : Option Change) (c : Change) → o ≡ Some c → is_removal c.kind ≡ true → removal_of o ≡ Some c
@@ -231,7 +231,7 @@ swept_settled grid id opening moment named past law key h = at_name (names key n
           d.1.removes,
           among_left d.0 (expired_at (Swept moment named) past) (gone grid past)
               (named_expires (λ key. removal_of (standing key past)) key d.0 named e
-                  (removal_is (standing key past) d.0 d.1.stands d.1.removes)),
+              (removal_is (standing key past) d.0 d.1.stands d.1.removes)),
         )
 
 -- Two best ones of lists that are joined.
@@ -273,8 +273,12 @@ both_gone key xs ys xgone ygone (inr t) (inl nothing) =
 both_gone key xs ys xgone ygone (inr s) (inr t) = at_test (beats t.0.stamp s.0.stamp) refl
   where
     at_test : (b : Bool) → beats t.0.stamp s.0.stamp ≡ b → IsSettled key (xs ++ ys) (xgone ++ ygone) None
-    at_test true e = inr (t.0, best_right key xs ys t.0 t.1 (top_beaten key xs s.0 t.0 s.1.unbeaten e), t.2,
-        among_right t.0 xgone ygone t.3)
+    at_test true e = inr (
+      t.0,
+      best_right key xs ys t.0 t.1 (top_beaten key xs s.0 t.0 s.1.unbeaten e),
+      t.2,
+      among_right t.0 xgone ygone t.3,
+    )
     at_test false e = inr (s.0, best_left key xs ys s.0 s.1 (top_below key ys t.0 s.0 t.1.unbeaten e), s.2, among_left s.0 xgone ygone s.3)
 
 -- What the step at an image goes from. The giver's side is `given`, with what expired there; `rows` are what stands there.
@@ -345,7 +349,7 @@ empty_settled grid image past key j none before = at_standing (standing key (giv
 
     at_before : (row : Change) → Best key (taken (giver_of grid image)) row → Among row (took grid past)
         → IsSettled key (took grid past) (gone grid past) None
-            → IsSettled key (took grid (Imaged image ∷ past)) (gone grid (Imaged image ∷ past)) None
+        → IsSettled key (took grid (Imaged image ∷ past)) (gone grid (Imaged image ∷ past)) None
     at_before row best a (inl nothing) = absurd (nothing row a best.of_key)
     at_before row best a (inr t) =
         inr (
@@ -396,7 +400,7 @@ found_settled grid image past key j kept best h = record {
     row_best : (row : Change) → Among row image.rows → bytes_eq row.key key ≡ true → Best key (taken (giver_of grid image)) row
     row_best row a same =
         let e : standing key (giver_of grid image) ≡ Some row =
-            subst (λ k. standing k (giver_of grid image) ≡ Some row) ((bytes_eq-Decides row.key key).0 same) (j.row_stands row a) in
+        subst (λ k. standing k (giver_of grid image) ≡ Some row) ((bytes_eq-Decides row.key key).0 same) (j.row_stands row a) in
         subst (IsSettled key (taken (giver_of grid image)) (expired (giver_of grid image))) e j.given
 
     new_given : (row : Change) → Among row (came (Imaged image) past) → bytes_eq row.key key ≡ true
@@ -480,7 +484,7 @@ found_settled grid image past key j kept best h = record {
             at_standing (Some one) e b =
                 below_by one.stamp t.stamp best.stamp
                 (j.apart one b.among (not_held (Some one) (has_key key image.rows) no_key
-                    (subst (λ o. drops key (Imaged image) o ≡ false) e kept)) t gone_ (same_key one t b.of_key same))
+                (subst (λ o. drops key (Imaged image) o ≡ false) e kept)) t gone_ (same_key one t b.of_key same))
                 (lasting_below one b.among b.of_key)
 
     given_below : (o : Option Change) → standing key (giver_of grid image) ≡ o
@@ -520,7 +524,7 @@ imaged_settled grid image past key j = at_drop (drops key (Imaged image) (standi
 
     at_drop : (b : Bool) → drops key (Imaged image) (standing key past) ≡ b
         → IsSettled key (took grid (Imaged image ∷ past)) (gone grid (Imaged image ∷ past))
-            (winner key (if b then [] else came (Imaged image) past ++ lasting key past))
+        (winner key (if b then [] else came (Imaged image) past ++ lasting key past))
     at_drop true e = at_dropped (standing key past) (has_key key image.rows) refl refl e
     at_drop false e = at_found (winner key (came (Imaged image) past ++ lasting key past)) refl
         (winner-best key (came (Imaged image) past ++ lasting key past)) e

@@ -1,24 +1,14 @@
 -- The small record is whole.
-use Rattle.std.proofs.Common.{◌≡◌, ◌⊎◌, ℕ, ◌≤◌, List, [], ◌∷◌, Bool, true, false, ◌==◌, refl, subst, inl, inr, arith, if◌then◌else◌}
+use Rattle.std.proofs.Common.{◌≡◌, ◌⊎◌, ℕ, ◌≤◌, List, [], Bool, true, false, ◌==◌, refl, subst, inl, inr, arith, if◌then◌else◌}
 use Rattle.std.specs.Prelude.{Some, None}
 use Rattle.std.proofs.lemmas.Bool.Decides.{nat_tests}
-use Rattle.gr_stamp.specs.declared.change.Change.{Change}
-use Rattle.gr_stamp.specs.declared.change.Kind.TheVariants.{Put, Remove}
-use Rattle.gr_history.specs.declared.ask.Ask.TheVariants as asks
-use Rattle.gr_history.specs.declared.reply.Reply.TheVariants as replies
 use Rattle.gr_history.specs.Recipients.{recipients}
-use Rattle.gr_vector.specs.Ids.{Id}
-use Rattle.gr_vector.specs.declared.report.Report.{Report}
-use Rattle.gr_history.specs.declared.image.Image.{Image}
-use Rattle.gr_history.specs.declared.verdict.Verdict.TheVariants.{Applied, Discarded}
 use Rattle.gr_history.specs.declared.deed.Deed.{Deed}
-use Rattle.gr_history.specs.declared.image.What.TheVariants as what
-use Rattle.gr_history.specs.declared.deed.Deed.TheVariants.{Call, Taken, Gave, Imaged, Reported, Heard, Swept}
 use Rattle.gr_history.specs.Standing.{standing}
 use Rattle.gr_history.specs.Floor.{floor}
 use Rattle.gr_history.specs.Stable.{is_due}
 use Rattle.gr_law.specs.Grids.{identity, at_place}
-use Rattle.gr_law.specs.Small.{key, first, removal, second, report_1, report_3, image, history_1, history_2, history_3, history, small}
+use Rattle.gr_law.specs.Small.{key, second, image, history_1, history_2, history_3, history, small}
 use Rattle.gr_history.specs.Lawful.{IsLawful}
 use Rattle.gr_law.specs.Integrity.{IsGenuine, IsImagedOnce, AreHeard, IsWhole, IsGift}
 
@@ -85,12 +75,16 @@ pub small-whole : IsWhole small
 small-whole = record {
   sound = record {
     lawful = each (λ m h. IsLawful (identity small m) 0 h) lawful_1 lawful_2 lawful_3 (λ m. tt);
-    genuine = each (λ m h. IsGenuine small m h) (tt, (tt, (inl refl, (tt, tt)))) (tt, (tt, (tt, (tt, (tt, (inl refl, tt)))))) (tt,
-        ((omega arith, gift), (inl refl, (tt, (inl refl, tt))))) (λ m. tt);
+    genuine = each (λ m h. IsGenuine small m h) (tt, (tt, (inl refl, (tt, tt)))) (tt, (tt, (tt, (tt, (tt, (inl refl, tt)))))) (
+      tt,
+      ((omega arith, gift), (inl refl, (tt, (inl refl, tt)))),
+    ) (λ m. tt);
     once = each (λ m h. IsImagedOnce h) tt tt tt (λ m. tt);
     outside = each (λ m h. (1 ≤ m) × (m ≤ 3)
         ⊎ (h ≡ [])) (inl (omega arith, omega arith)) (inl (omega arith, omega arith)) (inl (omega arith, omega arith)) (λ m. inr refl);
   };
-  heard = each (λ m h. AreHeard small h) (tt, (tt, (tt, (tt, tt)))) (tt,
-      (tt, (inr (inr (inr (inl refl))), (inr (inl refl), (tt, (tt, tt)))))) (tt, (tt, (tt, (tt, (tt, tt))))) (λ m. tt);
+  heard = each (λ m h. AreHeard small h) (tt, (tt, (tt, (tt, tt)))) (
+    tt,
+    (tt, (inr (inr (inr (inl refl))), (inr (inl refl), (tt, (tt, tt))))),
+  ) (tt, (tt, (tt, (tt, (tt, tt))))) (λ m. tt);
 }

@@ -34,7 +34,7 @@ pub record IsCarried (grid : Grid) (image : Image) : Type 0 where
   pub rows_known : (row : Change) → Among row image.rows → has_id (id_of row) image.vector.ids ≡ true
   pub reached : (change : Change) → IsMade grid change → has_id (id_of change) image.vector.ids ≡ true
       → (change.stamp.ver ≤ image.floor)
-          ⊎ ((row : Change) × Among row image.rows × (bytes_eq row.key change.key ≡ true) × (change.stamp.ver ≤ row.stamp.ver))
+      ⊎ ((row : Change) × Among row image.rows × (bytes_eq row.key change.key ≡ true) × (change.stamp.ver ≤ row.stamp.ver))
 
 abbrev pub IsCarriedDeed : Grid → Deed → Type 0
 IsCarriedDeed grid (Imaged image) = IsCarried grid image
@@ -56,7 +56,7 @@ came_sound grid sound me (Call client seq ask reply own to) past o law own_ carr
     let s = made_stamped (identity grid me) (grid.opening me) change (Call client seq ask reply own to) past law a' in (
       subst (λ k. Among change (made (grid.history k))) (sym s.member_is)
           (older_made change (Call client seq ask reply own to ∷ past) (grid.history me) o
-              (among_left change (made_at (Call client seq ask reply own to)) (made past) a')),
+          (among_left change (made_at (Call client seq ask reply own to)) (made past) a')),
       made_known_at change (Call client seq ask reply own to) a',
     )
 came_sound grid sound me (Taken c Applied) past o law own carried change (inl is) =
@@ -110,9 +110,12 @@ pub came_fresh : (id : Identity) (opening : ℕ) (deed : Deed) (past : List Deed
     → (change : Change) → Among change (came deed past) → has_id (id_of change) (ids past) ≡ false
 came_fresh id opening (Call client seq ask reply own to) past law change a =
     let s = made_stamped id opening change (Call client seq ask reply own to) past law a in
-    not_true _ (λ has. omega (arith,
-        has-top id.member change.stamp.rv (ids past)
-        (subst (λ m. has_id (record { member = m; rv = change.stamp.rv }) (ids past) ≡ true) s.member_is has), s.rv_is))
+    not_true _ (λ has. omega (
+      arith,
+      has-top id.member change.stamp.rv (ids past)
+          (subst (λ m. has_id (record { member = m; rv = change.stamp.rv }) (ids past) ≡ true) s.member_is has),
+      s.rv_is,
+    ))
 came_fresh id opening (Taken c Applied) past law change (inl is) = rw is (applied_new _ _ c law)
 came_fresh id opening (Taken c Applied) past law change (inr a) = absurd a
 came_fresh id opening (Taken c Discarded) past law change (inl is) = rw is (discarded_new _ _ c law)
@@ -136,7 +139,7 @@ lasting_sound grid sound me (deed ∷ past) o law own carried key change a =
     at_drop true a next = absurd a
     at_drop false a next = ⊎_elim
         (λ here. let s = came_sound grid sound me deed past o law.0 own.0 carried.0 change here in
-            (s.0, has_left (id_of change) (ids_at deed) (ids past) s.1))
+        (s.0, has_left (id_of change) (ids_at deed) (ids past) s.1))
         (λ there. let s = next there in (s.0, has_right (id_of change) (ids_at deed) (ids past) s.1))
         (among_either change (came deed past) (lasting key past) a)
 
@@ -164,7 +167,7 @@ kept_ver key deed past h = rw h (winner-grows key (came deed past) (lasting key 
 
 pub came_ver : (key : List ℕ) (deed : Deed) (past : List Deed) → drops key deed (standing key past) ≡ false
     → (change : Change) → Among change (came deed past) → bytes_eq change.key key ≡ true
-        → change.stamp.ver ≤ ver_of (standing key (deed ∷ past))
+    → change.stamp.ver ≤ ver_of (standing key (deed ∷ past))
 came_ver key deed past h change a is =
     rw h (winner-ver key change (came deed past ++ lasting key past) (among_left change (came deed past) (lasting key past) a) is)
 

@@ -1,5 +1,5 @@
 -- What was taken in was made and is known. Law 1.
-use Rattle.std.proofs.Common.{◌+◌, suc, ◌≡◌, ℕ, ◌≤◌, List, [], ◌∷◌, true, refl, sym, ◌∙◌, subst, inl, inr, ⊎_elim, arith}
+use Rattle.std.proofs.Common.{◌+◌, ◌≡◌, ℕ, ◌≤◌, List, [], ◌∷◌, true, refl, sym, ◌∙◌, subst, inl, inr, ⊎_elim, arith}
 use Rattle.gr_stamp.specs.declared.change.Change.{Change}
 use Rattle.gr_history.specs.declared.image.Image.{Image}
 use Rattle.gr_history.specs.declared.deed.Deed.{Deed}
@@ -43,7 +43,7 @@ taken_sound grid me [] o law own change a = absurd a
 taken_sound grid me (deed ∷ past) o law own change a = ⊎_elim
     (λ here. let s = taken_here grid me deed past o law.0 own.0 change here in (s.0, has_left (id_of change) (ids_at deed) (ids past) s.1))
     (λ there. let s = taken_sound grid me past (older_past deed past (grid.history me) o) law.1 own.1 change there in
-        (s.0, has_right (id_of change) (ids_at deed) (ids past) s.1))
+    (s.0, has_right (id_of change) (ids_at deed) (ids past) s.1))
     (among_either change (taken_at deed) (taken past) a)
 
 -- of a giver's history
@@ -70,7 +70,7 @@ took_here grid sound me (Taken c how) past o law own change (inl is) =
 took_here grid sound me (Taken c how) past o law own change (inr a) = absurd a
 took_here grid sound me (Imaged image) past o law own change a =
     let s = taken_sound grid image.from (giver_of grid image) (giver_older grid image) (giver_lawful grid sound image)
-        (giver_genuine grid sound image) change a in
+    (giver_genuine grid sound image) change a in
     (s.0, known_ids image.vector.ids (giver_of grid image) own.1.is_image.vector_is (id_of change) ∙ s.1)
 took_here grid sound me deed past o law own change a = absurd a
 
@@ -80,20 +80,20 @@ pub took_sound : (grid : Grid) → IsSound grid → (me : ℕ) (past : List Deed
 took_sound grid sound me [] o law own change a = absurd a
 took_sound grid sound me (deed ∷ past) o law own change a = ⊎_elim
     (λ here. let s = took_here grid sound me deed past o law.0 own.0 change here in
-        (s.0, has_left (id_of change) (ids_at deed) (ids past) s.1))
+    (s.0, has_left (id_of change) (ids_at deed) (ids past) s.1))
     (λ there. let s = took_sound grid sound me past (older_past deed past (grid.history me) o) law.1 own.1 change there in
-        (s.0, has_right (id_of change) (ids_at deed) (ids past) s.1))
+    (s.0, has_right (id_of change) (ids_at deed) (ids past) s.1))
     (among_either change (took_at grid deed) (took grid past) a)
 
 pub law_1-holds : (grid : Grid) → IsSound grid → law_1 grid
 law_1-holds grid sound me deed past o change made_ tombstone a same removes =
     let o' = older_past deed past (grid.history me) o in
     let law : IsLawful (identity grid me) (grid.opening me) (deed ∷ past) =
-        older_lawful (identity grid me) (grid.opening me) (deed ∷ past) (grid.history me) o (sound.lawful me) in
+    older_lawful (identity grid me) (grid.opening me) (deed ∷ past) (grid.history me) o (sound.lawful me) in
     let own : IsGenuine grid me (deed ∷ past) = older_genuine grid me (deed ∷ past) (grid.history me) o (sound.genuine me) in
     let s = took_sound grid sound me past o' law.1 own.1 tombstone a in
     let t = made_stamped (identity grid me) (grid.opening me) change deed past law.0 made_ in
     let low : tombstone.stamp.ver ≤ reach (grid.opening me) change.key past =
-        subst (λ k. tombstone.stamp.ver ≤ reach (grid.opening me) k past) same (law_0-holds grid sound me past o' tombstone s.0 s.1) in
+    subst (λ k. tombstone.stamp.ver ≤ reach (grid.opening me) k past) same (law_0-holds grid sound me past o' tombstone s.0 s.1) in
     let v : change.stamp.ver ≡ 1 + (reach (grid.opening me) change.key past) = t.ver_is in
     omega (arith, low, v)

@@ -27,5 +27,11 @@ pub record Grid : Type 0 where
   pub history : ℕ → List Deed
 
 abbrev pub identity : Grid → ℕ → Identity
-identity grid member = record { member = member; members = grid.members; founders = grid.founders; shard = grid.shard; shards =
-    grid.shards }
+identity grid member = record {
+  member = member;
+  members = grid.members;
+  founders = grid.founders;
+  shard = grid.shard;
+  shards =
+      grid.shards;
+}

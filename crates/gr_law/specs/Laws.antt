@@ -103,7 +103,7 @@ IsApart grid all (Taken change verdict) = Unit {0}
 IsApart grid all (Gave to what) = Unit {0}
 IsApart grid all (Imaged image) =
     (change tombstone : Change) → Among change all → has_id (id_of change) image.vector.ids ≡ false
-        → Among tombstone (expired (giver_of grid image))
+    → Among tombstone (expired (giver_of grid image))
     → change.key ≡ tombstone.key → beats change.stamp tombstone.stamp ≡ true
 IsApart grid all (Reported report) = Unit {0}
 IsApart grid all (Heard report) = Unit {0}
