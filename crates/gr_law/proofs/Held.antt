@@ -1,12 +1,13 @@
 -- Laws 3 to 5.
-use Rattle.std.proofs.Common.{◌≡◌, ◌⊎◌, ℕ, ◌≤◌, List, [], ◌∷◌, ◌++◌, Bool, true, false, refl, sym, ap, ◌∙◌, subst, inl, inr, ⊎_elim, arith}
+use Rattle.std.proofs.Common.{bytes_eq, ◌≡◌, ◌⊎◌, ℕ, ◌≤◌, List, [], ◌∷◌, ◌++◌, Bool, true, false, refl, sym, ap, ◌∙◌, subst, inl, inr, ⊎_elim, arith}
 use Rattle.std.specs.Prelude.{Option, Some, None}
 use Rattle.gr_history.specs.declared.identity.Identity.{Identity}
 use Rattle.gr_stamp.specs.declared.change.Change.{Change}
 use Rattle.gr_stamp.specs.declared.change.Kind.{Kind}
 use Rattle.gr_stamp.specs.declared.change.Kind.TheVariants.{Put, Remove}
 use Rattle.gr_stamp.specs.Version.{beats}
-use Rattle.gr_stamp.specs.Winner.{winner, put_value}
+use Rattle.gr_stamp.specs.Winner.{winner, holds, put_value}
+use Rattle.std.proofs.lemmas.Slice.Eq.{bytes_eq-Decides}
 use Rattle.gr_history.specs.declared.image.Image.{Image}
 use Rattle.gr_history.specs.declared.verdict.Verdict.TheVariants.{Applied, Discarded, Repeat}
 use Rattle.gr_history.specs.declared.deed.Deed.{Deed}
@@ -18,7 +19,7 @@ use Rattle.gr_history.specs.Floor.{is_removal, expired_at, expired}
 use Rattle.gr_law.specs.Grids.{identity, Among, Older, Grid}
 use Rattle.gr_law.specs.Integrity.{IsMade, IsGenuine, IsGenuineDeed, IsSound, IsWhole, IsGift, giver_of}
 use Rattle.gr_history.specs.Lawful.{IsLawful}
-use Rattle.gr_law.specs.Laws.{taken_at, taken, took, IsLate, IsHeld, law_3, law_4, IsGiverLate, AreGiversLate, IsApart, AreApart, law_5}
+use Rattle.gr_law.specs.Laws.{AreAlso, same_value, taken_at, taken, took, IsLate, IsHeld, law_3, law_4, IsGiverLate, AreGiversLate, IsApart, AreApart, law_5}
 use Rattle.gr_law.proofs.Lists.{known_ids, one_name, among_either, among_left, among_right, has_left, has_right, either}
 use Rattle.gr_law.proofs.Winners.{winner-best, Best, IsBest, HasNone, unbeaten-same, bytes_eq-itself, ver-beats}
 use Rattle.gr_law.proofs.Made.{older_past, older_lawful, older_genuine, made_unique}
@@ -360,3 +361,27 @@ law_4-holds grid whole me past o tombstone held a removes stands puts =
         (took_made grid whole.sound me past o tombstone a)
         (one_name held tombstone s.1 s.2) in
         absurd (true_isnt_false (sym removes ∙ sym (ap (λ c. is_removal c.kind) e) ∙ puts))
+
+-- The winners of two lists with the same changes of a key are one.
+one_winner : (grid : Grid) → IsSound grid → (key : List ℕ) (all more : List Change)
+    → ((change : Change) → Among change all → IsMade grid change) → ((change : Change) → Among change more → IsMade grid change)
+    → AreAlso key all more → AreAlso key more all → winner key all ≡ winner key more
+one_winner grid sound key all more made_ made_more into back = at_winner (winner key more) (winner-best key more)
+  where
+    of_key : (change : Change) → bytes_eq change.key key ≡ true → change.key ≡ key
+    of_key change h = (bytes_eq-Decides change.key key).0 h
+
+    at_winner : (o : Option Change) → IsBest key more o → winner key all ≡ o
+    at_winner None none = no_winner key all (λ change a same. none change (into change a (of_key change same)) same)
+    at_winner (Some best) b = winner_is grid sound key all made_ best (record {
+      of_key = b.of_key;
+      among = back best b.among (of_key best b.of_key);
+      unbeaten = λ change a same. b.unbeaten change (into change a (of_key change same)) same;
+    })
+
+pub same_value-holds : (grid : Grid) → IsWhole grid → same_value grid
+same_value-holds grid whole i j one two o p key into back =
+    let w = one_winner grid whole.sound key (took grid one) (took grid two) (took_made grid whole.sound i one o)
+    (took_made grid whole.sound j two p) into back in
+    let e : holds key (took grid one) ≡ holds key (took grid two) = rw w refl in
+    (law_3-holds grid whole i one o key).present_is ∙ e ∙ sym (law_3-holds grid whole j two p key).present_is

@@ -57,9 +57,11 @@ IsLate (deed ∷ past) =
     → beats change.stamp tombstone.stamp ≡ true)
     × IsLate past
 
+-- at each place of each history
 abbrev pub law_0 : Grid → Type 0
 law_0 grid = (member : ℕ) (past : List Deed) → Older past (grid.history member) → IsReached grid (grid.opening member) past
 
+-- Law 1: what is made has a greater version than each removal of its key that its maker had taken in.
 abbrev pub law_1 : Grid → Type 0
 law_1 grid = (member : ℕ) (deed : Deed) (past : List Deed) → Older (deed ∷ past) (grid.history member) → (change : Change)
     → Among change (made_at deed)
@@ -69,6 +71,7 @@ law_1 grid = (member : ℕ) (deed : Deed) (past : List Deed) → Older (deed ∷
 abbrev pub law_2 : Grid → Type 0
 law_2 grid = (member : ℕ) → IsLate (grid.history member)
 
+-- What is present is the value of the winner of all that was taken in, and where that winner is a put, it stands.
 pub record IsHeld (grid : Grid) (key : List ℕ) (past : List Deed) : Type 0 where
   pub present_is : present key past ≡ holds key (took grid past)
   pub stands : (change : Change) → winner key (took grid past) ≡ Some change → is_removal change.kind ≡ false
@@ -77,12 +80,23 @@ pub record IsHeld (grid : Grid) (key : List ℕ) (past : List Deed) : Type 0 whe
 abbrev pub law_3 : Grid → Type 0
 law_3 grid = (member : ℕ) (past : List Deed) → Older past (grid.history member) → (key : List ℕ) → IsHeld grid key past
 
+-- whether all of the key's changes among the first are among the second
+abbrev pub AreAlso : List ℕ → List Change → List Change → Type 0
+AreAlso key few many = (change : Change) → Among change few → change.key ≡ key → Among change many
+
+-- Law 3 of two members: after histories that took in the same changes of a key, one value is present.
+abbrev pub same_value : Grid → Type 0
+same_value grid = (i j : ℕ) (one two : List Deed) → Older one (grid.history i) → Older two (grid.history j) → (key : List ℕ)
+    → AreAlso key (took grid one) (took grid two) → AreAlso key (took grid two) (took grid one) → present key one ≡ present key two
+
+-- Law 4: a put that stands beats each removal of its key that was taken in.
 abbrev pub law_4 : Grid → Type 0
 law_4 grid = (member : ℕ) (past : List Deed) → Older past (grid.history member)
     → (tombstone held : Change) → Among tombstone (took grid past) → is_removal tombstone.kind ≡ true
     → standing tombstone.key past ≡ Some held → is_removal held.kind ≡ false → beats held.stamp tombstone.stamp ≡ true
 
--- Law 5: law 3 of one history.
+-- Law 5: law 3 of one history, from three facts: what came in late to it beats what had expired there, so it was
+-- at the givers of its images, and what an image didn't know beats what had expired at its giver.
 abbrev pub IsGiverLate : Grid → Deed → Type 0
 IsGiverLate grid (Call client seq ask reply made to) = Unit {0}
 IsGiverLate grid (Taken change verdict) = Unit {0}

@@ -4,7 +4,7 @@ ghost use Rattle.gr_history.specs.Standing.{standing};
 ghost use Rattle.gr_history.specs.Floor.{floor};
 ghost use Rattle.gr_law.specs.Small.{key, second, history_3, small};
 ghost use Rattle.gr_law.specs.Grids.{Grid, at_place};
-ghost use Rattle.gr_law.specs.Laws.{law_0, law_1, law_2, law_3, law_4, law_5};
+ghost use Rattle.gr_law.specs.Laws.{law_0, law_1, law_2, law_3, same_value, law_4, law_5};
 
 /// Where each history is lawful, and what was taken in was made and what was merged was given: what a
 /// member knows of a key is reached by what stands or by the floor; a new change is greater than each
@@ -16,11 +16,12 @@ pub fn laws_of_sound_records()
 {}
 
 /// Where each report that was heard was made too: what comes in late beats each tombstone of its key
-/// that had expired; what is present is what all that was taken in leaves; and a put that stands beats
-/// each removal of its key that was taken in.
+/// that had expired; what is present is what all that was taken in leaves, so members that took in the
+/// same changes of a key have the same value; and a put that stands beats each removal that was taken in.
 pub fn laws_of_whole_records()
     ensures law_2 { (grid : Grid) → IsWhole grid → law_2 grid }
     ensures law_3 { (grid : Grid) → IsWhole grid → law_3 grid }
+    ensures same_value { (grid : Grid) → IsWhole grid → same_value grid }
     ensures law_4 { (grid : Grid) → IsWhole grid → law_4 grid }
 {}
 
