@@ -1,5 +1,6 @@
 -- Laws 3 to 5.
-use Rattle.std.proofs.Common.{bytes_eq, ◌≡◌, ◌⊎◌, ℕ, ◌≤◌, List, [], ◌∷◌, ◌++◌, Bool, true, false, refl, sym, ap, ◌∙◌, subst, inl, inr, ⊎_elim, arith}
+use Rattle.std.proofs.Common.{bytes_eq, ◌≡◌, ◌⊎◌, ℕ, ◌≤◌, List, [], ◌∷◌, ◌++◌, Bool, true, false, refl, sym, ap, ◌∙◌, subst, inl, inr}
+use Rattle.std.proofs.Common.{⊎_elim, arith}
 use Rattle.std.specs.Prelude.{Option, Some, None}
 use Rattle.gr_history.specs.declared.identity.Identity.{Identity}
 use Rattle.gr_stamp.specs.declared.change.Change.{Change}
@@ -19,7 +20,8 @@ use Rattle.gr_history.specs.Floor.{is_removal, expired_at, expired}
 use Rattle.gr_law.specs.Grids.{identity, Among, Older, Grid}
 use Rattle.gr_law.specs.Integrity.{IsMade, IsGenuine, IsGenuineDeed, IsSound, IsWhole, IsGift, giver_of}
 use Rattle.gr_history.specs.Lawful.{IsLawful}
-use Rattle.gr_law.specs.Laws.{AreAlso, same_value, taken_at, taken, took, IsLate, IsHeld, law_3, law_4, IsGiverLate, AreGiversLate, IsApart, AreApart, law_5}
+use Rattle.gr_law.specs.Laws.{AreAlso, same_value, taken_at, taken, took, IsLate, IsHeld, law_3, law_4, IsGiverLate, AreGiversLate}
+use Rattle.gr_law.specs.Laws.{IsApart, AreApart, law_5}
 use Rattle.gr_law.proofs.Lists.{known_ids, one_name, among_either, among_left, among_right, has_left, has_right, either}
 use Rattle.gr_law.proofs.Winners.{winner-best, Best, IsBest, HasNone, unbeaten-same, bytes_eq-itself, ver-beats}
 use Rattle.gr_law.proofs.Made.{older_past, older_lawful, older_genuine, made_unique}
@@ -29,7 +31,7 @@ use Rattle.gr_law.proofs.Reached.{all_carried}
 use Rattle.gr_law.proofs.Took.{giver_older, giver_lawful, giver_genuine, took_sound}
 use Rattle.gr_law.proofs.Late.{late_greater, law_2-holds}
 use Rattle.gr_law.proofs.Settled.{known_taken, known_took, gone_at, gone, IsSettled, IsAfter, more_settled, again_settled, swept_settled}
-use Rattle.gr_law.proofs.Settled.{imaged_settled}
+use Rattle.gr_law.proofs.Imaged.{imaged_settled}
 
 -- What comes in beats what has expired, and what came in before an image, unknown to it, beats what had expired at the giver.
 abbrev IsOrderlyDeed : Grid → Deed → List Deed → Type 0

@@ -7,6 +7,7 @@ pub mod Reached
 pub mod Took
 pub mod Late
 pub mod Settled
+pub mod Imaged
 pub mod Held
 pub mod Small
 pub mod Growth

@@ -1,11 +1,10 @@
 -- Lists of ids and of changes.
-use Rattle.std.proofs.Common.{zero, suc, ◌≡◌, ◌⊎◌, ℕ, ◌≤◌, ◌<◌, List, [], ◌∷◌, ◌++◌, Bool, true, false, ◌&&◌, ◌||◌, ◌==◌, refl, sym, ap}
-use Rattle.std.proofs.Common.{◌∙◌, inl, inr, ⊎_elim, arith, max, bytes_eq, if◌then◌else◌}
+use Rattle.std.proofs.Common.{zero, suc, ◌≡◌, ◌⊎◌, ℕ, ◌≤◌, ◌<◌, List, [], ◌∷◌, ◌++◌, Bool, true, false, ◌&&◌, ◌||◌, refl, sym, ap}
+use Rattle.std.proofs.Common.{◌∙◌, inl, inr, ⊎_elim, arith, bytes_eq, if◌then◌else◌}
 use Rattle.std.specs.Prelude.{filter}
-use Rattle.std.proofs.lemmas.Bool.Decides.{nat_tests}
 use Rattle.std.proofs.lemmas.Slice.Eq.{bytes_eq-Decides}
 use Rattle.gr_stamp.specs.declared.change.Change.{Change}
-use Rattle.gr_vector.specs.Ids.{Id, has_id, is_same_id, top, covers}
+use Rattle.gr_vector.specs.Ids.{Id, has_id, is_same_id, covers}
 use Rattle.gr_history.specs.Ids.{id_of, ids, known}
 use Rattle.gr_history.specs.Standing.{names}
 use Rattle.gr_law.specs.Grids.{Among}
@@ -75,9 +74,6 @@ has_right id xs ys h = let e : has_id id (xs ++ ys) ≡ (has_id id xs || has_id 
 pub has_either : (id : Id) (xs ys : List Id) → has_id id (xs ++ ys) ≡ true → (has_id id xs ≡ true) ⊎ (has_id id ys ≡ true)
 has_either id xs ys h = let e : has_id id (xs ++ ys) ≡ (has_id id xs || has_id id ys) = has_id-append id xs ys in grind arith
 
-pub same_id_itself : (id : Id) → is_same_id id id ≡ true
-same_id_itself id = grind (arith, nat_tests)
-
 -- the id of these numbers
 abbrev named : ℕ → ℕ → Id
 named member rv = record { member = member; rv = rv }
@@ -87,29 +83,6 @@ one_name one two e f = same one.stamp.member two.stamp.member one.stamp.rv two.s
   where
     same : (a b c d : ℕ) → a ≡ b → c ≡ d → named a c ≡ named b d
     same a b c d e f = cc
-
-pub same_id_same : (one two : Id) → is_same_id one two ≡ true → one ≡ two
-same_id_same one two h =
-    let m : one.member ≡ two.member = grind (arith, nat_tests) in
-    let r : one.rv ≡ two.rv = grind (arith, nat_tests) in
-    same one.member two.member one.rv two.rv m r
-  where
-    same : (a b c d : ℕ) → a ≡ b → c ≡ d → named a c ≡ named b d
-    same a b c d e f = cc
-
--- a number that is there is at most the greatest
-pub has-top : (member rv : ℕ) (ids : List Id) → has_id (record { member = member; rv = rv }) ids ≡ true → rv ≤ top member ids
-has-top member rv [] h = absurd (no h)
-  where
-    no : false ≡ true → ⊥
-    no e = cc
-has-top member rv (first ∷ rest) h =
-    at_first (has_id (record { member = member; rv = rv }) rest) (top member rest) (has-top member rv rest) refl
-  where
-    at_first : (b : Bool) (t : ℕ) → (has_id (record { member = member; rv = rv }) rest ≡ true → rv ≤ t)
-        → has_id (record { member = member; rv = rv }) rest ≡ b
-        → rv ≤ (if first.member == member then max first.rv t else t)
-    at_first b t next e = grind (arith, nat_tests, h)
 
 pub covers-has : (member upto : ℕ) (ids : List Id) → covers member upto ids ≡ true → (rv : ℕ) → 1 ≤ rv → rv ≤ upto
     → has_id (record { member = member; rv = rv }) ids ≡ true

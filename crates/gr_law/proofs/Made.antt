@@ -22,7 +22,9 @@ use Rattle.gr_history.specs.Standing.{present}
 use Rattle.gr_law.specs.Grids.{identity, Among, Older, at_place, Grid}
 use Rattle.gr_law.specs.Integrity.{IsMade, IsGenuine, IsSound}
 use Rattle.gr_history.specs.Lawful.{IsLawful, IsLawfulDeed}
-use Rattle.gr_law.proofs.Lists.{among_either, among_right, has_left, has_right, has-top, same_id_itself, either}
+use Rattle.gr_vector.proofs.Tops.{has-top}
+use Rattle.gr_vector.proofs.Order.{same_id_itself}
+use Rattle.gr_law.proofs.Lists.{among_either, among_right, has_left, has_right, either}
 
 pub older_itself : (h : List Deed) → Older h h
 older_itself [] = refl

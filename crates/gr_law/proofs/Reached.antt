@@ -19,7 +19,8 @@ use Rattle.gr_law.specs.Grids.{identity, Among, Older, Grid}
 use Rattle.gr_law.specs.Integrity.{IsMade, IsGenuine, IsGenuineDeed, IsSound, IsGift, giver_of}
 use Rattle.gr_history.specs.Lawful.{IsLawful, IsLawfulDeed}
 use Rattle.gr_law.specs.Laws.{IsReached, law_0}
-use Rattle.gr_law.proofs.Lists.{known_ids, filter_keeps, has_either, same_id_same, either}
+use Rattle.gr_vector.proofs.Order.{same_id_same}
+use Rattle.gr_law.proofs.Lists.{known_ids, filter_keeps, has_either, either}
 use Rattle.gr_law.proofs.Winners.{bytes_eq-itself}
 use Rattle.gr_law.proofs.Made.{older_past, older_lawful, older_genuine, made_unique, at_place-older}
 use Rattle.gr_law.proofs.Images.{row_stands, stands_row}

@@ -24,7 +24,9 @@ use Rattle.gr_law.specs.Grids.{identity, Among, Older, Grid}
 use Rattle.gr_law.specs.Integrity.{IsMade, IsGenuine, IsGenuineDeed, IsSound}
 use Rattle.gr_history.specs.Lawful.{IsLawful, IsLawfulDeed}
 use Rattle.gr_history.specs.Verdicts.{verdict_over}
-use Rattle.gr_law.proofs.Lists.{among_either, among_left, among_filter, has_left, has_right, has-top, same_id_itself, either, names-filter}
+use Rattle.gr_vector.proofs.Tops.{has-top}
+use Rattle.gr_vector.proofs.Order.{same_id_itself}
+use Rattle.gr_law.proofs.Lists.{among_either, among_left, among_filter, has_left, has_right, either, names-filter}
 use Rattle.gr_law.proofs.Winners.{winner-ver, winner-grows, winner-best, Best, IsBest}
 use Rattle.gr_law.proofs.Made.{older_past, older_made, made_stamped, made_known_at}
 

@@ -12,7 +12,8 @@ use Rattle.gr_law.specs.Grids.{identity, Among, Older, Grid}
 use Rattle.gr_law.specs.Integrity.{IsMade, IsGenuine, IsGenuineDeed, IsSound, giver_of}
 use Rattle.gr_history.specs.Lawful.{IsLawful, IsLawfulDeed}
 use Rattle.gr_law.specs.Laws.{taken_at, taken, took_at, took, law_1}
-use Rattle.gr_law.proofs.Lists.{known_ids, among_either, among_left, has_left, has_right, same_id_itself}
+use Rattle.gr_vector.proofs.Order.{same_id_itself}
+use Rattle.gr_law.proofs.Lists.{known_ids, among_either, among_left, has_left, has_right}
 use Rattle.gr_law.proofs.Made.{older_past, older_lawful, older_genuine, older_made, made_stamped, made_known_at, at_place-older}
 use Rattle.gr_law.proofs.Reached.{law_0-holds}
 
@@ -86,14 +87,14 @@ took_sound grid sound me (deed ∷ past) o law own change a = ⊎_elim
     (among_either change (took_at grid deed) (took grid past) a)
 
 pub law_1-holds : (grid : Grid) → IsSound grid → law_1 grid
-law_1-holds grid sound me deed past o change made_ tombstone a same removes =
+law_1-holds grid sound me deed past o change made_ before a same =
     let o' = older_past deed past (grid.history me) o in
     let law : IsLawful (identity grid me) (grid.opening me) (deed ∷ past) =
     older_lawful (identity grid me) (grid.opening me) (deed ∷ past) (grid.history me) o (sound.lawful me) in
     let own : IsGenuine grid me (deed ∷ past) = older_genuine grid me (deed ∷ past) (grid.history me) o (sound.genuine me) in
-    let s = took_sound grid sound me past o' law.1 own.1 tombstone a in
+    let s = took_sound grid sound me past o' law.1 own.1 before a in
     let t = made_stamped (identity grid me) (grid.opening me) change deed past law.0 made_ in
-    let low : tombstone.stamp.ver ≤ reach (grid.opening me) change.key past =
-    subst (λ k. tombstone.stamp.ver ≤ reach (grid.opening me) k past) same (law_0-holds grid sound me past o' tombstone s.0 s.1) in
+    let low : before.stamp.ver ≤ reach (grid.opening me) change.key past =
+    subst (λ k. before.stamp.ver ≤ reach (grid.opening me) k past) same (law_0-holds grid sound me past o' before s.0 s.1) in
     let v : change.stamp.ver ≡ 1 + (reach (grid.opening me) change.key past) = t.ver_is in
     omega (arith, low, v)

@@ -61,12 +61,11 @@ IsLate (deed ∷ past) =
 abbrev pub law_0 : Grid → Type 0
 law_0 grid = (member : ℕ) (past : List Deed) → Older past (grid.history member) → IsReached grid (grid.opening member) past
 
--- Law 1: what is made has a greater version than each removal of its key that its maker had taken in.
+-- Law 1: what is made has a greater version than each change of its key that its maker had taken in.
 abbrev pub law_1 : Grid → Type 0
 law_1 grid = (member : ℕ) (deed : Deed) (past : List Deed) → Older (deed ∷ past) (grid.history member) → (change : Change)
     → Among change (made_at deed)
-    → (tombstone : Change) → Among tombstone (took grid past) → tombstone.key ≡ change.key → is_removal tombstone.kind ≡ true
-    → tombstone.stamp.ver < change.stamp.ver
+    → (before : Change) → Among before (took grid past) → before.key ≡ change.key → before.stamp.ver < change.stamp.ver
 
 abbrev pub law_2 : Grid → Type 0
 law_2 grid = (member : ℕ) → IsLate (grid.history member)

@@ -7,8 +7,8 @@ ghost use Rattle.gr_law.specs.Grids.{Grid, at_place};
 ghost use Rattle.gr_law.specs.Laws.{law_0, law_1, law_2, law_3, same_value, law_4, law_5};
 
 /// Where each history is lawful, and what was taken in was made and what was merged was given: what a
-/// member knows of a key is reached by what stands or by the floor; a new change is greater than each
-/// removal of its key that its maker had taken in; and an image carries on what its giver had.
+/// member knows of a key is reached by what stands or by the floor; a new change has a greater version
+/// than all of its key that its maker had taken in; and an image carries on what its giver had.
 pub fn laws_of_sound_records()
     ensures law_0 { (grid : Grid) → IsSound grid → law_0 grid }
     ensures law_1 { (grid : Grid) → IsSound grid → law_1 grid }
