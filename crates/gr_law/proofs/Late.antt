@@ -23,7 +23,7 @@ use Rattle.gr_law.specs.Integrity.{IsMade, IsGenuine, IsSound, IsWhole, IsHeardD
 use Rattle.gr_history.specs.Lawful.{IsLawful, IsLawfulDeed}
 use Rattle.gr_history.specs.Gifts.{IsReportOf}
 use Rattle.gr_law.specs.Laws.{IsLate, law_2}
-use Rattle.gr_law.proofs.Lists.{known_ids, among_either, covers-has, either}
+use Rattle.gr_law.proofs.Lists.{and_left, and_right, cases_le, known_ids, among_either, covers-has, either}
 use Rattle.gr_law.proofs.Winners.{ver-beats, bytes_eq-itself}
 use Rattle.gr_law.proofs.Made.{older_past, older_trans, older_itself, older_lawful, older_genuine, older_ids, made_stamped, made_known}
 use Rattle.gr_law.proofs.Made.{made_member, made_below}
@@ -91,9 +91,6 @@ due_stable id moment from past change h =
     and_right (nat_le timeout (max moment (clock past) - from)) (is_stable_upto id.member id.members (id_of change) past)
     (and_right (is_removal change.kind) (nat_le timeout (max moment (clock past) - from)
     && is_stable_upto id.member id.members (id_of change) past) h)
-  where
-    and_right : (a b : Bool) → (a && b) ≡ true → b ≡ true
-    and_right a b h = grind arith
 
 expired_here : (id : Identity) (opening : ℕ) (deed : Deed) (past : List Deed) → IsLawfulDeed id opening deed past
     → (tombstone : Change) → Among tombstone (expired_at deed past) → IsExpired id past tombstone
@@ -139,15 +136,6 @@ stable_of : (me members : ℕ) (id : Id) (past : List Deed) → is_stable_upto m
 stable_of me zero id past h i from to = absurd (omega (arith, from, to))
 stable_of me (suc n) id past h i from to = at_last (cases_le i n) (λ le. stable_of me n id past (and_right _ _ h) i from le)
   where
-    and_left : (a b : Bool) → (a && b) ≡ true → a ≡ true
-    and_left a b h = grind arith
-
-    and_right : (a b : Bool) → (a && b) ≡ true → b ≡ true
-    and_right a b h = grind arith
-
-    cases_le : (a b : ℕ) → (a ≤ b) ⊎ (b < a)
-    cases_le a b = grind arith
-
     one_of : (c : Bool) → ((suc n == me) || c) ≡ true → (suc n ≡ me) ⊎ (c ≡ true)
     one_of c h = grind (arith, nat_tests)
 
@@ -227,12 +215,6 @@ seen_at grid whole past heard i id (Some report) e h =
       known = sym (known_ids report.vector.ids r.0 is.vector_is id) ∙ and_left _ _ h;
       covered = λ rv from to. covers-has i report.own (ids past) (and_right _ _ h) rv from (rw is.own_is to);
     }
-  where
-    and_left : (a b : Bool) → (a && b) ≡ true → a ≡ true
-    and_left a b h = grind arith
-
-    and_right : (a b : Bool) → (a && b) ≡ true → b ≡ true
-    and_right a b h = grind arith
 
 -- A change of another member, whose maker was seen, is greater than what it had seen.
 pub seen_greater : (grid : Grid) → IsSound grid → (past : List Deed) → (tombstone change : Change) → IsMade grid tombstone

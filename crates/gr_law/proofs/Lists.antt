@@ -16,6 +16,15 @@ pub either : (b : Bool) → (b ≡ true) ⊎ (b ≡ false)
 either true = inl refl
 either false = inr refl
 
+pub and_left : (a b : Bool) → (a && b) ≡ true → a ≡ true
+and_left a b h = grind arith
+
+pub and_right : (a b : Bool) → (a && b) ≡ true → b ≡ true
+and_right a b h = grind arith
+
+pub cases_le : (a b : ℕ) → (a ≤ b) ⊎ (b < a)
+cases_le a b = grind arith
+
 pub among_left : {A : Type 0} → (x : A) (xs ys : List A) → Among x xs → Among x (xs ++ ys)
 among_left x [] ys h = absurd h
 among_left x (first ∷ rest) ys (inl is) = inl is
@@ -89,15 +98,6 @@ pub covers-has : (member upto : ℕ) (ids : List Id) → covers member upto ids 
 covers-has member zero ids h rv from to = absurd (omega arith)
 covers-has member (suc n) ids h rv from to = at_last (covers-has member n ids) (cases_le rv n)
   where
-    and_left : (a b : Bool) → (a && b) ≡ true → a ≡ true
-    and_left a b h = grind arith
-
-    and_right : (a b : Bool) → (a && b) ≡ true → b ≡ true
-    and_right a b h = grind arith
-
-    cases_le : (a b : ℕ) → (a ≤ b) ⊎ (b < a)
-    cases_le a b = grind arith
-
     at_last : (covers member n ids ≡ true → (rv : ℕ) → 1 ≤ rv → rv ≤ n → has_id (record { member = member; rv = rv }) ids ≡ true)
         → (rv ≤ n) ⊎ (n < rv) → has_id (record { member = member; rv = rv }) ids ≡ true
     at_last next (inl le) = next (and_right _ _ h) rv from le

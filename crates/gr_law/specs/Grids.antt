@@ -3,6 +3,7 @@ use Rattle.std.specs.Prelude.{◌≡◌, ◌⊎◌, ◌∷◌, [], ℕ, suc, Lis
 use Rattle.gr_history.specs.declared.identity.Identity.{Identity}
 use Rattle.gr_history.specs.declared.deed.Deed.{Deed}
 
+-- x is one of these
 abbrev pub Among : {A : Type 0} → A → List A → Type 0
 Among x [] = ⊥
 Among x (first ∷ rest) = (x ≡ first) ⊎ Among x rest
@@ -26,12 +27,12 @@ pub record Grid : Type 0 where
   pub opening : ℕ → ℕ
   pub history : ℕ → List Deed
 
+-- whose history it is
 abbrev pub identity : Grid → ℕ → Identity
 identity grid member = record {
   member = member;
   members = grid.members;
   founders = grid.founders;
   shard = grid.shard;
-  shards =
-      grid.shards;
+  shards = grid.shards;
 }

@@ -14,6 +14,7 @@ use Rattle.gr_history.specs.declared.image.What.TheVariants as what
 abbrev pub IsMade : Grid → Change → Type 0
 IsMade grid change = Among change (made (grid.history change.stamp.member))
 
+-- the giver's history at the place where it gave the image
 abbrev pub giver_of : Grid → Image → List Deed
 giver_of grid image = at_place image.at (grid.history image.from)
 

@@ -30,6 +30,7 @@ abbrev pub taken : List Deed → List Change
 taken [] = []
 taken (deed ∷ past) = taken_at deed ++ taken past
 
+-- the same, where an image brings what its giver had made or taken in by then
 abbrev pub took_at : Grid → Deed → List Change
 took_at grid (Call client seq ask reply made to) = option_to_list made
 took_at grid (Taken change verdict) = change ∷ []
@@ -57,7 +58,7 @@ IsLate (deed ∷ past) =
     → beats change.stamp tombstone.stamp ≡ true)
     × IsLate past
 
--- at each place of each history
+-- Law 0: so it is at each place of each history.
 abbrev pub law_0 : Grid → Type 0
 law_0 grid = (member : ℕ) (past : List Deed) → Older past (grid.history member) → IsReached grid (grid.opening member) past
 
@@ -67,6 +68,7 @@ law_1 grid = (member : ℕ) (deed : Deed) (past : List Deed) → Older (deed ∷
     → Among change (made_at deed)
     → (before : Change) → Among before (took grid past) → before.key ≡ change.key → before.stamp.ver < change.stamp.ver
 
+-- Law 2: so it is of each history.
 abbrev pub law_2 : Grid → Type 0
 law_2 grid = (member : ℕ) → IsLate (grid.history member)
 
@@ -76,6 +78,7 @@ pub record IsHeld (grid : Grid) (key : List ℕ) (past : List Deed) : Type 0 whe
   pub stands : (change : Change) → winner key (took grid past) ≡ Some change → is_removal change.kind ≡ false
       → standing key past ≡ Some change
 
+-- Law 3: so it is at each place of each history.
 abbrev pub law_3 : Grid → Type 0
 law_3 grid = (member : ℕ) (past : List Deed) → Older past (grid.history member) → (key : List ℕ) → IsHeld grid key past
 
