@@ -1,0 +1,13 @@
+pub mod Lists
+pub mod Winners
+pub mod Made
+pub mod Steps
+pub mod Images
+pub mod Reached
+pub mod Took
+pub mod Late
+pub mod Settled
+pub mod Imaged
+pub mod Held
+pub mod Small
+pub mod Growth

@@ -1,0 +1,4 @@
+pub mod Grids
+pub mod Integrity
+pub mod Laws
+pub mod Small

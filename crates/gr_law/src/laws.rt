@@ -1,0 +1,35 @@
+ghost use Rattle.gr_law.specs.Integrity.{IsSound, IsWhole};
+ghost use Rattle.std.specs.Prelude.{◌≡◌, Some, None};
+ghost use Rattle.gr_history.specs.Standing.{standing};
+ghost use Rattle.gr_history.specs.Floor.{floor};
+ghost use Rattle.gr_law.specs.Small.{key, second, history_3, small};
+ghost use Rattle.gr_law.specs.Grids.{Grid, at_place};
+ghost use Rattle.gr_law.specs.Laws.{law_0, law_1, law_2, law_3, same_value, law_4, law_5};
+
+/// Where each history is lawful, and what was taken in was made and what was merged was given: what a
+/// member knows of a key is reached by what stands or by the floor; a new change has a greater version
+/// than all of its key that its maker had taken in; and an image carries on what its giver had.
+pub fn laws_of_sound_records()
+    ensures law_0 { (grid : Grid) → IsSound grid → law_0 grid }
+    ensures law_1 { (grid : Grid) → IsSound grid → law_1 grid }
+    ensures law_5 { (grid : Grid) → IsSound grid → law_5 grid }
+{}
+
+/// Where each report that was heard was made too: what comes in late beats each tombstone of its key
+/// that had expired; what is present is what all that was taken in leaves, so members that took in the
+/// same changes of a key have the same value; and a put that stands beats each removal that was taken in.
+pub fn laws_of_whole_records()
+    ensures law_2 { (grid : Grid) → IsWhole grid → law_2 grid }
+    ensures law_3 { (grid : Grid) → IsWhole grid → law_3 grid }
+    ensures same_value { (grid : Grid) → IsWhole grid → same_value grid }
+    ensures law_4 { (grid : Grid) → IsWhole grid → law_4 grid }
+{}
+
+/// There are whole records with removals, reports, sweeps and images, so the laws aren't empty: in this
+/// one an image drops a tombstone, and the put that is made after it stands.
+pub fn a_small_record_is_whole()
+    ensures whole { IsWhole small }
+    ensures dropped { standing key (at_place 4 history_3) ≡ None }
+    ensures floor { floor 0 history_3 ≡ 2 }
+    ensures stands { standing key history_3 ≡ Some second }
+{}

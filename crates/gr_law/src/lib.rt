@@ -1,0 +1,6 @@
+//! Laws of the histories of several members at one shard.
+#![tactic(auto)]
+
+mod laws;
+
+pub use laws::{a_small_record_is_whole, laws_of_sound_records, laws_of_whole_records};
