@@ -12,6 +12,7 @@ use Rattle.gr_script.specs.declared.script.Script.{Script as TheScript}
 use Rattle.gr_script.specs.Rules.{Heading, IsScript}
 use Rattle.gr_script.specs.Scripts.{heading_of}
 use Rattle.gr_script.specs.Spelling.{IsSpelled}
+use Rattle.gr_world.specs.Histories.{KeepsLaws}
 use Rattle.gr_world.specs.Replayed.{IsReplayed}
 use Rattle.gr_top.specs.declared.cause.Cause.{Cause}
 use Rattle.gr_top.specs.declared.cause.Cause.TheVariants.{Finished, Usage, ReadFault, TooLarge, Script, WriteFault, Memory}
@@ -44,11 +45,12 @@ pub record IsWhole (source : Stream) (text : List ℕ) : Type 0 where
   pub ended : IsAtEnd source.bytes_after
   pub fits : length text ≤ most_bytes
 
--- The text is a script, and the record is the one that its lines define.
-pub record IsRecordOf (text : List ℕ) (left : Record) : Type 0 where
+-- The text is a script, and the record is the one that its lines define. Its histories keep the laws of records.
+pub record IsRecordOfScript (text : List ℕ) (record_of : Record) : Type 0 where
   pub script : TheScript
   pub spelled : IsSpelled text (heading_of script) script.lines
-  pub replayed : IsReplayed script left
+  pub replayed : IsReplayed script record_of
+  pub laws : KeepsLaws script record_of
 
 abbrev pub IsNoScript : List ℕ → Type 0
 IsNoScript text = (h : Heading) (lines : List Line) → IsScript h lines → IsSpelled text h lines → ⊥
@@ -75,10 +77,10 @@ pub record IsTooLarge (source : Stream) (bytes lines : ℕ) : Type 0 where
   pub no_lines : lines ≡ 0
 
 -- The record is that of a script, which is all that the source had.
-pub record IsReplayOf (source : Stream) (left : Record) : Type 0 where
+pub record IsReplayOf (source : Stream) (record_of : Record) : Type 0 where
   pub text : List ℕ
   pub whole : IsWhole source text
-  pub record_of : IsRecordOf text left
+  pub of_script : IsRecordOfScript text record_of
 
 -- No more was taken of the source than a script may have.
 abbrev pub IsWithin : Stream → Type 0
@@ -90,13 +92,13 @@ Counted stream = Rose stream.faults_before stream.faults_after
 -- What each cause says of the source, the sink and the record that was kept.
 abbrev pub Explains : Stream → Stream → Option Record → Cause → Type 0
 Explains source sink kept Finished =
-    IsSomeAnd kept (λ left. IsReplayOf source left × Appends sink.bytes_before sink.bytes_after (record_text left))
+    IsSomeAnd kept (λ record_of. IsReplayOf source record_of × Appends sink.bytes_before sink.bytes_after (record_text record_of))
 Explains source sink kept (Usage place) = (kept ≡ None) × IsUntouched source × IsUntouched sink
 Explains source sink kept ReadFault = (kept ≡ None) × Counted source × IsWithin source × IsUntouched sink
 Explains source sink kept (TooLarge bytes lines) = (kept ≡ None) × IsTooLarge source bytes lines × IsUntouched sink
 Explains source sink kept (Script fault) = (kept ≡ None) × IsRefused source fault × IsUntouched sink
 Explains source sink kept WriteFault =
-    IsSomeAnd kept (λ left. IsReplayOf source left × AppendsPart sink.bytes_before sink.bytes_after (record_text left)) × Counted sink
+    IsSomeAnd kept (λ record_of. IsReplayOf source record_of × AppendsPart sink.bytes_before sink.bytes_after (record_text record_of)) × Counted sink
 Explains source sink kept Memory = IfSome kept (IsReplayOf source) × IsWithin source × IsUntouched sink
 
 -- The cause explains it whatever sink stood by untouched, with no record kept.

@@ -45,17 +45,17 @@ fn record_from<S: Source>(alloc: Global, source: &mut S) -> Result<Record, Cause
 {
     let script = script_from(alloc, source)?;
     match replay(alloc, &script) {
-        Ok(left) => Ok(left),
+        Ok(record_of) => Ok(record_of),
         Err(_) => Err(Cause::Memory),
     }
 }
 
-fn print<K: Sink>(alloc: Global, sink: &mut K, left: &Record) -> Cause
-    ensures explained { (source : Stream) → IsReplayOf source left.now
-        → Explains source (stream (K.held sink.old) (K.held sink.new) (K.faults sink.old) (K.faults sink.new)) (Some left.now) result }
+fn print<K: Sink>(alloc: Global, sink: &mut K, record_of: &Record) -> Cause
+    ensures explained { (source : Stream) → IsReplayOf source record_of.now
+        → Explains source (stream (K.held sink.old) (K.held sink.new) (K.faults sink.old) (K.faults sink.new)) (Some record_of.now) result }
     ensures understood { IsNoUsage result }
 {
-    match report(alloc, left) {
+    match report(alloc, record_of) {
         Err(_) => Cause::Memory,
         Ok(text) => match write_all(sink, text.as_slice()) {
             Ok(()) => Cause::Finished,
@@ -97,9 +97,9 @@ pub fn replay_words<S: Source, K: Sink>(
     }
     match record_from(alloc, source) {
         Err(cause) => ended(cause, None),
-        Ok(left) => {
-            let cause = print(alloc, sink, &left);
-            ended(cause, Some(left))
+        Ok(record_of) => {
+            let cause = print(alloc, sink, &record_of);
+            ended(cause, Some(record_of))
         }
     }
 }

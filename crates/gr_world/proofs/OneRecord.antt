@@ -69,7 +69,7 @@ one_past id opening (asking ∷ askings) (deed ∷ past) (last ∷ others) lawfu
     ∙ sym (deed_is id opening last others asking also.0 there) in
     ap (λ d. d ∷ past) first ∙ ap (λ ds. last ∷ ds) before
 
-turned : (deeds : List Deed) (askings : List Asking) → AskJust deeds askings → AskJust (reverse deeds) (reverse askings)
+pub turned : (deeds : List Deed) (askings : List Asking) → AskJust deeds askings → AskJust (reverse deeds) (reverse askings)
 turned deeds askings asked =
     map-reverse asking_of deeds ∙ ap (λ xs. reverse xs) asked ∙ sym (map-reverse (λ asking. Some asking) askings)
 
@@ -128,7 +128,7 @@ one_shards script member shard (left ∷ rest) (first ∷ others) all also =
     ap (λ s. s ∷ map trimmed_shard rest) (one_shard script member shard left first all.0 also.0)
     ∙ ap (λ ss. trimmed_shard first ∷ ss) (one_shards script member (shard + 1) rest others all.1 also.1)
 
-members_within : (script : Script) (number : ℕ) (lefts : List MemberRecord) → AreMemberRecords script number lefts
+pub members_within : (script : Script) (number : ℕ) (lefts : List MemberRecord) → AreMemberRecords script number lefts
     → number ≤ script.members + 1
 members_within script number [] all = omega (arith, all)
 members_within script number (left ∷ rest) all = omega (arith, members_within script (number + 1) rest all.2)

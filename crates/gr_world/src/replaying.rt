@@ -1,4 +1,5 @@
 ghost use Rattle.std.specs.Prelude.{IfOk};
+ghost use Rattle.gr_world.specs.Histories.{KeepsLaws};
 ghost use Rattle.gr_world.specs.Plays.{IsSingle};
 ghost use Rattle.gr_world.specs.Replayed.{IsOnlyReplayed, IsReplayed};
 
@@ -16,6 +17,9 @@ use std::alloc::Global;
 pub fn replay(alloc: Global, script: &Script) -> Result<Record, Memory>
     ensures replayed { IfOk result (IsReplayed script.now) }
     ensures one { IfOk result (IsOnlyReplayed script.now) }
+
+    // Members that took in the same changes have the same values, and no removed value is back.
+    ensures laws { IfOk result (KeepsLaws script.now) }
 {
     let id = Identity {
         member: 1,

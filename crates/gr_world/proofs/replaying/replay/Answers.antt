@@ -1,5 +1,6 @@
 use Rattle.std.proofs.Common.{arith}
 use Rattle.std.proofs.lemmas.Grind.{common_steps}
+use Rattle.gr_world.proofs.Abiding.{abiding_record}
 use Rattle.gr_world.proofs.Follows.{follows-listed}
 use Rattle.gr_world.proofs.OneRecord.{only_record}
 use Rattle.gr_world.proofs.replaying.replay.Goals as goal
@@ -12,3 +13,6 @@ loop-line-preserved c =
 
 pub returns-clause-one : goal.returns-clause-one
 returns-clause-one c = only_record c.args.script.now c.record_of.result (grind (arith, common_steps))
+
+pub returns-clause-laws : goal.returns-clause-laws
+returns-clause-laws c = abiding_record c.args.script.now c.record_of.result (grind (arith, common_steps))
