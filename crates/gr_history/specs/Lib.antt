@@ -9,6 +9,7 @@ pub mod Lawful
 pub mod Made
 pub mod Recipients
 pub mod Regions
+pub mod Rows
 pub mod Stable
 pub mod Standing
 pub mod Verdicts

@@ -9,6 +9,7 @@ mod identity;
 mod image;
 mod record;
 mod reply;
+mod rows;
 mod verdict;
 
 pub use ask::Ask;
@@ -22,4 +23,7 @@ pub use record::{
     Region, ShardRecord, ShardRecordList,
 };
 pub use reply::{Reply, Told};
+pub use rows::{
+    a_joiner_waits_for_its_image, a_late_put_is_discarded, a_put_passes_an_expired_tombstone,
+};
 pub use verdict::Verdict;
