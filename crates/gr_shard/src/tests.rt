@@ -146,6 +146,9 @@ fn changed(change: &Option<Kind>) -> Option<i64> {
     }
 }
 
+// What threads may hand to each other and read at the same time.
+fn may_be_shared<T: Send + Sync>(_shared: &T) {}
+
 // Each operation, naming the values 1 and 2, where no value is present (0), and where 1 or 2 is.
 #[test]
 fn operations_answer_by_their_table(rt: HostRuntime) -> Result<(), Fail> {
@@ -169,6 +172,7 @@ fn operations_answer_by_their_table(rt: HostRuntime) -> Result<(), Fail> {
     ];
     for (word, present, reply, change) in cases {
         let asked = ask(rt.alloc(), word, 1, 2)?;
+        may_be_shared(&asked);
         let here = value(rt.alloc(), present)?;
         let told = tells(rt.alloc(), &asked, Some(&here).filter(|_| present > 0))?;
         assert_eq!(rt; said(&told.reply), reply);
