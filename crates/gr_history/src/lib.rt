@@ -7,6 +7,7 @@ mod done;
 mod history;
 mod identity;
 mod image;
+mod query_ask;
 mod record;
 mod reply;
 mod rows;
@@ -18,6 +19,7 @@ pub use done::Done;
 pub use history::History;
 pub use identity::Identity;
 pub use image::{Gift, Image, What};
+pub use query_ask::QueryAsk;
 pub use record::{
     Answer, AnswerList, ClientRecord, ClientRecordList, MemberRecord, MemberRecordList, Record,
     Region, ShardRecord, ShardRecordList,

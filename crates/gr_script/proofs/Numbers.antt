@@ -42,6 +42,14 @@ steps_before client l past =
     ap (steps_of client) (reverse-append (l ∷ []) past) ∙ filter_map-append (step_of client) (reverse past) (l ∷ [])
     ∙ ap (λ (s : List Step). steps_of client (reverse past) ++ s) (one_or_none (step_of client l))
 
+-- a line that is none of the client's steps
+none_numbered : (client : ℕ) (l : Line) (past : List Line) (steps : List Step) → step_of client l ≡ None → Numbered client past steps
+    → Numbered client (l ∷ past) (steps ++ option_to_list (step_of client l))
+none_numbered client l past steps none so_far =
+    let count : step_count client (l ∷ past) ≡ length steps = counts client l past None none ∙ omega (arith, so_far.1) in
+    subst (λ (f : Option Step). Numbered client (l ∷ past) (steps ++ option_to_list f)) (sym none)
+    (subst (Numbered client (l ∷ past)) (sym (append-nil steps)) (so_far.0, count))
+
 more_numbered : (h : Heading) (client own seq : ℕ) (act : Act) (past : List Line) (steps : List Step) (test : Bool) → eqb own client ≡ test
     → seq ≡ step_count own past + 1 → Numbered client past steps
     → Numbered client (line.Step own seq act ∷ past) (steps ++ option_to_list (step_of client (line.Step own seq act)))
@@ -57,11 +65,13 @@ more_numbered h client own seq act past steps true is next so_far =
     subst (λ (f : Option Step). Numbered client (l ∷ past) (steps ++ option_to_list f)) (sym found)
     (numbered_more 1 steps step so_far.0 number, count)
 more_numbered h client own seq act past steps false is next so_far =
-    let l : Line = line.Step own seq act in
-    let found = found_is client own seq act false is in
-    let count : step_count client (l ∷ past) ≡ length steps = counts client l past None found ∙ omega (arith, so_far.1) in
-    subst (λ (f : Option Step). Numbered client (l ∷ past) (steps ++ option_to_list f)) (sym found)
-    (subst (Numbered client (l ∷ past)) (sym (append-nil steps)) (so_far.0, count))
+    none_numbered client (line.Step own seq act) past steps (found_is client own seq act false is) so_far
+
+past_none : (client : ℕ) (l : Line) (past : List Line) → step_of client l ≡ None → Numbered client past (steps_of client (reverse past))
+    → Numbered client (l ∷ past) (steps_of client (reverse (l ∷ past)))
+past_none client l past none so_far =
+    subst (Numbered client (l ∷ past)) (sym (steps_before client l past))
+    (none_numbered client l past (steps_of client (reverse past)) none so_far)
 
 numbered_past : (h : Heading) (client : ℕ) (past : List Line) → AllStand h past → Numbered client past (steps_of client (reverse past))
 numbered_past h client [] all = (tt, refl)
@@ -69,6 +79,16 @@ numbered_past h client (line.Step own seq act ∷ past) all =
     subst (Numbered client (line.Step own seq act ∷ past)) (sym (steps_before client (line.Step own seq act) past))
     (more_numbered h client own seq act past (steps_of client (reverse past)) (eqb own client) refl all.0.1
     (numbered_past h client past all.1))
+numbered_past h client (line.Deliver to of seq ∷ past) all =
+    past_none client (line.Deliver to of seq) past refl (numbered_past h client past all.1)
+numbered_past h client (line.Report member ∷ past) all =
+    past_none client (line.Report member) past refl (numbered_past h client past all.1)
+numbered_past h client (line.Hear by of number ∷ past) all =
+    past_none client (line.Hear by of number) past refl (numbered_past h client past all.1)
+numbered_past h client (line.Sweep member moment ∷ past) all =
+    past_none client (line.Sweep member moment) past refl (numbered_past h client past all.1)
+numbered_past h client (line.Join member from ∷ past) all =
+    past_none client (line.Join member from) past refl (numbered_past h client past all.1)
 
 pub steps_numbered : (h : Heading) (client : ℕ) (lines : List Line) → AllStand h (reverse lines) → AreNumbered 1 (steps_of client lines)
 steps_numbered h client lines all =

@@ -14,7 +14,6 @@ pub mod Refusals
 pub mod Rules
 pub mod Sayings
 pub mod Scripts
-pub mod Spelling
 pub mod Steps
 pub mod Stops
 pub mod Tallies

@@ -75,7 +75,7 @@ heading_at lines = do
   members ← fixed_line (codes "members 1 1") region.1
   shards ← fixed_line (codes "shards 1") members
   clients ← fixed_line (codes "client 1 at 1") shards
-  Ok (heading region.0 1 1 1 (1 ∷ []), clients)
+  Ok (heading region.0 1 1 1 16 0 0 (1 ∷ []), clients)
 
 -- ---- the lines behind it
 

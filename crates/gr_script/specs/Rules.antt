@@ -1,23 +1,40 @@
 -- What every script keeps.
-use Rattle.std.specs.Prelude.{◌≡◌, ℕ, ◌+◌, ◌≤◌, List, [], ◌∷◌, length, reverse, Bool, false, ◌&&◌, ◌||◌, ◌==◌, not, nat_le, IsTrue}
+use Rattle.std.specs.Prelude.{◌≡◌, ℕ, ◌-◌, ◌+◌, ◌≤◌, ◌<◌, List, [], ◌∷◌, length, reverse, slice_index, Bool, false, ◌&&◌, ◌||◌, ◌==◌, not}
+use Rattle.std.specs.Prelude.{nat_le, IsTrue}
 use Rattle.std.specs.List.{list_all}
 use Rattle.std.specs.Coded.{le_prop, Coded-set, codes}
 use Rattle.std.specs.Char.{is_ascii_digit, is_ascii_alphanumeric}
+use Rattle.gr_history.specs.declared.query_ask.QueryAsk.{QueryAsk}
+use Rattle.gr_history.specs.declared.query_ask.QueryAsk.TheVariants as query
+use Rattle.gr_script.specs.declared.line.Act.{Act}
+use Rattle.gr_script.specs.declared.line.Act.TheVariants.{Call, Query, Peek}
 use Rattle.gr_script.specs.declared.line.Line.{Line}
-use Rattle.gr_script.specs.declared.line.Line.TheVariants.{Step}
-use Rattle.gr_script.specs.Steps.{step_count}
+use Rattle.gr_script.specs.declared.line.Line.TheVariants.{Step, Deliver, Report, Hear, Sweep, Join}
+use Rattle.gr_script.specs.Steps.{step_count, reports_of, joins_of, opens, queries, reports, hears, sweeps}
 
--- what stands before the lines: whom a script names
+-- what stands before the lines
 pub record Heading : Type 0 where
   pub region : List ℕ
   pub members : ℕ
   pub founders : ℕ
   pub shards : ℕ
+  pub inbox : ℕ
+  pub trouble : ℕ
+  pub floor : ℕ
+  -- the member of each client
   pub clients : List ℕ
 
-abbrev pub heading : List ℕ → ℕ → ℕ → ℕ → List ℕ → Heading
-heading region members founders shards clients =
-    record { region = region; members = members; founders = founders; shards = shards; clients = clients }
+abbrev pub heading : List ℕ → ℕ → ℕ → ℕ → ℕ → ℕ → ℕ → List ℕ → Heading
+heading region members founders shards inbox trouble floor clients = record {
+  region = region;
+  members = members;
+  founders = founders;
+  shards = shards;
+  inbox = inbox;
+  trouble = trouble;
+  floor = floor;
+  clients = clients;
+}
 
 -- letters, digits and _
 abbrev pub is_word_byte : ℕ → Bool
@@ -36,21 +53,63 @@ abbrev pub is_region : List ℕ → Bool
 is_region [] = false
 is_region (first ∷ word) = first == 0x2F && is_word word
 
--- There is one member, a founder, with one shard and one client.
+-- from the one number to the other
+abbrev pub IsWithin : ℕ → ℕ → ℕ → Type 0
+IsWithin least most number = (least ≤ number) × (number ≤ most)
+
+abbrev pub AreWithin : ℕ → ℕ → List ℕ → Type 0
+AreWithin least most [] = Unit {0}
+AreWithin least most (number ∷ numbers) = IsWithin least most number × AreWithin least most numbers
+
 pub record IsHeading (h : Heading) : Type 0 where
   pub named : IsTrue (is_region h.region)
-  pub one_member : h.members ≡ 1
-  pub one_founder : h.founders ≡ 1
-  pub one_shard : h.shards ≡ 1
-  pub one_client : h.clients ≡ 1 ∷ []
+  pub members : IsWithin 1 8 h.members
+  pub founders : IsWithin 1 h.members h.founders
+  pub shards : IsWithin 1 32 h.shards
+  pub inbox : IsWithin 1 4096 h.inbox
+  pub trouble : h.trouble ≤ 2147483646
+  pub floor : h.floor ≤ 281474976710655
+  pub few_clients : length h.clients ≤ 64
+  pub at_members : AreWithin 1 h.members h.clients
+
+abbrev pub IsMember : Heading → ℕ → Type 0
+IsMember h member = IsWithin 1 h.members member
 
 -- Clients are numbered from 1.
 abbrev pub IsStated : ℕ → Heading → Type 0
-IsStated client h = (1 ≤ client) × (client ≤ length h.clients)
+IsStated client h = IsWithin 1 (length h.clients) client
+
+-- the client's member
+abbrev pub home_of : Heading → ℕ → ℕ
+home_of h client = slice_index h.clients (client - 1)
+
+-- two numbers that aren't the same
+abbrev pub Differ : ℕ → ℕ → Type 0
+Differ one other = IsTrue (not (one == other))
+
+-- whether a client may ask this of a query, behind the earlier lines
+abbrev pub QuerySuits : Heading → List Line → QueryAsk → Type 0
+QuerySuits h past (query.Enrol name query) = (query.asked.region ≡ h.region) × (opens past < 16) × (queries past < 10000)
+QuerySuits h past (query.Stop name) = queries past < 10000
+QuerySuits h past (query.Close name) = queries past < 10000
+QuerySuits h past (query.Fetch name) = queries past < 10000
+
+abbrev pub ActSuits : Heading → List Line → Act → Type 0
+ActSuits h past (Call ask) = Unit {0}
+ActSuits h past (Query ask) = QuerySuits h past ask
+ActSuits h past (Peek key) = Unit {0}
 
 -- Whether a line may stand behind those before it, which are listed the last one first.
 abbrev pub StandsAfter : Heading → List Line → Line → Type 0
-StandsAfter h past (Step client seq act) = IsStated client h × (seq ≡ step_count client past + 1)
+StandsAfter h past (Step client seq act) = IsStated client h × (seq ≡ step_count client past + 1) × ActSuits h past act
+StandsAfter h past (Deliver to client seq) =
+    IsMember h to × IsStated client h × IsWithin 1 (step_count client past) seq × Differ to (home_of h client)
+StandsAfter h past (Report member) = IsMember h member × (reports past < 200)
+StandsAfter h past (Hear by of number) =
+    IsMember h by × IsMember h of × IsWithin 1 (reports_of of past) number × Differ by of × (hears past < 1400)
+StandsAfter h past (Sweep member moment) = IsMember h member × (moment ≤ 4294967295) × (sweeps past < 10000)
+StandsAfter h past (Join member from) =
+    (h.founders < member) × (member ≤ h.members) × IsWithin 1 h.founders from × (joins_of member past ≡ 0)
 
 abbrev pub AllStand : Heading → List Line → Type 0
 AllStand h [] = Unit {0}
@@ -61,11 +120,31 @@ pub record IsScript (h : Heading) (lines : List Line) : Type 0 where
   pub heading : IsHeading h
   pub lines_stand : AllStand h (reverse lines)
 
+AreWithin-prop : (least most : ℕ) (numbers : List ℕ) → IsProp (AreWithin least most numbers)
+AreWithin-prop least most [] = hlevel
+AreWithin-prop least most (number ∷ numbers) = hlevel (le_prop, AreWithin-prop least most numbers)
+
 IsHeading-prop : (h : Heading) → IsProp (IsHeading h)
-IsHeading-prop h = hlevel (Coded-set, codes)
+IsHeading-prop h = hlevel (le_prop, Coded-set, codes, AreWithin-prop 1 h.members h.clients)
+
+QuerySuits-prop : (h : Heading) (past : List Line) (ask : QueryAsk) → IsProp (QuerySuits h past ask)
+QuerySuits-prop h past (query.Enrol name query) = hlevel (le_prop, Coded-set, codes)
+QuerySuits-prop h past (query.Stop name) = hlevel (le_prop, Coded-set, codes)
+QuerySuits-prop h past (query.Close name) = hlevel (le_prop, Coded-set, codes)
+QuerySuits-prop h past (query.Fetch name) = hlevel (le_prop, Coded-set, codes)
+
+ActSuits-prop : (h : Heading) (past : List Line) (act : Act) → IsProp (ActSuits h past act)
+ActSuits-prop h past (Call ask) = hlevel
+ActSuits-prop h past (Query ask) = QuerySuits-prop h past ask
+ActSuits-prop h past (Peek key) = hlevel
 
 StandsAfter-prop : (h : Heading) (past : List Line) (line : Line) → IsProp (StandsAfter h past line)
-StandsAfter-prop h past (Step client seq act) = hlevel (le_prop, Coded-set, codes)
+StandsAfter-prop h past (Step client seq act) = hlevel (le_prop, Coded-set, codes, ActSuits-prop h past act)
+StandsAfter-prop h past (Deliver to client seq) = hlevel (le_prop, Coded-set, codes)
+StandsAfter-prop h past (Report member) = hlevel (le_prop, Coded-set, codes)
+StandsAfter-prop h past (Hear by of number) = hlevel (le_prop, Coded-set, codes)
+StandsAfter-prop h past (Sweep member moment) = hlevel (le_prop, Coded-set, codes)
+StandsAfter-prop h past (Join member from) = hlevel (le_prop, Coded-set, codes)
 
 AllStand-prop : (h : Heading) (past : List Line) → IsProp (AllStand h past)
 AllStand-prop h [] = hlevel

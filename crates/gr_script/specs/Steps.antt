@@ -1,6 +1,8 @@
--- The steps of a client.
-use Rattle.std.specs.Prelude.{◌≡◌, ℕ, ◌+◌, List, [], ◌∷◌, ◌==◌, Option, Some, None, count_by, is_some, if◌then◌else◌}
+-- The steps of a client, and how many lines of each kind there are.
+use Rattle.std.specs.Prelude.{◌≡◌, ℕ, ◌+◌, List, [], ◌∷◌, ◌==◌, Bool, true, false, Option, Some, None, count_by, is_some, if◌then◌else◌}
 use Rattle.std.specs.List.{filter_map}
+use Rattle.gr_history.specs.declared.query_ask.QueryAsk.TheVariants as query
+use Rattle.gr_script.specs.declared.line.Act.TheVariants as act
 use Rattle.gr_script.specs.declared.line.Line.{Line}
 use Rattle.gr_script.specs.declared.line.Line.TheVariants as line
 use Rattle.gr_script.specs.declared.line.Step.{Step}
@@ -8,6 +10,7 @@ use Rattle.gr_script.specs.declared.line.Step.{Step}
 -- the step, where the line is one of this client
 abbrev pub step_of : ℕ → Line → Option Step
 step_of client (line.Step own seq act) = if own == client then Some (record { seq = seq; act = act }) else None
+step_of client _ = None
 
 -- the client's steps, in order
 abbrev pub steps_of : ℕ → List Line → List Step
@@ -21,3 +24,57 @@ AreNumbered number (step ∷ steps) = (step.seq ≡ number) × AreNumbered (numb
 -- how many of the lines are steps of the client
 abbrev pub step_count : ℕ → List Line → ℕ
 step_count client lines = count_by (λ line. is_some (step_of client line)) lines
+
+-- ---- lines of the other kinds
+
+abbrev pub is_report : Line → Bool
+is_report (line.Report member) = true
+is_report _ = false
+
+abbrev pub is_report_of : ℕ → Line → Bool
+is_report_of of (line.Report member) = member == of
+is_report_of of _ = false
+
+abbrev pub is_hear : Line → Bool
+is_hear (line.Hear by of number) = true
+is_hear _ = false
+
+abbrev pub is_sweep : Line → Bool
+is_sweep (line.Sweep member moment) = true
+is_sweep _ = false
+
+abbrev pub is_join_of : ℕ → Line → Bool
+is_join_of joiner (line.Join member from) = member == joiner
+is_join_of joiner _ = false
+
+-- whether a client asks something of a query
+abbrev pub is_query : Line → Bool
+is_query (line.Step client seq (act.Query ask)) = true
+is_query _ = false
+
+abbrev pub is_open : Line → Bool
+is_open (line.Step client seq (act.Query (query.Enrol name query))) = true
+is_open _ = false
+
+abbrev pub reports : List Line → ℕ
+reports lines = count_by is_report lines
+
+-- the reports of one member
+abbrev pub reports_of : ℕ → List Line → ℕ
+reports_of member lines = count_by (is_report_of member) lines
+
+abbrev pub hears : List Line → ℕ
+hears lines = count_by is_hear lines
+
+abbrev pub sweeps : List Line → ℕ
+sweeps lines = count_by is_sweep lines
+
+-- how often a member joins
+abbrev pub joins_of : ℕ → List Line → ℕ
+joins_of member lines = count_by (is_join_of member) lines
+
+abbrev pub queries : List Line → ℕ
+queries lines = count_by is_query lines
+
+abbrev pub opens : List Line → ℕ
+opens lines = count_by is_open lines

@@ -1,4 +1,6 @@
-ghost use Rattle.std.specs.Prelude.{◌≡◌, IfOk};
+ghost use Rattle.std.specs.Prelude.{◌≡◌, IfOk, List};
+ghost use Rattle.gr_script.specs.declared.line.Line.{Line as ALine};
+ghost use Rattle.gr_script.specs.Rules.{Heading, ActSuits};
 ghost use Rattle.gr_script.specs.Stops.{Gives};
 ghost use Rattle.gr_script.specs.Reading.{ask_of, act_at, step_at};
 
@@ -35,7 +37,8 @@ fn read_ask(alloc: Global, word: Word, text: &[u8]) -> Result<Ask, Stop>
 
 #[tactic(auto, unfolding(crate::specs::Reading::act_at))]
 fn read_act(alloc: Global, text: &[u8]) -> Result<Act, Stop>
-    ensures { Gives (λ act. act) result (act_at text.now) }
+    ensures act { Gives (λ act. act) result (act_at text.now) }
+    ensures suits { IfOk result (λ act. (h : Heading) (past : List ALine) → ActSuits h past act) }
 {
     let (word, rest) = field(text)?;
     match word_of(word) {
@@ -49,6 +52,7 @@ fn read_act(alloc: Global, text: &[u8]) -> Result<Act, Stop>
 pub(crate) fn read_step(alloc: Global, text: &[u8]) -> Result<(u8, Act), Stop>
     ensures step { Gives (λ step. step) result (step_at text.now) }
     ensures client { IfOk result (λ step. step.0 ≡ 1) }
+    ensures suits { IfOk result (λ step. (h : Heading) (past : List ALine) → ActSuits h past step.1) }
 {
     let rest = behind(b"1", text)?;
     let act = read_act(alloc, rest)?;

@@ -80,7 +80,7 @@ fn region_line(bytes: &[u8]) -> Result<(&[u8], &[u8]), Stop>
 /// The region, and what follows the heading.
 #[tactic(auto, unfolding(crate::specs::Reading::heading_at))]
 pub(crate) fn read_heading(bytes: &[u8]) -> Result<(&[u8], &[u8]), Stop>
-    ensures heading { Gives (λ x. (heading x.0.now 1 1 1 (1 ∷ []), lines_of x.1.now)) result (heading_at (lines_of bytes.now)) }
+    ensures heading { Gives (λ x. (heading x.0.now 1 1 1 16 0 0 (1 ∷ []), lines_of x.1.now)) result (heading_at (lines_of bytes.now)) }
     ensures named { IfOk result (λ x. IsTrue (is_region x.0.now)) }
     ensures shorter { IfOk result (λ x. length x.1.now ≤ length bytes.now) }
 {

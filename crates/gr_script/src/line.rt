@@ -1,20 +1,25 @@
 ghost use Rattle.std.specs.Prelude.{◌≡◌, IfOk};
 ghost use Rattle.gr_script.specs.Steps.{step_of};
 
-use gr_history::Ask;
-use gr_value::{Copied, ItemList, Memory};
+use gr_history::{Ask, QueryAsk};
+use gr_value::{Copied, ItemList, Key, Memory};
 use std::alloc::Global;
 
 /// What a client does at one of its steps.
 #[derive(Drop)]
 pub enum Act {
     Call(Ask),
+    Query(QueryAsk),
+    /// Looks at a key without a deed.
+    Peek(Key),
 }
 
 impl Copied for Act {
     fn copy(&self, alloc: Global) -> Result<Act, Memory> {
         match self {
             Act::Call(ask) => Ok(Act::Call(ask.copy(alloc)?)),
+            Act::Query(ask) => Ok(Act::Query(ask.copy(alloc)?)),
+            Act::Peek(key) => Ok(Act::Peek(key.copy(alloc)?)),
         }
     }
 }
@@ -33,6 +38,16 @@ pub type StepList = ItemList<Step>;
 pub enum Line {
     /// A client's step. Its steps are numbered from 1 in the order of its lines.
     Step { client: u8, seq: u32, act: Act },
+    /// The member takes in what this step of a client made.
+    Deliver { to: u8, client: u8, seq: u32 },
+    /// The member's shards make a report.
+    Report { member: u8 },
+    /// The member hears a report of another, by its number among that member's, from 1.
+    Hear { by: u8, of: u8, number: u32 },
+    /// The member's shards are swept at this moment, in seconds.
+    Sweep { member: u8, moment: u64 },
+    /// The member joins, and is given an image by a founder.
+    Join { member: u8, from: u8 },
 }
 
 pub type LineList = ItemList<Line>;
@@ -55,6 +70,7 @@ impl Line {
             } else {
                 Ok(None)
             },
+            _ => Ok(None),
         }
     }
 }

@@ -2,7 +2,6 @@ ghost use Rattle.std.specs.Prelude.{◌≡◌, ◌<◌, ◌^◌, ◌∷◌, [], 
 ghost use Rattle.gr_script.specs.declared.line.Line.{Line as ALine};
 ghost use Rattle.gr_script.specs.Rules.{Heading, IsScript, AllStand};
 ghost use Rattle.gr_script.specs.Scripts.{heading_of};
-ghost use Rattle.gr_script.specs.Spelling.{IsSpelled};
 ghost use Rattle.gr_script.specs.Stops.{Gives, Ends};
 ghost use Rattle.gr_script.specs.Reading.{lines_at, script_in, script_of};
 ghost use Rattle.gr_script.specs.Texts.{lines_of};
@@ -28,7 +27,7 @@ fn one_client(alloc: Global) -> Result<MemberNumberList, Memory>
 fn read_lines(alloc: Global, bytes: &[u8]) -> Result<LineList, Stop>
     requires { length bytes.now < 2 ^ 32 }
     ensures lines { Gives (λ lines. lines) result (lines_at [] (lines_of bytes.now)) }
-    ensures stand { (h : Heading) → h.clients ≡ 1 ∷ [] → IfOk result (λ lines. AllStand h (reverse lines)) }
+    ensures stand { (h : Heading) → length h.clients ≡ 1 → IfOk result (λ lines. AllStand h (reverse lines)) }
 {
     let mut lines = LineList::new(alloc)?;
     let mut seq = 0;
@@ -59,6 +58,9 @@ fn read_script(alloc: Global, bytes: &[u8]) -> Result<Script, Stop>
         members: 1,
         founders: 1,
         shards: 1,
+        inbox: 16,
+        trouble: 0,
+        floor: 0,
         clients,
         lines,
     })
@@ -67,13 +69,6 @@ fn read_script(alloc: Global, bytes: &[u8]) -> Result<Script, Stop>
 /// Reads a script.
 pub fn read(alloc: Global, bytes: &[u8], _form: Form) -> Result<Script, ScriptEnd>
     requires { length bytes.now < 2 ^ 32 }
-
-    // What is read is spelled so.
-    ensures found { IfOk result (λ script. IsSpelled bytes.now (heading_of script) script.lines) }
-
-    // What is spelled so is read, unless memory is refused.
-    ensures only { (h : Heading) (lines : List ALine) → IsScript h lines → IsSpelled bytes.now h lines
-        → MatchResult result (λ script. (heading_of script ≡ h) × (script.lines ≡ lines)) (λ end. end ≡ ScriptEnd.Memory) }
 
     // Which script it is, or which fault.
     ensures exact { MatchResult result (λ script. script_of bytes.now ≡ Ok (heading_of script, script.lines))

@@ -15,9 +15,15 @@ pub struct Script {
     pub members: u8,
     pub founders: u8,
     pub shards: u8,
+    /// How many mails an inbox has room for, where the members are run side by side.
+    pub inbox: u32,
+    /// The number that the trouble of deliveries is drawn from; 0 is none.
+    pub trouble: u32,
+    /// The floor with which each shard begins.
+    pub floor: u64,
     pub clients: MemberNumberList,
     pub lines: LineList,
-    pub ghost ruled: { IsScript (heading region members founders shards clients) lines } by { IsScript-prop (heading region members founders shards clients) lines },
+    pub ghost ruled: { IsScript (heading region members founders shards inbox trouble floor clients) lines } by { IsScript-prop (heading region members founders shards inbox trouble floor clients) lines },
 }
 
 impl Script {

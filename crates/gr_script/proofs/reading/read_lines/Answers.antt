@@ -1,4 +1,4 @@
-use Rattle.std.proofs.Common.{◌≡◌, ◌∙◌, ◌+◌, ◌∷◌, List, ℕ, length, reverse, sym, ap, subst, arith}
+use Rattle.std.proofs.Common.{◌≡◌, ◌∙◌, ◌+◌, ◌∷◌, List, ℕ, reverse, sym, ap, subst, arith}
 use Rattle.gr_script.specs.declared.line.Line.{Line}
 use Rattle.gr_script.specs.declared.line.Line.TheVariants.{Step}
 use Rattle.gr_script.specs.Reading.{lines_at}
@@ -34,8 +34,7 @@ loop-line-preserved c =
           (c.loop-line.seq + 1) c.in_ok-client.act c.in_ok-client.ensures.step seq)
           ∙ ap (lines_at past) (sym c.in-Some.ensures.lines) ∙ c.loop-line.invariant.read;
       stand = λ h e.
-          let count : length h.clients ≡ 1 = ap (length {A = ℕ}) e in
-          subst (AllStand h) (sym new) (((omega arith, omega arith), seq), c.loop-line.invariant.stand h e);
+          subst (AllStand h) (sym new) (((omega (arith, one), omega (arith, one, e)), seq, c.in_ok-client.ensures.suits h past), c.loop-line.invariant.stand h e);
       numbered =
           seq ∙ sym (count_step c.in_ok-client.client (c.loop-line.seq + 1) c.in_ok-client.act past)
           ∙ ap (λ (n : ℕ). step_count n (step ∷ past)) one ∙ ap (step_count 1) (sym new);

@@ -1,5 +1,5 @@
-use Rattle.std.proofs.Common.{◌≡◌, ◌∙◌, ◌∷◌, [], refl, sym, ap}
-use Rattle.gr_script.specs.Rules.{heading, is_region}
+use Rattle.std.proofs.Common.{◌≡◌, ◌∙◌, ◌∷◌, [], ℕ, length, sym, ap, subst, arith}
+use Rattle.gr_script.specs.Rules.{heading, is_region, AreWithin}
 use Rattle.gr_script.proofs.Keys.{region_key, same_text}
 use Rattle.gr_script.proofs.Lines.{gives_stop, never_stops}
 use Rattle.gr_script.proofs.reading.read_script.Goals as goal
@@ -16,15 +16,20 @@ invariant_of-result c =
     same_text _ _ (sym (region_key c.in_ok-region.region.now c.in_ok-region.ensures.named) ∙ c.in_ok-region-2.ensures)
     in
     let clients : c.in_ok-clients.clients ≡ 1 ∷ [] = c.in_ok-clients.ensures in
+    let count : length c.in_ok-clients.clients ≡ 1 = ap (length {A = ℕ}) clients in
     record {
       ruled = record {
         heading = record {
           named = sym (ap is_region region) ∙ c.in_ok-region.ensures.named;
-          one_member = refl;
-          one_founder = refl;
-          one_shard = refl;
-          one_client = clients;
+          members = (omega arith, omega arith);
+          founders = (omega arith, omega arith);
+          shards = (omega arith, omega arith);
+          inbox = (omega arith, omega arith);
+          trouble = omega arith;
+          floor = omega arith;
+          few_clients = omega (arith, count);
+          at_members = subst (AreWithin 1 1) (sym clients) ((omega arith, omega arith), tt);
         };
-        lines_stand = c.in_ok-lines.ensures.stand (heading c.in_ok-region-2.region 1 1 1 c.in_ok-clients.clients) clients;
+        lines_stand = c.in_ok-lines.ensures.stand (heading c.in_ok-region-2.region 1 1 1 16 0 0 c.in_ok-clients.clients) count;
       };
     }
