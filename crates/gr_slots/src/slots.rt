@@ -41,6 +41,13 @@ impl Slots {
         self.entries.get(key)
     }
 
+    /// The slots by their keys, in order.
+    pub fn rows(&self) -> &BTreeMap<Key, Slot>
+        ensures { result.now.entries ≡ self.now }
+    {
+        &self.entries
+    }
+
     /// Sets what stands at the key. Where memory is refused, all is as before.
     pub fn set(&mut self, key: Key, slot: Slot) -> Result<(), Memory>
         ensures ok { OnOk result (self.new ≡ with_slot key slot self.old) }
