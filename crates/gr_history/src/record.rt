@@ -1,6 +1,6 @@
 use crate::{History, Reply};
 use gr_stamp::ChangeList;
-use gr_value::ItemList;
+use gr_value::{ItemList, Value};
 use gr_vector::Vector;
 
 /// What stands at a shard after its last deed.
@@ -37,6 +37,11 @@ pub type MemberRecordList = ItemList<MemberRecord>;
 #[derive(Drop)]
 pub enum Answer {
     Reply(Reply),
+    /// What was seen at a key, and after how many deeds of its shard.
+    Peeked {
+        value: Option<Value>,
+        at: u64,
+    },
 }
 
 pub type AnswerList = ItemList<Answer>;

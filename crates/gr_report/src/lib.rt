@@ -6,6 +6,7 @@ mod counts;
 mod put;
 mod regions;
 mod reporting;
+mod rows;
 mod written;
 
 pub use put::{put_number, put_text};

@@ -1,10 +1,11 @@
-ghost use Rattle.std.specs.Prelude.{◌≡◌, ◌++◌, OnOk, flat_map};
-ghost use Rattle.gr_report.specs.Regions.{stamp_text, put_text as text_of_put, row_line, shard_text, counted, member_line, member_text};
+ghost use Rattle.std.specs.Prelude.{◌≡◌, ◌++◌, OnOk};
+ghost use Rattle.gr_report.specs.Regions.{stamp_text, put_text as text_of_put, row_line, counted, member_line, member_text};
 
 use crate::counts::{Counts, count_all};
 use crate::put::{put_number, put_text};
-use crate::written::{Written, put_all};
-use gr_history::{MemberRecord, ShardRecord};
+use crate::rows::put_rows;
+use crate::written::Written;
+use gr_history::MemberRecord;
 use gr_stamp::{Change, Kind, Stamp};
 use gr_value::Memory;
 use std::alloc::Global;
@@ -42,14 +43,6 @@ impl Written for Change {
     }
 }
 
-impl Written for ShardRecord {
-    ghost text = { shard_text };
-
-    fn put(&self, alloc: Global, out: &mut Vec<u8>) -> Result<(), Memory> {
-        put_all(alloc, out, self.region.rows.as_slice())
-    }
-}
-
 fn put_counted(out: &mut Vec<u8>, word: &str, number: u128) -> Result<(), Memory>
     ensures { OnOk result (out.new.items ≡ out.old.items ++ counted word.now number) }
 {
@@ -74,6 +67,6 @@ impl Written for MemberRecord {
 
     fn put(&self, alloc: Global, out: &mut Vec<u8>) -> Result<(), Memory> {
         put_member_line(out, self.member, count_all(self.shards.as_slice()))?;
-        put_all(alloc, out, self.shards.as_slice())
+        put_rows(alloc, out, self.shards.as_slice())
     }
 }
