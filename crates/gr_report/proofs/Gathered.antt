@@ -1,5 +1,5 @@
 -- Rows that are lent are gathered as what they show.
-use Rattle.std.proofs.Common.{◌≡◌, ◌∙◌, ap, sym, refl, ℕ, List, [], ◌∷◌, ◌++◌, map}
+use Rattle.std.proofs.Common.{◌≡◌, ap, refl, ℕ, List, [], ◌∷◌, map}
 use Rattle.std.specs.Borrow.{Bor}
 use Rattle.std.specs.declared.cmp.Ordering.{Ordering}
 use Rattle.std.specs.declared.cmp.Ordering.TheVariants.{Less, Equal, Greater}
@@ -17,6 +17,7 @@ shown-insert (entry ∷ rows) key row = at_order (slice_cmp nat_cmp key entry.0)
   where
     insert : List (List ℕ × Bor Change)
     insert = insert_entry (slice_cmp nat_cmp) rows key row
+
     at_order : (o : Ordering) → shown insert ≡ insert_entry (slice_cmp nat_cmp) (shown rows) key row.now
         → shown (match_ordering o ((key, row) ∷ entry ∷ rows) ((entry.0, row) ∷ rows) (entry ∷ insert))
         ≡ match_ordering o ((key, row.now) ∷ (entry.0, entry.1.now) ∷ shown rows) ((entry.0, row.now) ∷ shown rows)

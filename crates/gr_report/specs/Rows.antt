@@ -1,5 +1,5 @@
 -- The rows of a member, of all its shards, in the order of their keys.
-use Rattle.std.specs.Prelude.{ℕ, List, [], flat_map, map}
+use Rattle.std.specs.Prelude.{ℕ, List, [], flat_map}
 use Rattle.std.specs.List.{fold}
 use Rattle.std.specs.Ordering.{nat_cmp}
 use Rattle.std.specs.Cmp.Lexicographic.{slice_cmp}

@@ -3,6 +3,9 @@
 
 mod answers;
 mod counts;
+mod deeds;
+mod histories;
+mod lists;
 mod put;
 mod regions;
 mod reporting;

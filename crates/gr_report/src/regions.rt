@@ -1,8 +1,8 @@
 ghost use Rattle.std.specs.Prelude.{◌≡◌, ◌++◌, OnOk};
-ghost use Rattle.gr_report.specs.Regions.{stamp_text, put_text as text_of_put, row_line, counted, member_line, member_text};
+ghost use Rattle.gr_report.specs.Regions.{stamp_text, put_text as text_of_put, row_line, member_line, member_text};
 
 use crate::counts::{Counts, count_all};
-use crate::put::{put_number, put_text};
+use crate::put::{put_counted, put_number, put_text};
 use crate::rows::put_rows;
 use crate::written::Written;
 use gr_history::MemberRecord;
@@ -10,7 +10,8 @@ use gr_stamp::{Change, Kind, Stamp};
 use gr_value::Memory;
 use std::alloc::Global;
 
-fn put_stamp(out: &mut Vec<u8>, stamp: &Stamp) -> Result<(), Memory>
+/// Puts a stamp last.
+pub fn put_stamp(out: &mut Vec<u8>, stamp: &Stamp) -> Result<(), Memory>
     ensures { OnOk result (out.new.items ≡ out.old.items ++ stamp_text stamp.now) }
 {
     put_number(out, u128::from(stamp.ver()))?;
@@ -41,13 +42,6 @@ impl Written for Change {
         put_stamp(out, &self.stamp)?;
         put_text(out, "\n")
     }
-}
-
-fn put_counted(out: &mut Vec<u8>, word: &str, number: u128) -> Result<(), Memory>
-    ensures { OnOk result (out.new.items ≡ out.old.items ++ counted word.now number) }
-{
-    put_text(out, word)?;
-    put_number(out, number)
 }
 
 #[tactic(auto, unfolding(crate::specs::Regions::member_line))]

@@ -1,5 +1,4 @@
 use Rattle.std.proofs.Common.{◌≡◌, ◌++◌, map, flat_map}
-use Rattle.std.specs.Map.Iter.{deref}
 use Rattle.gr_report.specs.Regions.{row_line}
 use Rattle.gr_report.proofs.rows.put_rows.Given as goal
 

@@ -20,5 +20,6 @@ loop-place-preserved g c =
     c.in_ok-put_as.ensures
     ∙ ap (λ out. out ++ text (place + c.args.first) item) c.loop-place.invariant
     ∙ append_assoc before (texts_from text c.args.first (take place all)) (text (place + c.args.first) item)
-    ∙ ap (λ lines. before ++ lines) (sym (ap (texts_from text c.args.first) longer ∙ texts_from-push text c.args.first (take place all) item
+    ∙ ap (λ lines. before ++ lines)
+    (sym (ap (texts_from text c.args.first) longer ∙ texts_from-push text c.args.first (take place all) item
     ∙ ap (λ n. texts_from text c.args.first (take place all) ++ text n item) numbered))
