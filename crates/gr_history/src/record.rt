@@ -1,6 +1,6 @@
 use crate::{History, Reply};
 use gr_stamp::ChangeList;
-use gr_value::ItemList;
+use gr_value::{ItemList, Value};
 use gr_vector::Vector;
 
 /// What stands at a shard after its last deed.
@@ -37,6 +37,8 @@ pub type MemberRecordList = ItemList<MemberRecord>;
 #[derive(Drop)]
 pub enum Answer {
     Reply(Reply),
+    /// The value that was present at the key, and how long the history of its shard was.
+    Peeked { value: Option<Value>, at: u64 },
 }
 
 pub type AnswerList = ItemList<Answer>;

@@ -1,3 +1,12 @@
-pub mod Follows
-pub mod OneRecord
-pub mod Abiding
+pub mod Events
+pub mod Whole
+pub mod Ordered
+pub mod Causes
+pub mod Joins
+pub mod Causal
+pub mod Clients
+pub mod Placed
+pub mod Peeks
+pub mod Numbers
+pub mod Late
+pub mod Served

@@ -1,4 +1,8 @@
-pub mod Calls
+pub mod Causes
+pub mod Clients
+pub mod Courses
+pub mod Doings
+pub mod Events
 pub mod Histories
-pub mod Plays
-pub mod Replayed
+pub mod Named
+pub mod Records

@@ -1,7 +1,6 @@
 //! Replay: the one record that a script's lines define.
 #![tactic(auto)]
 
-mod play;
-mod replaying;
+mod laws;
 
-pub use replaying::replay;
+pub use laws::laws_of_courses;
