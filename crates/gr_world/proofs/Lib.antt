@@ -10,3 +10,4 @@ pub mod Peeks
 pub mod Numbers
 pub mod Late
 pub mod Served
+pub mod Left
