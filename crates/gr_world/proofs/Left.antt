@@ -54,7 +54,8 @@ use Rattle.gr_world.specs.Clients.{add_some, Asking, asking_of, askings, asked_a
 use Rattle.std.proofs.lemmas.List.{reverse-reverse}
 use Rattle.gr_history.specs.declared.record.Record.{Record}
 use Rattle.gr_script.specs.Rules.{IsScript}
-use Rattle.gr_world.specs.Records.{numbers_from, member_left, members_left, IsReplayed}
+use Rattle.gr_world.specs.Numbered.{numbers_from}
+use Rattle.gr_world.specs.Records.{member_left, members_left, IsReplayed}
 use Rattle.gr_world.specs.Histories.{deeds_at, history_at, grid_of, IsLawAbiding, KeepsLaws}
 use Rattle.gr_world.proofs.Whole.{whole_course}
 use Rattle.gr_world.proofs.Served.{script_causal, script_abiding}

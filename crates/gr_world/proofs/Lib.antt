@@ -11,3 +11,4 @@ pub mod Numbers
 pub mod Late
 pub mod Served
 pub mod Left
+pub mod Lists

@@ -1,3 +1,4 @@
+pub mod Built
 pub mod Causes
 pub mod Clients
 pub mod Courses
@@ -5,4 +6,6 @@ pub mod Doings
 pub mod Events
 pub mod Histories
 pub mod Named
+pub mod Numbered
 pub mod Records
+pub mod Worlds

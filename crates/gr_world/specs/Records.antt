@@ -13,11 +13,7 @@ use Rattle.gr_script.specs.Rules.{Heading, home_of}
 use Rattle.gr_world.specs.Events.{Event, history}
 use Rattle.gr_world.specs.Courses.{course}
 use Rattle.gr_world.specs.Clients.{told}
-
--- what f gives for n numbers from this one on
-abbrev pub numbers_from : {A : Type 0} → ℕ → ℕ → (ℕ → A) → List A
-numbers_from from zero f = []
-numbers_from from (suc n) f = f from ∷ numbers_from (suc from) n f
+use Rattle.gr_world.specs.Numbered.{numbers_from}
 
 -- the histories of a member, shard by shard, the oldest deed first
 pub record MemberHistories : Type 0 where

@@ -1,6 +1,12 @@
 //! Replay: the one record that a script's lines define.
 #![tactic(auto)]
 
+mod built;
+mod grid;
 mod laws;
+mod row;
+mod tellings;
+mod world;
 
+pub use built::unbuilt;
 pub use laws::laws_of_courses;
