@@ -12,3 +12,6 @@ pub mod Late
 pub mod Served
 pub mod Left
 pub mod Lists
+pub mod Worlds
+pub mod Leaving
+pub mod Playable

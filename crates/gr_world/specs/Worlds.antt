@@ -1,5 +1,5 @@
 -- The shards of all members and what each client was told, as a course leaves them.
-use Rattle.std.specs.Prelude.{◌≡◌, ℕ, ◌-◌, ◌≤◌, ◌<◌, List, [], ◌∷◌, ◌++◌, length, reverse, get_or, set, slice_index}
+use Rattle.std.specs.Prelude.{◌≡◌, ℕ, true, ◌-◌, ◌≤◌, ◌<◌, List, [], ◌∷◌, ◌++◌, length, reverse, get_or, set, slice_index}
 use Rattle.gr_history.specs.declared.ask.Ask.{Ask}
 use Rattle.gr_history.specs.declared.deed.Deed.{Deed}
 use Rattle.gr_history.specs.declared.done.Done.{Done}
@@ -10,7 +10,11 @@ use Rattle.gr_history.specs.declared.record.ClientRecord.{ClientRecord}
 use Rattle.gr_history.specs.declared.record.MemberRecord.{MemberRecord}
 use Rattle.gr_shard.specs.Records.{IsRecordOf}
 use Rattle.gr_shard.specs.View.{Account}
-use Rattle.gr_script.specs.Rules.{Heading}
+use Rattle.gr_script.specs.declared.line.Line.{Line}
+use Rattle.gr_script.specs.declared.line.Line.TheVariants.{Step, Deliver, Hear, Sweep, Join}
+use Rattle.gr_script.specs.declared.line.Line.TheVariants as line
+use Rattle.gr_script.specs.Rules.{Heading, IsStated}
+use Rattle.gr_world.specs.Built.{is_built_line}
 use Rattle.gr_world.specs.Events.{Event, history}
 use Rattle.gr_world.specs.Doings.{call_with}
 use Rattle.gr_world.specs.Courses.{identity_at}
@@ -97,3 +101,12 @@ IsAtWork heading world = (events : List Event) × (world ≡ world_left heading 
 -- What is done to each course that left the old world was done to it.
 abbrev pub Plays : Heading → (List Event → List Event) → World → World → Type 0
 Plays heading act old new = (events : List Event) → old ≡ world_left heading events → new ≡ world_left heading (act events)
+
+-- A call or a peek of a client that is stated.
+abbrev pub CanPlay : Heading → Line → Type 0
+CanPlay heading (Step client seq act) = IsStated client heading × (is_built_line (Step client seq act) ≡ true)
+CanPlay heading (Deliver to client seq) = ⊥
+CanPlay heading (line.Report member) = ⊥
+CanPlay heading (Hear by of number) = ⊥
+CanPlay heading (Sweep member moment) = ⊥
+CanPlay heading (Join joiner provider) = ⊥

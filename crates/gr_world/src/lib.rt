@@ -4,9 +4,11 @@
 mod built;
 mod grid;
 mod laws;
+mod replaying;
 mod row;
 mod tellings;
 mod world;
 
 pub use built::unbuilt;
 pub use laws::laws_of_courses;
+pub use replaying::replay;

@@ -1,0 +1,26 @@
+ghost use Rattle.std.specs.Prelude.{◌≡◌, true, IfOk};
+ghost use Rattle.gr_script.specs.Scripts.{heading_of};
+ghost use Rattle.gr_world.specs.Built.{is_built};
+ghost use Rattle.gr_world.specs.Histories.{KeepsLaws};
+ghost use Rattle.gr_world.specs.Records.{IsReplayed};
+
+use crate::world::World;
+use gr_history::Record;
+use gr_script::Script;
+use gr_value::Memory;
+use std::alloc::Global;
+
+/// Plays a script line by line, in its one schedule. What it leaves is all that its course says.
+pub fn replay(alloc: Global, script: &Script) -> Result<Record, Memory>
+    requires { is_built (heading_of script.now) script.now.lines ≡ true }
+    ensures replayed { IfOk result (IsReplayed (heading_of script.now) script.now.lines) }
+
+    // Members that took in the same changes have the same values, and no removed value is back.
+    ensures laws { IfOk result (KeepsLaws (heading_of script.now)) }
+{
+    let mut world = World::new(alloc, script)?;
+    for line in script.lines.as_slice() {
+        world.play(alloc, script, line)?;
+    }
+    Ok(world.into_record(alloc, script)?)
+}
