@@ -1,57 +1,26 @@
 -- What is done is lawful, and what is taken in and heard was made before.
-use Rattle.std.proofs.Common.{zero, suc, ◌≡◌, ◌⊎◌, ℕ, ◌+◌, ◌≤◌, ◌<◌, List, [], ◌∷◌, ◌++◌, Bool, true, false, ◌&&◌, ◌==◌, refl, sym, ap, ◌∙◌, subst, inl, inr}
-use Rattle.std.proofs.Common.{arith, map, reverse, length, if◌then◌else◌}
-use Rattle.std.specs.Prelude.{Option, Some, None, nat_le, max}
-use Rattle.std.proofs.lemmas.Bool.Decides.{nat_tests}
+use Rattle.std.proofs.Common.{zero, suc, ◌≡◌, ℕ, ◌<◌, List, [], ◌∷◌, Bool, true, false, ◌&&◌, ◌==◌, refl, sym, ap, ◌∙◌, subst, inl, inr}
+use Rattle.std.proofs.Common.{arith, length, if◌then◌else◌}
+use Rattle.std.specs.Prelude.{Option, Some, None}
 use Rattle.gr_value.specs.Shard.{shard_of}
-use Rattle.gr_value.specs.declared.value.Field.{Field}
 use Rattle.gr_stamp.specs.declared.change.Change.{Change}
-use Rattle.gr_stamp.specs.declared.change.Kind.{Kind}
-use Rattle.gr_stamp.specs.declared.stamp.TheConstants.{LIMIT}
-use Rattle.gr_vector.specs.Ids.{Id, Ids, top}
 use Rattle.gr_vector.specs.declared.report.Report.{Report}
-use Rattle.gr_history.specs.declared.ask.Ask.{Ask}
-use Rattle.gr_history.specs.declared.reply.Reply.{Reply}
-use Rattle.gr_history.specs.declared.reply.Reply.TheVariants.{Limit, NotReady}
-use Rattle.gr_history.specs.declared.reply.Told.{Told}
-use Rattle.gr_history.specs.declared.identity.Identity.{Identity}
-use Rattle.gr_history.specs.declared.image.Image.{Image}
-use Rattle.gr_history.specs.declared.image.What.{What}
-use Rattle.gr_history.specs.declared.image.What.TheVariants as what
 use Rattle.gr_history.specs.declared.deed.Deed.{Deed}
 use Rattle.gr_history.specs.declared.deed.Deed.TheVariants.{Call, Taken, Gave, Imaged, Reported, Heard, Swept}
-use Rattle.gr_history.specs.declared.record.Answer.{Answer}
-use Rattle.gr_history.specs.declared.record.Answer.TheVariants as answer
-use Rattle.gr_history.specs.Asks.{key_of, told as table}
-use Rattle.gr_history.specs.Calls.{call_gives, given, nothing_made, made_change, reach, last_rv}
-use Rattle.gr_history.specs.Recipients.{recipients, is_ready}
-use Rattle.gr_history.specs.Ids.{ids, known}
+use Rattle.gr_history.specs.Asks.{key_of}
 use Rattle.gr_history.specs.Made.{made, made_at}
-use Rattle.gr_history.specs.Gifts.{own_changes, IsImageOf, IsReportOf}
 use Rattle.gr_history.specs.Lawful.{IsLawful, IsLawfulDeed, AreInOrder}
-use Rattle.gr_history.specs.Regions.{all_standing, keys_of, with_key}
-use Rattle.gr_history.specs.Standing.{present, changes, standing}
-use Rattle.gr_law.specs.Grids.{Among, Older, at_place, Grid, identity}
-use Rattle.gr_law.specs.Integrity.{giver_of, IsMade, HasNoImage, IsGift, IsWhole}
-use Rattle.gr_law.specs.Next.{IsNext}
-use Rattle.gr_law.proofs.Lists.{among_left, among_right, among_either}
-use Rattle.gr_law.proofs.Made.{made_stamped, made_member, older_itself, older_trans}
-use Rattle.gr_law.proofs.Steps.{standing_best}
-use Rattle.gr_law.proofs.Growth.{whole_next, same_grid}
-use Rattle.gr_script.specs.declared.line.Act.{Act}
-use Rattle.gr_script.specs.declared.line.Act.TheVariants as act
-use Rattle.gr_script.specs.declared.line.Line.{Line}
-use Rattle.gr_script.specs.declared.line.Line.TheVariants.{Step, Deliver, Hear, Sweep, Join}
-use Rattle.gr_script.specs.declared.line.Line.TheVariants as line
-use Rattle.gr_script.specs.Rules.{Heading, IsHeading, IsMember, IsStated, IsWithin, AreWithin, home_of, StandsAfter, AllStand}
-use Rattle.gr_script.specs.Steps.{joins_of, step_count}
-use Rattle.gr_world.specs.Events.{Event, Did, Peeked, put_if, history}
-use Rattle.gr_world.specs.Doings.{Doing, Calls, Takes, Gives, Merges, Reports, Hears, Sweeps, call_with, deed_of, report_of, image_of, vector_of}
+use Rattle.gr_law.specs.Grids.{Among, identity}
+use Rattle.gr_law.specs.Integrity.{IsMade, HasNoImage, IsGift, IsWhole}
+use Rattle.gr_law.proofs.Lists.{among_left}
+use Rattle.gr_law.proofs.Made.{made_stamped}
+use Rattle.gr_script.specs.Rules.{Heading, IsMember, home_of}
+use Rattle.gr_world.specs.Events.{Event, Did, Peeked, history}
+use Rattle.gr_world.specs.Doings.{Doing, Calls, Takes, Gives, Merges, Reports, Hears, Sweeps, deed_of}
 use Rattle.gr_world.specs.Named.{made_by_deed, or_else, made_by, reports, numbered}
-use Rattle.gr_world.specs.Courses.{identity_at, does, looks, for_each, delivers, hears, takes_all, gives, gives_unless, what_from, joins_at, after, course}
-use Rattle.gr_world.specs.Causes.{grid_at, IsPlaced, IsNextEvent, IsCausal}
-use Rattle.gr_world.specs.Clients.{add_some, Asking, asking_of, askings, asked_at, asked, calls_stand, calls_placed, Numbered, told_by_deed, told_by, told, number_at, numbers, answers_stand, replies_stand, AllBelow, Descends, numbers_descend, IsPeek, peeks_stand, peeks_late, peeks_grow, AreServed}
-use Rattle.gr_world.proofs.Events.{equal_numbers, history_here, more_made, gives_key}
+use Rattle.gr_world.specs.Courses.{identity_at, does, for_each, delivers, hears}
+use Rattle.gr_world.specs.Causes.{grid_at, IsNextEvent, IsCausal}
+use Rattle.gr_world.proofs.Events.{history_here, more_made, gives_key}
 use Rattle.gr_world.proofs.Whole.{whole_course}
 
 -- what is asked of a thing that is done
@@ -59,16 +28,19 @@ abbrev pub May : Heading → ℕ → ℕ → List Event → Doing → Type 0
 May heading m s before (Calls client number ask) = (m ≡ home_of heading client) × (s ≡ shard_of (key_of ask) heading.shards)
 May heading m s before (Takes change) = IsMade (grid_at heading s before) change
 May heading m s before (Gives to what) = Unit {0}
-May heading m s before (Merges image) = (heading.founders < m) × IsGift (grid_at heading s before) m image × HasNoImage (history m s before) × AreInOrder image.rows
+May heading m s before (Merges image) = (heading.founders < m) × IsGift (grid_at heading s before) m image
+    × HasNoImage (history m s before) × AreInOrder image.rows
 May heading m s before Reports = Unit {0}
 May heading m s before (Hears report) = Among (Reported report) (history report.member s before)
 May heading m s before (Sweeps moment) = Unit {0}
 
-pub does_causal : (heading : Heading) (m s : ℕ) (doing : Doing) (before : List Event) → IsMember heading m → May heading m s before doing → IsCausal heading before
+pub does_causal : (heading : Heading) (m s : ℕ) (doing : Doing) (before : List Event) → IsMember heading m → May heading m s before doing
+    → IsCausal heading before
     → IsCausal heading (does heading m s doing before)
 does_causal heading m s doing before member may h = (next doing may, h)
   where
-    next : (d : Doing) → May heading m s before d → IsNextEvent heading (Did m s (deed_of (identity_at heading m s) heading.floor (history m s before) d)) before
+    next : (d : Doing) → May heading m s before d
+        → IsNextEvent heading (Did m s (deed_of (identity_at heading m s) heading.floor (history m s before) d)) before
     next (Calls client number ask) may =
         (record { from = member.0; to = member.1; lawful = refl; genuine = tt; once = tt; heard = tt }, may)
     next (Takes change) may =
@@ -77,8 +49,18 @@ does_causal heading m s doing before member may h = (next doing may, h)
         (record { from = member.0; to = member.1; lawful = tt; genuine = tt; once = tt; heard = tt }, tt)
     next (Merges image) may =
         (record { from = member.0; to = member.1; lawful = may.3; genuine = (may.0, may.1); once = may.2; heard = tt }, tt)
-    next Reports may =
-        (record { from = member.0; to = member.1; lawful = record { member_is = refl; at_is = refl; own_is = refl; vector_is = refl }; genuine = tt; once = tt; heard = tt }, tt)
+    next Reports may = (
+      record {
+        from = member.0;
+        to = member.1;
+        lawful =
+            record { member_is = refl; at_is = refl; own_is = refl; vector_is = refl };
+        genuine = tt;
+        once = tt;
+        heard = tt;
+      },
+      tt,
+    )
     next (Hears report) may =
         (record { from = member.0; to = member.1; lawful = tt; genuine = tt; once = tt; heard = may }, tt)
     next (Sweeps moment) may =
@@ -97,17 +79,23 @@ made_here : (heading : Heading) (m s : ℕ) (deed : Deed) (before : List Event) 
     → IsMade (grid_at heading (shard_of change.key heading.shards) (Did m s deed ∷ before)) change
 made_here heading m s (Call own seq ask reply made_ to) before client number change next e = at_test (own == client && seq == number) e
   where
-    here : made_ ≡ Some change → IsMade (grid_at heading (shard_of change.key heading.shards) (Did m s (Call own seq ask reply made_ to) ∷ before)) change
+    here : made_ ≡ Some change
+        → IsMade (grid_at heading (shard_of change.key heading.shards) (Did m s (Call own seq ask reply made_ to) ∷ before)) change
     here is =
         let deed : Deed = Call own seq ask reply made_ to in
         let law : IsLawfulDeed (identity (grid_at heading s before) m) heading.floor deed (history m s before) = next.0.lawful in
-        let made_is : Among change (made_at (Call own seq ask reply made_ to)) = subst (λ o. Among change (made_at (Call own seq ask reply o to))) (sym is) (inl refl) in
-        let member : change.stamp.member ≡ m = (made_stamped (identity (grid_at heading s before) m) heading.floor change deed (history m s before) law made_is).member_is in
-        let key : change.key ≡ key_of ask = gives_key (identity (grid_at heading s before) m) heading.floor (history m s before) ask change (sym (ap (λ d. d.made) law) ∙ is) in
+        let made_is : Among change (made_at (Call own seq ask reply made_ to)) =
+        subst (λ o. Among change (made_at (Call own seq ask reply o to))) (sym is) (inl refl) in
+        let member : change.stamp.member ≡ m =
+        (made_stamped (identity (grid_at heading s before) m) heading.floor change deed (history m s before) law made_is).member_is in
+        let key : change.key ≡ key_of ask =
+        gives_key (identity (grid_at heading s before) m) heading.floor (history m s before) ask change
+        (sym (ap (λ d. d.made) law) ∙ is) in
         let shard : shard_of change.key heading.shards ≡ s = ap (λ k. shard_of k heading.shards) key ∙ sym next.1.1 in
         subst (λ k. Among change (made (history change.stamp.member k (Did m s deed ∷ before)))) (sym shard)
         (subst (λ i. Among change (made (history i s (Did m s deed ∷ before)))) (sym member)
-        (subst (λ past. Among change (made past)) (sym (history_here m s deed before)) (among_left change (made_at deed) (made (history m s before)) made_is)))
+        (subst (λ past. Among change (made past)) (sym (history_here m s deed before))
+        (among_left change (made_at deed) (made (history m s before)) made_is)))
 
     at_test : (b : Bool) → (if b then made_ else None) ≡ Some change
         → IsMade (grid_at heading (shard_of change.key heading.shards) (Did m s (Call own seq ask reply made_ to) ∷ before)) change
@@ -130,7 +118,8 @@ made_by_made heading client number (Did m s deed ∷ before) change h e =
         → IsMade (grid_at heading (shard_of change.key heading.shards) (Did m s deed ∷ before)) change
     at_deed None is earlier e = more_made change.stamp.member (shard_of change.key heading.shards) change (Did m s deed) before (earlier e)
     at_deed (Some one) is earlier e = made_here heading m s deed before client number change h.0 (is ∙ e)
-made_by_made heading client number (Peeked own seq key value at ∷ before) change h e = made_by_made heading client number before change h.1 e
+made_by_made heading client number (Peeked own seq key value at ∷ before) change h e =
+    made_by_made heading client number before change h.1 e
 
 -- a report that was counted was made
 reports_made : (report : Report) (past : List Deed) → Among report (reports past) → Among (Reported report) past
@@ -153,7 +142,8 @@ numbered_among number (first ∷ older) report e = at_test (suc (length older) =
     at_test true next e = let k : first ≡ report = cc in inl (sym k)
     at_test false next e = inr (next e)
 
-reported_by : (id : _) (opening : ℕ) (past : List Deed) (report : Report) → IsLawful id opening past → Among (Reported report) past → report.member ≡ id.member
+reported_by : (id : _) (opening : ℕ) (past : List Deed) (report : Report) → IsLawful id opening past → Among (Reported report) past
+    → report.member ≡ id.member
 reported_by id opening [] report law a = absurd a
 reported_by id opening (deed ∷ past) report law (inl is) =
     (subst (λ d. IsLawfulDeed id opening d past) (sym is) law.0).member_is
@@ -163,19 +153,24 @@ pub hears_causal : (heading : Heading) (member of number shard : ℕ) (now : Lis
     → IsCausal heading (hears heading member shard (numbered number (reports (history of shard now))) now)
 hears_causal heading member of number shard now is h = at_report (numbered number (reports (history of shard now))) refl
   where
-    at_report : (o : Option Report) → numbered number (reports (history of shard now)) ≡ o → IsCausal heading (hears heading member shard o now)
+    at_report : (o : Option Report) → numbered number (reports (history of shard now)) ≡ o
+        → IsCausal heading (hears heading member shard o now)
     at_report None e = h
     at_report (Some report) e =
         let made_is : Among (Reported report) (history of shard now) = reports_made report _ (numbered_among number _ report e) in
         let whole : IsWhole (grid_at heading shard now) = whole_course heading now h shard in
-        let who : report.member ≡ of = reported_by (identity (grid_at heading shard now) of) heading.floor _ report (whole.sound.lawful of) made_is in
-        does_causal heading member shard (Hears report) now is (subst (λ i. Among (Reported report) (history i shard now)) (sym who) made_is) h
+        let who : report.member ≡ of =
+        reported_by (identity (grid_at heading shard now) of) heading.floor _ report (whole.sound.lawful of) made_is in
+        does_causal heading member shard (Hears report) now is
+        (subst (λ i. Among (Reported report) (history i shard now)) (sym who) made_is) h
 
-pub delivers_causal : (heading : Heading) (member client number : ℕ) (before : List Event) → IsMember heading member → IsCausal heading before
+pub delivers_causal : (heading : Heading) (member client number : ℕ) (before : List Event) → IsMember heading member
+    → IsCausal heading before
     → IsCausal heading (delivers heading member (made_by client number before) before)
 delivers_causal heading member client number before is h = at_change (made_by client number before) refl
   where
     at_change : (o : Option Change) → made_by client number before ≡ o → IsCausal heading (delivers heading member o before)
     at_change None e = h
     at_change (Some change) e =
-        does_causal heading member (shard_of change.key heading.shards) (Takes change) before is (made_by_made heading client number before change h e) h
+        does_causal heading member (shard_of change.key heading.shards) (Takes change) before is
+        (made_by_made heading client number before change h e) h

@@ -1,56 +1,32 @@
 -- Each client's calls stand once and in order, with its answers.
-use Rattle.std.proofs.Common.{zero, suc, ◌≡◌, ◌⊎◌, ℕ, ◌+◌, ◌≤◌, ◌<◌, List, [], ◌∷◌, ◌++◌, Bool, true, false, ◌&&◌, ◌==◌, refl, sym, ap, ◌∙◌, subst, inl, inr}
-use Rattle.std.proofs.Common.{arith, map, reverse, length, if◌then◌else◌}
-use Rattle.std.specs.Prelude.{Option, Some, None, nat_le, max}
+use Rattle.std.proofs.Common.{suc, ◌≡◌, ℕ, List, [], ◌∷◌, Bool, true, false, ◌&&◌, ◌==◌, refl, ap, ◌∙◌, subst, inl, inr}
+use Rattle.std.proofs.Common.{arith, map, if◌then◌else◌}
+use Rattle.std.specs.Prelude.{Option, Some, None}
 use Rattle.std.proofs.lemmas.Bool.Decides.{nat_tests}
 use Rattle.gr_value.specs.Shard.{shard_of}
-use Rattle.gr_value.specs.declared.value.Field.{Field}
 use Rattle.gr_stamp.specs.declared.change.Change.{Change}
-use Rattle.gr_stamp.specs.declared.change.Kind.{Kind}
-use Rattle.gr_stamp.specs.declared.stamp.TheConstants.{LIMIT}
-use Rattle.gr_vector.specs.Ids.{Id, Ids, top}
 use Rattle.gr_vector.specs.declared.report.Report.{Report}
-use Rattle.gr_history.specs.declared.ask.Ask.{Ask}
 use Rattle.gr_history.specs.declared.reply.Reply.{Reply}
-use Rattle.gr_history.specs.declared.reply.Reply.TheVariants.{Limit, NotReady}
-use Rattle.gr_history.specs.declared.reply.Told.{Told}
-use Rattle.gr_history.specs.declared.identity.Identity.{Identity}
-use Rattle.gr_history.specs.declared.image.Image.{Image}
 use Rattle.gr_history.specs.declared.image.What.{What}
 use Rattle.gr_history.specs.declared.image.What.TheVariants as what
-use Rattle.gr_history.specs.declared.deed.Deed.{Deed}
-use Rattle.gr_history.specs.declared.deed.Deed.TheVariants.{Call, Taken, Gave, Imaged, Reported, Heard, Swept}
+use Rattle.gr_history.specs.declared.deed.Deed.TheVariants.{Call}
 use Rattle.gr_history.specs.declared.record.Answer.{Answer}
 use Rattle.gr_history.specs.declared.record.Answer.TheVariants as answer
-use Rattle.gr_history.specs.Asks.{key_of, told as table}
-use Rattle.gr_history.specs.Calls.{call_gives, given, nothing_made, made_change, reach, last_rv}
-use Rattle.gr_history.specs.Recipients.{recipients, is_ready}
-use Rattle.gr_history.specs.Ids.{ids, known}
-use Rattle.gr_history.specs.Made.{made, made_at}
-use Rattle.gr_history.specs.Gifts.{own_changes, IsImageOf, IsReportOf}
-use Rattle.gr_history.specs.Lawful.{IsLawful, IsLawfulDeed, AreInOrder}
-use Rattle.gr_history.specs.Regions.{all_standing, keys_of, with_key}
-use Rattle.gr_history.specs.Standing.{present, changes, standing}
-use Rattle.gr_law.specs.Grids.{Among, Older, at_place, Grid, identity}
-use Rattle.gr_law.specs.Integrity.{giver_of, IsMade, HasNoImage, IsGift, IsWhole}
-use Rattle.gr_law.specs.Next.{IsNext}
-use Rattle.gr_law.proofs.Lists.{among_left, among_right, among_either}
-use Rattle.gr_law.proofs.Made.{made_stamped, made_member, older_itself, older_trans}
-use Rattle.gr_law.proofs.Steps.{standing_best}
-use Rattle.gr_law.proofs.Growth.{whole_next, same_grid}
-use Rattle.gr_script.specs.declared.line.Act.{Act}
+use Rattle.gr_history.specs.Asks.{key_of}
+use Rattle.gr_history.specs.Made.{made}
+use Rattle.gr_history.specs.Gifts.{own_changes}
+use Rattle.gr_law.specs.Grids.{Among}
 use Rattle.gr_script.specs.declared.line.Act.TheVariants as act
 use Rattle.gr_script.specs.declared.line.Line.{Line}
 use Rattle.gr_script.specs.declared.line.Line.TheVariants.{Step, Deliver, Hear, Sweep, Join}
 use Rattle.gr_script.specs.declared.line.Line.TheVariants as line
-use Rattle.gr_script.specs.Rules.{Heading, IsHeading, IsMember, IsStated, IsWithin, AreWithin, home_of, StandsAfter, AllStand}
-use Rattle.gr_script.specs.Steps.{joins_of, step_count}
+use Rattle.gr_script.specs.Rules.{Heading, home_of}
 use Rattle.gr_world.specs.Events.{Event, Did, Peeked, put_if, history}
-use Rattle.gr_world.specs.Doings.{Doing, Calls, Takes, Gives, Merges, Reports, Hears, Sweeps, call_with, deed_of, report_of, image_of, vector_of}
-use Rattle.gr_world.specs.Named.{made_by_deed, or_else, made_by, reports, numbered}
-use Rattle.gr_world.specs.Courses.{identity_at, does, looks, for_each, delivers, hears, takes_all, gives, gives_unless, what_from, joins_at, after, course}
-use Rattle.gr_world.specs.Causes.{grid_at, IsPlaced, IsNextEvent, IsCausal}
-use Rattle.gr_world.specs.Clients.{add_some, Asking, asking_of, askings, asked_at, asked, calls_stand, calls_placed, Numbered, told_by_deed, told_by, told, number_at, numbers, answers_stand, replies_stand, AllBelow, Descends, numbers_descend, IsPeek, peeks_stand, peeks_late, peeks_grow, AreServed}
+use Rattle.gr_world.specs.Doings.{Doing, Calls, Takes, Gives, Merges, Reports, Hears, Sweeps, image_of}
+use Rattle.gr_world.specs.Named.{made_by, reports, numbered}
+use Rattle.gr_world.specs.Courses.{does, for_each, delivers, hears, takes_all, gives_unless, what_from, after, course}
+use Rattle.gr_world.specs.Clients.{add_some, askings, asked_at, calls_stand, Numbered, told_by_deed, told, number_at, answers_stand}
+use Rattle.gr_world.specs.Clients.{replies_stand}
 use Rattle.gr_world.proofs.Events.{at_put}
 use Rattle.gr_world.proofs.Causes.{each_keeps}
 
@@ -75,20 +51,26 @@ IsNoStep (Join joiner provider) = Unit {0}
 abbrev pub Keeps : Heading → (List Event → Type 0) → Type 0
 Keeps heading P = (m s : ℕ) (doing : Doing) (now : List Event) → IsQuiet doing → P now → P (does heading m s doing now)
 
-takes_keep : (heading : Heading) (P : List Event → Type 0) → Keeps heading P → (m s : ℕ) (changes : List Change) (now : List Event) → P now → P (takes_all heading m s changes now)
+takes_keep : (heading : Heading) (P : List Event → Type 0) → Keeps heading P → (m s : ℕ) (changes : List Change) (now : List Event)
+    → P now → P (takes_all heading m s changes now)
 takes_keep heading P keeps m s [] now h = h
-takes_keep heading P keeps m s (change ∷ rest) now h = takes_keep heading P keeps m s rest (does heading m s (Takes change) now) (keeps m s (Takes change) now tt h)
+takes_keep heading P keeps m s (change ∷ rest) now h =
+    takes_keep heading P keeps m s rest (does heading m s (Takes change) now) (keeps m s (Takes change) now tt h)
 
-gives_keep : (heading : Heading) (P : List Event → Type 0) → Keeps heading P → (joiner shard giver : ℕ) (stays : Bool) (gift : What) (now : List Event) → P now
+gives_keep : (heading : Heading) (P : List Event → Type 0) → Keeps heading P
+    → (joiner shard giver : ℕ) (stays : Bool) (gift : What) (now : List Event) → P now
     → P (gives_unless stays heading joiner shard giver gift now)
 gives_keep heading P keeps joiner shard giver true gift now h = h
 gives_keep heading P keeps joiner shard giver false what.Image now h =
-    keeps joiner shard (Merges (image_of giver heading.floor (history giver shard now))) (does heading giver shard (Gives joiner what.Image) now) tt (keeps giver shard (Gives joiner what.Image) now tt h)
+    keeps joiner shard (Merges (image_of giver heading.floor (history giver shard now)))
+    (does heading giver shard (Gives joiner what.Image) now) tt (keeps giver shard (Gives joiner what.Image) now tt h)
 gives_keep heading P keeps joiner shard giver false what.Own now h =
-    takes_keep heading P keeps joiner shard (own_changes (history giver shard now)) (does heading giver shard (Gives joiner what.Own) now) (keeps giver shard (Gives joiner what.Own) now tt h)
+    takes_keep heading P keeps joiner shard (own_changes (history giver shard now)) (does heading giver shard (Gives joiner what.Own) now)
+    (keeps giver shard (Gives joiner what.Own) now tt h)
 
 -- what each deed but a call keeps, each line but a step keeps
-pub rest_keeps : (heading : Heading) (P : List Event → Type 0) → Keeps heading P → (line : Line) (before : List Event) → IsNoStep line → P before → P (after heading line before)
+pub rest_keeps : (heading : Heading) (P : List Event → Type 0) → Keeps heading P → (line : Line) (before : List Event) → IsNoStep line
+    → P before → P (after heading line before)
 rest_keeps heading P keeps (Step client number act) before quiet h = absurd quiet
 rest_keeps heading P keeps (Deliver member client number) before quiet h = at_change (made_by client number before)
   where
@@ -96,19 +78,23 @@ rest_keeps heading P keeps (Deliver member client number) before quiet h = at_ch
     at_change None = h
     at_change (Some change) = keeps member (shard_of change.key heading.shards) (Takes change) before tt h
 rest_keeps heading P keeps (line.Report member) before quiet h =
-    each_keeps (λ n now. P now) heading.shards (λ shard. does heading member shard Reports) before h (λ shard now less k. keeps member shard Reports now tt k)
+    each_keeps (λ n now. P now) heading.shards (λ shard. does heading member shard Reports) before h
+    (λ shard now less k. keeps member shard Reports now tt k)
 rest_keeps heading P keeps (Hear member of number) before quiet h =
-    each_keeps (λ n now. P now) heading.shards (λ shard now. hears heading member shard (numbered number (reports (history of shard now))) now) before h
+    each_keeps (λ n now. P now) heading.shards
+    (λ shard now. hears heading member shard (numbered number (reports (history of shard now))) now) before h
     (λ shard now less k. at_report shard now k (numbered number (reports (history of shard now))))
   where
     at_report : (shard : ℕ) (now : List Event) → P now → (o : Option Report) → P (hears heading member shard o now)
     at_report shard now k None = k
     at_report shard now k (Some report) = keeps member shard (Hears report) now tt k
 rest_keeps heading P keeps (Sweep member moment) before quiet h =
-    each_keeps (λ n now. P now) heading.shards (λ shard. does heading member shard (Sweeps moment)) before h (λ shard now less k. keeps member shard (Sweeps moment) now tt k)
+    each_keeps (λ n now. P now) heading.shards (λ shard. does heading member shard (Sweeps moment)) before h
+    (λ shard now less k. keeps member shard (Sweeps moment) now tt k)
 rest_keeps heading P keeps (Join joiner provider) before quiet h =
     each_keeps (λ n now. P now) heading.shards
-    (λ shard. for_each heading.members (λ n. gives_unless (suc n == joiner) heading joiner shard (suc n) (what_from (suc n == provider)))) before h
+    (λ shard. for_each heading.members
+    (λ n. gives_unless (suc n == joiner) heading joiner shard (suc n) (what_from (suc n == provider)))) before h
     (λ shard now less k. each_keeps (λ n mid. P mid) heading.members
     (λ n. gives_unless (suc n == joiner) heading joiner shard (suc n) (what_from (suc n == provider))) now k
     (λ n mid within j. gives_keep heading P keeps joiner shard (suc n) (suc n == joiner) (what_from (suc n == provider)) mid j))
@@ -116,23 +102,32 @@ rest_keeps heading P keeps (Join joiner provider) before quiet h =
 quiet_deed : (heading : Heading) (i t m s : ℕ) (doing : Doing) (now : List Event) → IsQuiet doing
     → askings (history i t (does heading m s doing now)) ≡ askings (history i t now)
 quiet_deed heading i t m s (Calls client number ask) now quiet = absurd quiet
-quiet_deed heading i t m s (Takes change) now quiet = at_put (λ past. askings past ≡ askings (history i t now)) (t == s && i == m) _ (history i t now) refl (λ e. e)
-quiet_deed heading i t m s (Gives to what) now quiet = at_put (λ past. askings past ≡ askings (history i t now)) (t == s && i == m) _ (history i t now) refl (λ e. e)
-quiet_deed heading i t m s (Merges image) now quiet = at_put (λ past. askings past ≡ askings (history i t now)) (t == s && i == m) _ (history i t now) refl (λ e. e)
-quiet_deed heading i t m s Reports now quiet = at_put (λ past. askings past ≡ askings (history i t now)) (t == s && i == m) _ (history i t now) refl (λ e. e)
-quiet_deed heading i t m s (Hears report) now quiet = at_put (λ past. askings past ≡ askings (history i t now)) (t == s && i == m) _ (history i t now) refl (λ e. e)
-quiet_deed heading i t m s (Sweeps moment) now quiet = at_put (λ past. askings past ≡ askings (history i t now)) (t == s && i == m) _ (history i t now) refl (λ e. e)
+quiet_deed heading i t m s (Takes change) now quiet =
+    at_put (λ past. askings past ≡ askings (history i t now)) (t == s && i == m) _ (history i t now) refl (λ e. e)
+quiet_deed heading i t m s (Gives to what) now quiet =
+    at_put (λ past. askings past ≡ askings (history i t now)) (t == s && i == m) _ (history i t now) refl (λ e. e)
+quiet_deed heading i t m s (Merges image) now quiet =
+    at_put (λ past. askings past ≡ askings (history i t now)) (t == s && i == m) _ (history i t now) refl (λ e. e)
+quiet_deed heading i t m s Reports now quiet =
+    at_put (λ past. askings past ≡ askings (history i t now)) (t == s && i == m) _ (history i t now) refl (λ e. e)
+quiet_deed heading i t m s (Hears report) now quiet =
+    at_put (λ past. askings past ≡ askings (history i t now)) (t == s && i == m) _ (history i t now) refl (λ e. e)
+quiet_deed heading i t m s (Sweeps moment) now quiet =
+    at_put (λ past. askings past ≡ askings (history i t now)) (t == s && i == m) _ (history i t now) refl (λ e. e)
 
-rest_asks : (heading : Heading) (line : Line) (before : List Event) (i t : ℕ) → IsNoStep line → askings (history i t (after heading line before)) ≡ askings (history i t before)
+rest_asks : (heading : Heading) (line : Line) (before : List Event) (i t : ℕ) → IsNoStep line
+    → askings (history i t (after heading line before)) ≡ askings (history i t before)
 rest_asks heading line before i t quiet =
     rest_keeps heading (λ now. askings (history i t now) ≡ askings (history i t before))
     (λ m s doing now not e. quiet_deed heading i t m s doing now not ∙ e) line before quiet refl
 
 line_asks : (heading : Heading) (line : Line) (before : List Event) (i t : ℕ)
     → askings (history i t (after heading line before)) ≡ add_some (asked_at heading i t line) (askings (history i t before))
-line_asks heading (Step client number (act.Call ask)) before i t = at_test (t == shard_of (key_of ask) heading.shards && i == home_of heading client) _ _ _
+line_asks heading (Step client number (act.Call ask)) before i t =
+    at_test (t == shard_of (key_of ask) heading.shards && i == home_of heading client) _ _ _
   where
-    at_test : (b : Bool) (reply : Reply) (made : Option Change) (to : ℕ) → askings (put_if b (Call client number ask reply made to) (history i t before))
+    at_test : (b : Bool) (reply : Reply) (made : Option Change) (to : ℕ)
+        → askings (put_if b (Call client number ask reply made to) (history i t before))
         ≡ add_some (if b then Some (record { client = client; number = number; ask = ask }) else None) (askings (history i t before))
     at_test true reply made to = refl
     at_test false reply made to = refl
@@ -149,7 +144,8 @@ calls_stand-holds heading [] i t = refl
 calls_stand-holds heading (line ∷ past) i t =
     line_asks heading line (course heading past) i t ∙ ap (add_some (asked_at heading i t line)) (calls_stand-holds heading past i t)
 
-quiet_told : (heading : Heading) (client m s : ℕ) (doing : Doing) (now : List Event) → IsQuiet doing → told client (does heading m s doing now) ≡ told client now
+quiet_told : (heading : Heading) (client m s : ℕ) (doing : Doing) (now : List Event) → IsQuiet doing
+    → told client (does heading m s doing now) ≡ told client now
 quiet_told heading client m s (Calls own number ask) now quiet = absurd quiet
 quiet_told heading client m s (Takes change) now quiet = refl
 quiet_told heading client m s (Gives to what) now quiet = refl
@@ -158,15 +154,18 @@ quiet_told heading client m s Reports now quiet = refl
 quiet_told heading client m s (Hears report) now quiet = refl
 quiet_told heading client m s (Sweeps moment) now quiet = refl
 
-rest_tells : (heading : Heading) (line : Line) (before : List Event) (client : ℕ) → IsNoStep line → told client (after heading line before) ≡ told client before
+rest_tells : (heading : Heading) (line : Line) (before : List Event) (client : ℕ) → IsNoStep line
+    → told client (after heading line before) ≡ told client before
 rest_tells heading line before client quiet =
-    rest_keeps heading (λ now. told client now ≡ told client before) (λ m s doing now not e. quiet_told heading client m s doing now not ∙ e) line before quiet refl
+    rest_keeps heading (λ now. told client now ≡ told client before)
+    (λ m s doing now not e. quiet_told heading client m s doing now not ∙ e) line before quiet refl
 
 abbrev counted : List Numbered → List ℕ
 counted all = map (λ one. one.number) all
 
 count_one : (b : Bool) (number : ℕ) (answer : Answer) (all : List Numbered)
-    → counted (add_some (if b then Some (record { number = number; answer = answer }) else None) all) ≡ add_some (if b then Some number else None) (counted all)
+    → counted (add_some (if b then Some (record { number = number; answer = answer }) else None) all) ≡ add_some
+    (if b then Some number else None) (counted all)
 count_one true number answer all = refl
 count_one false number answer all = refl
 
@@ -199,12 +198,15 @@ replies_stand-holds (Did m s deed ∷ before) member shard client number ask rep
     itself : (client == client) ≡ true
     itself = grind (arith, nat_tests)
 
-    here : Call client number ask reply made to ≡ deed → Among (record { number = number; answer = answer.Reply reply }) (add_some (told_by_deed client deed) (told client before))
-    here is = subst (λ d. Among (record { number = number; answer = answer.Reply reply }) (add_some (told_by_deed client d) (told client before))) is
+    here : Call client number ask reply made to ≡ deed
+        → Among (record { number = number; answer = answer.Reply reply }) (add_some (told_by_deed client deed) (told client before))
+    here is = subst
+        (λ d. Among (record { number = number; answer = answer.Reply reply }) (add_some (told_by_deed client d) (told client before))) is
         (rw itself (inl refl))
 
     at_test : (b : Bool)
-        → (Among (Call client number ask reply made to) (history member shard before) → Among (record { number = number; answer = answer.Reply reply }) (told client before))
+        → (Among (Call client number ask reply made to) (history member shard before)
+        → Among (record { number = number; answer = answer.Reply reply }) (told client before))
         → Among (Call client number ask reply made to) (put_if b deed (history member shard before))
         → Among (record { number = number; answer = answer.Reply reply }) (add_some (told_by_deed client deed) (told client before))
     at_test true next (inl is) = here is

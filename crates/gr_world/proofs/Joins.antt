@@ -1,57 +1,37 @@
 -- A joiner is given one image, by a founder, and changes that were made.
-use Rattle.std.proofs.Common.{zero, suc, ◌≡◌, ◌⊎◌, ℕ, ◌+◌, ◌≤◌, ◌<◌, List, [], ◌∷◌, ◌++◌, Bool, true, false, ◌&&◌, ◌==◌, refl, sym, ap, ◌∙◌, subst, inl, inr}
-use Rattle.std.proofs.Common.{arith, map, reverse, length, if◌then◌else◌}
-use Rattle.std.specs.Prelude.{Option, Some, None, nat_le, max}
+use Rattle.std.proofs.Common.{suc, ◌≡◌, ◌⊎◌, ℕ, ◌+◌, ◌≤◌, ◌<◌, List, [], ◌∷◌, Bool, true, false, ◌==◌, refl, sym, ap, ◌∙◌, subst, inl, inr}
+use Rattle.std.proofs.Common.{arith, reverse, length, if◌then◌else◌}
+use Rattle.std.specs.Prelude.{Option, Some, None, nat_le}
 use Rattle.std.proofs.lemmas.Bool.Decides.{nat_tests}
 use Rattle.gr_value.specs.Shard.{shard_of}
-use Rattle.gr_value.specs.declared.value.Field.{Field}
 use Rattle.gr_stamp.specs.declared.change.Change.{Change}
-use Rattle.gr_stamp.specs.declared.change.Kind.{Kind}
-use Rattle.gr_stamp.specs.declared.stamp.TheConstants.{LIMIT}
-use Rattle.gr_vector.specs.Ids.{Id, Ids, top}
 use Rattle.gr_vector.specs.declared.report.Report.{Report}
-use Rattle.gr_history.specs.declared.ask.Ask.{Ask}
-use Rattle.gr_history.specs.declared.reply.Reply.{Reply}
-use Rattle.gr_history.specs.declared.reply.Reply.TheVariants.{Limit, NotReady}
-use Rattle.gr_history.specs.declared.reply.Told.{Told}
-use Rattle.gr_history.specs.declared.identity.Identity.{Identity}
 use Rattle.gr_history.specs.declared.image.Image.{Image}
 use Rattle.gr_history.specs.declared.image.What.{What}
 use Rattle.gr_history.specs.declared.image.What.TheVariants as what
 use Rattle.gr_history.specs.declared.deed.Deed.{Deed}
-use Rattle.gr_history.specs.declared.deed.Deed.TheVariants.{Call, Taken, Gave, Imaged, Reported, Heard, Swept}
-use Rattle.gr_history.specs.declared.record.Answer.{Answer}
-use Rattle.gr_history.specs.declared.record.Answer.TheVariants as answer
-use Rattle.gr_history.specs.Asks.{key_of, told as table}
-use Rattle.gr_history.specs.Calls.{call_gives, given, nothing_made, made_change, reach, last_rv}
-use Rattle.gr_history.specs.Recipients.{recipients, is_ready}
-use Rattle.gr_history.specs.Ids.{ids, known}
-use Rattle.gr_history.specs.Made.{made, made_at}
-use Rattle.gr_history.specs.Gifts.{own_changes, IsImageOf, IsReportOf}
-use Rattle.gr_history.specs.Lawful.{IsLawful, IsLawfulDeed, AreInOrder}
-use Rattle.gr_history.specs.Regions.{all_standing, keys_of, with_key}
-use Rattle.gr_history.specs.Standing.{present, changes, standing}
-use Rattle.gr_law.specs.Grids.{Among, Older, at_place, Grid, identity}
-use Rattle.gr_law.specs.Integrity.{giver_of, IsMade, HasNoImage, IsGift, IsWhole}
-use Rattle.gr_law.specs.Next.{IsNext}
-use Rattle.gr_law.proofs.Lists.{among_left, among_right, among_either}
-use Rattle.gr_law.proofs.Made.{made_stamped, made_member, older_itself, older_trans}
-use Rattle.gr_law.proofs.Steps.{standing_best}
-use Rattle.gr_law.proofs.Growth.{whole_next, same_grid}
-use Rattle.gr_script.specs.declared.line.Act.{Act}
+use Rattle.gr_history.specs.declared.deed.Deed.TheVariants.{Gave, Imaged}
+use Rattle.gr_history.specs.Asks.{key_of}
+use Rattle.gr_history.specs.Calls.{given}
+use Rattle.gr_history.specs.Made.{made}
+use Rattle.gr_history.specs.Gifts.{own_changes, IsImageOf}
+use Rattle.gr_history.specs.Lawful.{IsLawful}
+use Rattle.gr_law.specs.Grids.{Among, Older, at_place}
+use Rattle.gr_law.specs.Integrity.{giver_of, IsMade, HasNoImage, IsGift}
+use Rattle.gr_law.proofs.Lists.{among_either}
+use Rattle.gr_law.proofs.Made.{made_member}
 use Rattle.gr_script.specs.declared.line.Act.TheVariants as act
 use Rattle.gr_script.specs.declared.line.Line.{Line}
 use Rattle.gr_script.specs.declared.line.Line.TheVariants.{Step, Deliver, Hear, Sweep, Join}
 use Rattle.gr_script.specs.declared.line.Line.TheVariants as line
-use Rattle.gr_script.specs.Rules.{Heading, IsHeading, IsMember, IsStated, IsWithin, AreWithin, home_of, StandsAfter, AllStand}
-use Rattle.gr_script.specs.Steps.{joins_of, is_join_of, step_count}
+use Rattle.gr_script.specs.Rules.{Heading, IsMember, home_of}
+use Rattle.gr_script.specs.Steps.{joins_of, is_join_of}
 use Rattle.std.proofs.lemmas.List.Sums.{sum_by-cons}
-use Rattle.gr_world.specs.Events.{Event, Did, Peeked, put_if, history}
-use Rattle.gr_world.specs.Doings.{Doing, Calls, Takes, Gives, Merges, Reports, Hears, Sweeps, call_with, deed_of, report_of, image_of, vector_of}
-use Rattle.gr_world.specs.Named.{made_by_deed, or_else, made_by, reports, numbered}
-use Rattle.gr_world.specs.Courses.{identity_at, does, looks, for_each, delivers, hears, takes_all, gives, gives_unless, what_from, joins_at, after, course}
-use Rattle.gr_world.specs.Causes.{grid_at, IsPlaced, IsNextEvent, IsCausal}
-use Rattle.gr_world.specs.Clients.{add_some, Asking, asking_of, askings, asked_at, asked, calls_stand, calls_placed, Numbered, told_by_deed, told_by, told, number_at, numbers, answers_stand, replies_stand, AllBelow, Descends, numbers_descend, IsPeek, peeks_stand, peeks_late, peeks_grow, AreServed}
+use Rattle.gr_world.specs.Events.{Event, Did, history}
+use Rattle.gr_world.specs.Doings.{Doing, Calls, Takes, Gives, Merges, Reports, Hears, Sweeps, deed_of, image_of}
+use Rattle.gr_world.specs.Named.{made_by, reports, numbered}
+use Rattle.gr_world.specs.Courses.{identity_at, does, for_each, delivers, hears, takes_all, gives_unless, what_from, after, course}
+use Rattle.gr_world.specs.Causes.{grid_at, IsCausal}
 use Rattle.std.proofs.lemmas.Grind.{reverse_onto}
 use Rattle.gr_world.proofs.Events.{equal_numbers, history_here, more_made, no_image, other_shard, Spares}
 use Rattle.gr_world.proofs.Ordered.{standing_in_order}
@@ -71,12 +51,14 @@ pub record IsJoining (heading : Heading) (joiner provider shard given : ℕ) (no
 
 takes_joining : (heading : Heading) (joiner provider shard given : ℕ) (changes : List Change) (now : List Event) → IsMember heading joiner
     → ((change : Change) → Among change changes → IsMade (grid_at heading shard now) change)
-    → IsJoining heading joiner provider shard given now → IsJoining heading joiner provider shard given (takes_all heading joiner shard changes now)
+    → IsJoining heading joiner provider shard given now
+    → IsJoining heading joiner provider shard given (takes_all heading joiner shard changes now)
 takes_joining heading joiner provider shard given [] now is made_all h = h
 takes_joining heading joiner provider shard given (change ∷ rest) now is made_all h =
     takes_joining heading joiner provider shard given rest (does heading joiner shard (Takes change) now) is
     (λ one a. more_made one.stamp.member shard one
-    (Did joiner shard (deed_of (identity_at heading joiner shard) heading.floor (history joiner shard now) (Takes change))) now (made_all one (inr a)))
+    (Did joiner shard (deed_of (identity_at heading joiner shard) heading.floor (history joiner shard now) (Takes change))) now
+    (made_all one (inr a)))
     (record {
       causal = does_causal heading joiner shard (Takes change) now is (made_all change (inl refl)) h.causal;
       none = λ less. no_image heading joiner shard joiner shard (Takes change) now tt (h.none less);
@@ -94,14 +76,17 @@ among_reverse x (first ∷ rest) a =
     at next (inr (inr a)) = absurd a
 
 -- the own changes of a member were made
-own_made : (heading : Heading) (giver shard : ℕ) (now : List Event) → IsCausal heading now → (change : Change) → Among change (own_changes (history giver shard now))
+own_made : (heading : Heading) (giver shard : ℕ) (now : List Event) → IsCausal heading now → (change : Change)
+    → Among change (own_changes (history giver shard now))
     → IsMade (grid_at heading shard now) change
 own_made heading giver shard now h change a =
     let made_is : Among change (made (history giver shard now)) = among_reverse change _ a in
-    let who : change.stamp.member ≡ giver = member_of_made _ _ (history giver shard now) ((whole_course heading now h shard).sound.lawful giver) made_is in
+    let who : change.stamp.member ≡ giver =
+    member_of_made _ _ (history giver shard now) ((whole_course heading now h shard).sound.lawful giver) made_is in
     subst (λ i. Among change (made (history i shard now))) (sym who) made_is
   where
-    member_of_made : (id : _) (opening : ℕ) (past : List Deed) → IsLawful id opening past → Among change (made past) → change.stamp.member ≡ id.member
+    member_of_made : (id : _) (opening : ℕ) (past : List Deed) → IsLawful id opening past → Among change (made past)
+        → change.stamp.member ≡ id.member
     member_of_made id opening past law a = (made_member id opening change past law a).0
 
 at_end : (past : List Deed) → at_place (length past) past ≡ past
@@ -119,10 +104,12 @@ before_end deed past = rw (over (length past)) (at_end past)
 
 -- the image that a founder just gave is its gift
 just_given : (heading : Heading) (joiner shard giver : ℕ) (now : List Event) → giver ≤ heading.founders
-    → IsGift (grid_at heading shard (does heading giver shard (Gives joiner what.Image) now)) joiner (image_of giver heading.floor (history giver shard now))
+    → IsGift (grid_at heading shard (does heading giver shard (Gives joiner what.Image) now)) joiner
+    (image_of giver heading.floor (history giver shard now))
 just_given heading joiner shard giver now founder = record {
   from_founder = founder;
-  gave = subst (λ p. Older (Gave joiner what.Image ∷ p) (history giver shard (does heading giver shard (Gives joiner what.Image) now))) (sym there)
+  gave = subst (λ p. Older (Gave joiner what.Image ∷ p) (history giver shard (does heading giver shard (Gives joiner what.Image) now)))
+      (sym there)
       (subst (Older (Gave joiner what.Image ∷ past)) (sym here) (inl refl));
   is_image = subst (λ p. IsImageOf giver heading.floor p (image_of giver heading.floor past)) (sym there)
       (record { giver_is = refl; at_is = refl; rows_are = refl; vector_is = refl; floor_is = refl });
@@ -134,12 +121,15 @@ just_given heading joiner shard giver now founder = record {
     here : history giver shard (does heading giver shard (Gives joiner what.Image) now) ≡ Gave joiner what.Image ∷ history giver shard now
     here = history_here giver shard (Gave joiner what.Image) now
 
-    there : giver_of (grid_at heading shard (does heading giver shard (Gives joiner what.Image) now)) (image_of giver heading.floor (history giver shard now)) ≡ history giver shard now
+    there : giver_of (grid_at heading shard (does heading giver shard (Gives joiner what.Image) now))
+        (image_of giver heading.floor (history giver shard now)) ≡ history giver shard now
     there = ap (at_place (length (history giver shard now))) here ∙ before_end (Gave joiner what.Image) (history giver shard now)
 
-gives_joining : (heading : Heading) (joiner provider shard n : ℕ) (now : List Event) → IsMember heading joiner → heading.founders < joiner → provider ≤ heading.founders
+gives_joining : (heading : Heading) (joiner provider shard n : ℕ) (now : List Event) → IsMember heading joiner → heading.founders < joiner
+    → provider ≤ heading.founders
     → suc n ≤ heading.members → IsJoining heading joiner provider shard n now
-    → IsJoining heading joiner provider shard (suc n) (gives_unless (suc n == joiner) heading joiner shard (suc n) (what_from (suc n == provider)) now)
+    → IsJoining heading joiner provider shard (suc n)
+    (gives_unless (suc n == joiner) heading joiner shard (suc n) (what_from (suc n == provider)) now)
 gives_joining heading joiner provider shard n now is joins founder within h = at_joiner (suc n == joiner) (suc n == provider) refl
   where
     giver : IsMember heading (suc n)
@@ -159,22 +149,29 @@ gives_joining heading joiner provider shard n now is joins founder within h = at
         → IsJoining heading joiner provider shard (suc n) (gives_unless b heading joiner shard (suc n) (what_from image) now)
     at_joiner true image e = sooner now h
     at_joiner false false e = sooner _
-        (takes_joining heading joiner provider shard n (own_changes (history (suc n) shard now)) (does heading (suc n) shard (Gives joiner what.Own) now) is
-        (λ change a. more_made change.stamp.member shard change (Did (suc n) shard (Gave joiner what.Own)) now (own_made heading (suc n) shard now h.causal change a))
+        (takes_joining heading joiner provider shard n (own_changes (history (suc n) shard now))
+        (does heading (suc n) shard (Gives joiner what.Own) now) is
+        (λ change a. more_made change.stamp.member shard change (Did (suc n) shard (Gave joiner what.Own)) now
+        (own_made heading (suc n) shard now h.causal change a))
         (given what.Own))
     at_joiner false true e =
         let now_given : List Event = does heading (suc n) shard (Gives joiner what.Image) now in
         let image : Image = image_of (suc n) heading.floor (history (suc n) shard now) in
         let provides : suc n ≡ provider = equal_numbers (suc n) provider e in
-        let gift : IsGift (grid_at heading shard now_given) joiner image = just_given heading joiner shard (suc n) now (omega (arith, provides, founder)) in
+        let gift : IsGift (grid_at heading shard now_given) joiner image =
+        just_given heading joiner shard (suc n) now (omega (arith, provides, founder)) in
         let first : HasNoImage (history joiner shard now_given) = (given what.Image).none (omega (arith, provides)) in
         record {
-          causal = does_causal heading joiner shard (Merges image) now_given is (joins, gift, first, standing_in_order (history (suc n) shard now)) (given what.Image).causal;
+          causal = does_causal heading joiner shard (Merges image) now_given is
+              (joins, gift, first, standing_in_order (history (suc n) shard now)) (given what.Image).causal;
           none = λ less. absurd (omega (arith, provides, less));
-          later = λ t less. subst HasNoImage (sym (other_shard joiner t joiner shard (Imaged image) now_given (λ same. omega (arith, same, less)))) ((given what.Image).later t less);
+          later = λ t less. subst HasNoImage
+              (sym (other_shard joiner t joiner shard (Imaged image) now_given (λ same. omega (arith, same, less))))
+              ((given what.Image).later t less);
         }
 
-pub joins_ready : (heading : Heading) (joiner provider : ℕ) (before : List Event) → IsMember heading joiner → heading.founders < joiner → provider ≤ heading.founders
+pub joins_ready : (heading : Heading) (joiner provider : ℕ) (before : List Event) → IsMember heading joiner → heading.founders < joiner
+    → provider ≤ heading.founders
     → IsReady heading joiner 0 before → IsCausal heading (after heading (Join joiner provider) before)
 joins_ready heading joiner provider before is joins founder ready =
     (each_keeps (IsReady heading joiner) heading.shards _ before ready
@@ -193,10 +190,12 @@ joins_ready heading joiner provider before is joins founder ready =
 abbrev NoImages : ℕ → List Event → Type 0
 NoImages joiner now = (shard : ℕ) → HasNoImage (history joiner shard now)
 
-unmerged : (heading : Heading) (j m s : ℕ) (doing : Doing) (now : List Event) → Spares j m doing → NoImages j now → NoImages j (does heading m s doing now)
+unmerged : (heading : Heading) (j m s : ℕ) (doing : Doing) (now : List Event) → Spares j m doing → NoImages j now
+    → NoImages j (does heading m s doing now)
 unmerged heading j m s doing now spares none shard = no_image heading j shard m s doing now spares (none shard)
 
-takes_unmerged : (heading : Heading) (j m s : ℕ) (changes : List Change) (now : List Event) → NoImages j now → NoImages j (takes_all heading m s changes now)
+takes_unmerged : (heading : Heading) (j m s : ℕ) (changes : List Change) (now : List Event) → NoImages j now
+    → NoImages j (takes_all heading m s changes now)
 takes_unmerged heading j m s [] now none = none
 takes_unmerged heading j m s (change ∷ rest) now none =
     takes_unmerged heading j m s rest (does heading m s (Takes change) now) (unmerged heading j m s (Takes change) now tt none)
@@ -205,7 +204,8 @@ gives_unmerged : (heading : Heading) (j joiner shard giver : ℕ) (stays : Bool)
     → NoImages j now → NoImages j (gives_unless stays heading joiner shard giver gift now)
 gives_unmerged heading j joiner shard giver true gift now other none = none
 gives_unmerged heading j joiner shard giver false what.Image now other none =
-    unmerged heading j joiner shard (Merges (image_of giver heading.floor (history giver shard now))) (does heading giver shard (Gives joiner what.Image) now) other
+    unmerged heading j joiner shard (Merges (image_of giver heading.floor (history giver shard now)))
+    (does heading giver shard (Gives joiner what.Image) now) other
     (unmerged heading j giver shard (Gives joiner what.Image) now tt none)
 gives_unmerged heading j joiner shard giver false what.Own now other none =
     takes_unmerged heading j joiner shard (own_changes (history giver shard now)) (does heading giver shard (Gives joiner what.Own) now)
@@ -245,7 +245,8 @@ joins_apart j (Join joiner provider) past h = at_test (joiner == j) refl
         apart : (one other : ℕ) → (one == other) ≡ false → one ≡ other → ⊥
         apart one other e h = grind (arith, nat_tests)
 
-line_unmerged : (heading : Heading) (j : ℕ) (line : Line) (now : List Event) → JoinsNot j line → NoImages j now → NoImages j (after heading line now)
+line_unmerged : (heading : Heading) (j : ℕ) (line : Line) (now : List Event) → JoinsNot j line → NoImages j now
+    → NoImages j (after heading line now)
 line_unmerged heading j (Step client number (act.Call ask)) now not none =
     unmerged heading j (home_of heading client) (shard_of (key_of ask) heading.shards) (Calls client number ask) now tt none
 line_unmerged heading j (Step client number (act.Query ask)) now not none = none
@@ -259,7 +260,8 @@ line_unmerged heading j (line.Report member) now not none =
     each_keeps (λ n mid. NoImages j mid) heading.shards (λ shard. does heading member shard Reports) now none
     (λ shard mid less h. unmerged heading j member shard Reports mid tt h)
 line_unmerged heading j (Hear member of number) now not none =
-    each_keeps (λ n mid. NoImages j mid) heading.shards (λ shard mid. hears heading member shard (numbered number (reports (history of shard mid))) mid) now none
+    each_keeps (λ n mid. NoImages j mid) heading.shards
+    (λ shard mid. hears heading member shard (numbered number (reports (history of shard mid))) mid) now none
     (λ shard mid less h. at_report shard mid h (numbered number (reports (history of shard mid))))
   where
     at_report : (shard : ℕ) (mid : List Event) → NoImages j mid → (o : Option Report) → NoImages j (hears heading member shard o mid)
@@ -270,7 +272,8 @@ line_unmerged heading j (Sweep member moment) now not none =
     (λ shard mid less h. unmerged heading j member shard (Sweeps moment) mid tt h)
 line_unmerged heading j (Join joiner provider) now not none =
     each_keeps (λ n mid. NoImages j mid) heading.shards
-    (λ shard. for_each heading.members (λ n. gives_unless (suc n == joiner) heading joiner shard (suc n) (what_from (suc n == provider)))) now none
+    (λ shard. for_each heading.members
+    (λ n. gives_unless (suc n == joiner) heading joiner shard (suc n) (what_from (suc n == provider)))) now none
     (λ shard mid less h. each_keeps (λ n last. NoImages j last) heading.members
     (λ n. gives_unless (suc n == joiner) heading joiner shard (suc n) (what_from (suc n == provider))) mid h
     (λ n last within k. gives_unmerged heading j joiner shard (suc n) (suc n == joiner) (what_from (suc n == provider)) last not k))

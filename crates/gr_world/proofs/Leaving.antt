@@ -4,7 +4,6 @@ use Rattle.std.specs.List.{AllByRecursion}
 use Rattle.gr_history.specs.declared.record.ShardRecord.{ShardRecord}
 use Rattle.gr_history.specs.declared.record.MemberRecord.{MemberRecord}
 use Rattle.gr_history.specs.declared.record.ClientRecord.{ClientRecord}
-use Rattle.gr_history.specs.declared.record.Record.{Record}
 use Rattle.gr_history.specs.Regions.{IsRegionOf}
 use Rattle.gr_shard.specs.Records.{IsRecordOf}
 use Rattle.gr_script.specs.Rules.{Heading}

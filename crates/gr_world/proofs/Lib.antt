@@ -15,3 +15,4 @@ pub mod Lists
 pub mod Worlds
 pub mod Leaving
 pub mod Playable
+pub mod Scripts

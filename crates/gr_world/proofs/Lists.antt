@@ -1,7 +1,5 @@
 -- Lists whose items are numbered.
 use Rattle.std.proofs.Common.{zero, suc, ◌≡◌, ◌∙◌, ap, sym, subst, refl, ℕ, ◌+◌, ◌≤◌, ◌<◌, List, [], ◌∷◌, ◌++◌, length, get_or, set, arith}
-use Rattle.std.proofs.Common.{Bool, true, false, ◌==◌, if◌then◌else◌}
-use Rattle.std.proofs.lemmas.Bool.Decides.{nat_tests}
 use Rattle.gr_world.specs.Numbered.{numbers_from, PairsFrom}
 
 pub numbers_length : {A : Type 0} → (from n : ℕ) (f : ℕ → A) → length (numbers_from from n f) ≡ n

@@ -1,7 +1,7 @@
 -- One event more leaves one deed and one answer more.
-use Rattle.std.proofs.Common.{zero, suc, ◌≡◌, ◌∙◌, ap, sym, subst, refl, ℕ, ◌+◌, ◌-◌, ◌≤◌, ◌<◌, List, [], ◌∷◌, ◌++◌, length, reverse, map}
+use Rattle.std.proofs.Common.{◌≡◌, ◌∙◌, ap, sym, subst, refl, ℕ, ◌+◌, ◌-◌, ◌≤◌, ◌<◌, List, [], ◌∷◌, ◌++◌, length, reverse, map}
 use Rattle.std.proofs.Common.{Bool, true, false, ◌&&◌, ◌==◌, arith, get_or, set, if◌then◌else◌}
-use Rattle.std.specs.Prelude.{Option, Some, None}
+use Rattle.std.specs.Prelude.{Some, None}
 use Rattle.std.proofs.lemmas.Bool.Decides.{nat_tests}
 use Rattle.std.proofs.lemmas.Grind.{reverse_onto}
 use Rattle.std.proofs.lemmas.List.{reverse-reverse, length-reverse}
@@ -22,13 +22,14 @@ use Rattle.gr_script.specs.Rules.{Heading, IsMember, IsStated, home_of}
 use Rattle.gr_world.specs.declared.world.World.{World}
 use Rattle.gr_world.specs.Events.{Event, Did, Peeked, put_if, history}
 use Rattle.gr_world.specs.Doings.{Calls, call_with, deed_of}
-use Rattle.gr_world.specs.Courses.{identity_at, does, looks, after}
+use Rattle.gr_world.specs.Courses.{identity_at, does, after}
 use Rattle.gr_world.specs.Clients.{Numbered, add_some, told, told_by}
 use Rattle.gr_world.specs.Numbered.{numbers_from}
 use Rattle.gr_world.specs.Records.{answers}
-use Rattle.gr_world.specs.Worlds.{IsAtWork, IsCalled, IsCell, Plays, account_at, account_in, account_left, gives_at, grid_left, grid_with, longer, no_account}
+use Rattle.gr_world.specs.Worlds.{IsAtWork, IsCalled, IsCell, Plays, account_at, account_in, account_left, gives_at, grid_left, grid_with}
+use Rattle.gr_world.specs.Worlds.{longer, no_account}
 use Rattle.gr_world.specs.Worlds.{row_with, tellings_left, told_also, world_left}
-use Rattle.gr_world.proofs.Events.{history_here, same_number, equal_numbers}
+use Rattle.gr_world.proofs.Events.{history_here, same_number}
 use Rattle.gr_world.proofs.Lists.{numbers_get, numbers_length, numbers_same, numbers_set}
 
 -- the accounts of a member's shards
@@ -101,7 +102,8 @@ row_next heading events member shard deed within =
     (other_shard_here (k == shard) (member == member) (apart k shard (λ is. other (is ∙ e))) deed (history member k events)))
 
 -- One deed more at a member's shard.
-pub grid_next : (heading : Heading) (events : List Event) (member shard : ℕ) (deed : Deed) → IsMember heading member → shard < heading.shards
+pub grid_next : (heading : Heading) (events : List Event) (member shard : ℕ) (deed : Deed) → IsMember heading member
+    → shard < heading.shards
     → grid_with (grid_left heading events) member shard deed ≡ grid_left heading (Did member shard deed ∷ events)
 unfolding account_of
 grid_next heading events member shard deed is within =
@@ -120,7 +122,8 @@ numbered_answers : List Numbered → List Answer
 numbered_answers all = reverse (map (λ one. one.answer) all)
 
 -- One answer more for a client.
-pub tellings_next : (heading : Heading) (events : List Event) (event : Event) (client number : ℕ) (told_now : Answer) → IsStated client heading
+pub tellings_next : (heading : Heading) (events : List Event) (event : Event) (client number : ℕ) (told_now : Answer)
+    → IsStated client heading
     → ((c : ℕ) → told_by c event ≡ (if client == c then Some (record { number = number; answer = told_now }) else None))
     → told_also (tellings_left heading events) client told_now ≡ tellings_left heading (event ∷ events)
 unfolding numbered_answers
@@ -153,13 +156,13 @@ world_of grid tellings = record { grid = grid; tellings = tellings }
 
 -- A call adds its deed and tells its reply.
 pub call_plays : (heading : Heading) (old new : World) (member shard client seq : ℕ) (ask : Ask) (done : Done)
-    → IsMember heading member → IsStated client heading → 1 ≤ heading.shards
+    → IsMember heading member → IsStated client heading
     → member ≡ home_of heading client → shard ≡ shard_of (key_of ask) heading.shards → shard < heading.shards
     → IsCalled old.grid new.grid member shard client seq ask done
     → new.tellings ≡ told_also old.tellings client (answer.Reply done.reply)
     → Plays heading (after heading (Step client seq (act.Call ask))) old new
 unfolding world_of
-call_plays heading old new member shard client seq ask done is stated some at_home at_shard within called tells events same =
+call_plays heading old new member shard client seq ask done is stated at_home at_shard within called tells events same =
     let past = history member shard events in
     let doing = Calls client seq ask in
     let deed = deed_of (identity_at heading member shard) heading.floor past doing in
@@ -185,13 +188,15 @@ call_plays heading old new member shard client seq ask done is stated some at_ho
 pub peek_plays : (heading : Heading) (old new : World) (member shard client seq : ℕ) (key : List ℕ) (seen : Answer)
     → IsMember heading member → IsStated client heading
     → member ≡ home_of heading client → shard ≡ shard_of key heading.shards → shard < heading.shards
-    → seen ≡ answer.Peeked (present key (reverse (account_at old.grid member shard).deeds)) (length (account_at old.grid member shard).deeds)
+    → seen ≡ answer.Peeked (present key (reverse (account_at old.grid member shard).deeds))
+    (length (account_at old.grid member shard).deeds)
     → new.grid ≡ old.grid → new.tellings ≡ told_also old.tellings client seen
     → Plays heading (after heading (Step client seq (act.Peek key))) old new
 unfolding world_of
 peek_plays heading old new member shard client seq key seen is stated at_home at_shard within is_seen grid_is tells events same =
     let past = history member shard events in
-    let looked : ℕ → ℕ → List Event = λ m s. Peeked client seq key (present key (history m s events)) (length (history m s events)) ∷ events in
+    let looked : ℕ → ℕ
+    → List Event = λ m s. Peeked client seq key (present key (history m s events)) (length (history m s events)) ∷ events in
     let cell = cell_left heading events member shard is within in
     let deeds : (account_at old.grid member shard).deeds ≡ reverse past =
     ap (λ w. (account_at w.grid member shard).deeds) same ∙ ap (λ account. account.deeds) cell in
@@ -210,14 +215,15 @@ peek_plays heading old new member shard client seq key seen is stated at_home at
 
 -- ---- what a world that is at work has
 
-pub shard_within : (key : List ℕ) (shards : ℕ) → 1 ≤ shards → shard_of key shards < shards
-shard_within key shards some = mod_within (key_hash key) shards some
+pub shard_within : (key : List ℕ) (shard shards : ℕ) → 1 ≤ shards → shard ≡ shard_of key shards → shard < shards
+shard_within key shard shards some is = mod_within (key_hash key) shards some is
   where
-    mod_within : (a n : ℕ) → 1 ≤ n → a % n < n
-    mod_within a n some = omega (arith, some)
+    mod_within : (a n : ℕ) → 1 ≤ n → shard ≡ a % n → shard < n
+    mod_within a n some is = omega (arith, some, is)
 
 -- there is a cell for each member and shard
-pub work_cell : (heading : Heading) (world : World) (member shard : ℕ) → IsAtWork heading world → IsMember heading member → shard < heading.shards
+pub work_cell : (heading : Heading) (world : World) (member shard : ℕ) → IsAtWork heading world → IsMember heading member
+    → shard < heading.shards
     → IsCell world.grid member shard
 work_cell heading world member shard (events, same) is within =
     subst (λ w. IsCell w.grid member shard) (sym same) (is_cell heading events member shard is within)

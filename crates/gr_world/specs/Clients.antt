@@ -139,7 +139,8 @@ numbers_descend past = (client : ℕ) → Descends (numbers client past)
 
 -- ---- peeks
 
-pub record IsPeek (heading : Heading) (course : List Event) (client : ℕ) (key : List ℕ) (value : Option (List Field)) (at : ℕ) : Type 0 where
+pub record IsPeek (heading : Heading) (course : List Event) (client : ℕ) (key : List ℕ) (value : Option (List Field))
+    (at : ℕ) : Type 0 where
   pub value_is : value ≡ present key (at_place at (history (home_of heading client) (shard_of key heading.shards) course))
   pub within : at ≤ length (history (home_of heading client) (shard_of key heading.shards) course)
 

@@ -1,5 +1,5 @@
 -- The course of a script: all that its lines do, in one order.
-use Rattle.std.specs.Prelude.{ℕ, zero, suc, List, [], ◌∷◌, Bool, true, false, ◌==◌, Option, Some, None, length, if◌then◌else◌}
+use Rattle.std.specs.Prelude.{ℕ, zero, suc, List, [], ◌∷◌, Bool, true, false, ◌==◌, Option, Some, None, length}
 use Rattle.gr_value.specs.Shard.{shard_of}
 use Rattle.gr_stamp.specs.declared.change.Change.{Change}
 use Rattle.gr_vector.specs.declared.report.Report.{Report}

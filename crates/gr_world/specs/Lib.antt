@@ -8,4 +8,5 @@ pub mod Histories
 pub mod Named
 pub mod Numbered
 pub mod Records
+pub mod Rows
 pub mod Worlds

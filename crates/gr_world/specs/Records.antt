@@ -1,5 +1,5 @@
 -- The record that a course leaves.
-use Rattle.std.specs.Prelude.{◌≡◌, ℕ, zero, suc, List, [], ◌∷◌, length, map, reverse}
+use Rattle.std.specs.Prelude.{◌≡◌, ℕ, List, length, map, reverse}
 use Rattle.std.specs.List.{AllByRecursion}
 use Rattle.gr_history.specs.declared.deed.Deed.{Deed}
 use Rattle.gr_history.specs.declared.record.Answer.{Answer}

@@ -59,7 +59,8 @@ impl Grid {
         ask: &Ask,
     ) -> Result<Done, Memory>
         requires cell { IsCell self.old member shard }
-        requires here { shard_of (key_of ask.now) (account_at self.old member shard).id.shards ≡ (account_at self.old member shard).id.shard }
+        requires here { shard_of (key_of ask.now) (account_at self.old member shard).id.shards ≡
+            (account_at self.old member shard).id.shard }
         ensures { IfOk result (IsCalled self.old self.new member shard client seq ask.now) }
     {
         let row = &mut self.rows[usize::from(member) - 1];

@@ -14,8 +14,11 @@ ghost use Rattle.gr_world.specs.Histories.{IsLawAbiding};
 /// the laws of records hold of them, and its clients were served step by step.
 pub fn laws_of_courses()
     ensures causal { (heading : Heading) (lines : List Line) → IsScript heading lines → IsCausal heading (course heading (reverse lines)) }
-    ensures abiding { (heading : Heading) (lines : List Line) → IsScript heading lines → (shard : ℕ) → IsLawAbiding (grid_at heading shard (course heading (reverse lines))) }
-    ensures served { (heading : Heading) (lines : List Line) → IsScript heading lines → AreServed heading (reverse lines) (course heading (reverse lines)) }
+    ensures abiding { (heading : Heading) (lines : List Line) → IsScript heading lines → (shard : ℕ)
+        → IsLawAbiding (grid_at heading shard (course heading (reverse lines))) }
+    ensures served { (heading : Heading) (lines : List Line) → IsScript heading lines
+        → AreServed heading (reverse lines) (course heading (reverse lines)) }
     // And each thing that is done has one lawful deed, so a course is the only one of its lines.
-    ensures one { (id : Identity) (opening : ℕ) (past : List Deed) (deed : Deed) (doing : Doing) → Says deed doing → IsLawfulDeed id opening deed past → deed ≡ deed_of id opening past doing }
+    ensures one { (id : Identity) (opening : ℕ) (past : List Deed) (deed : Deed) (doing : Doing) → Says deed doing
+        → IsLawfulDeed id opening deed past → deed ≡ deed_of id opening past doing }
 {}

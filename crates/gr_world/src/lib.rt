@@ -6,9 +6,11 @@ mod grid;
 mod laws;
 mod replaying;
 mod row;
+mod rows;
 mod tellings;
 mod world;
 
 pub use built::unbuilt;
 pub use laws::laws_of_courses;
 pub use replaying::replay;
+pub use rows::{a_repeat_is_told, an_image_drops_a_tombstone, concurrent_puts_meet};

@@ -75,7 +75,9 @@ impl World {
     ) -> Result<(), Memory>
         requires work { IsAtWork (heading_of script.now) self.old }
         requires stated { IsStated client (heading_of script.now) }
-        ensures { IfOk result (λ _. Plays (heading_of script.now) (after (heading_of script.now) (line.Step client seq (act.Call ask.now))) self.old self.new) }
+        ensures { IfOk result
+            (λ _. Plays (heading_of script.now)
+            (after (heading_of script.now) (line.Step client seq (act.Call ask.now))) self.old self.new) }
     {
         let member = home(script, client);
         let shard = ask.key().shard(script.shards);
@@ -83,16 +85,13 @@ impl World {
         Ok(self.tellings.tell(client, Answer::Reply(done.reply))?)
     }
 
-    fn peek(
-        &mut self,
-        alloc: Global,
-        script: &Script,
-        client: u8,
-        key: &Key,
-    ) -> Result<(), Memory>
+    fn peek(&mut self, alloc: Global, script: &Script, client: u8, key: &Key) -> Result<(), Memory>
         requires work { IsAtWork (heading_of script.now) self.old }
         requires stated { IsStated client (heading_of script.now) }
-        ensures { IfOk result (λ _. (seq : ℕ) → Plays (heading_of script.now) (after (heading_of script.now) (line.Step client seq (act.Peek key.now))) self.old self.new) }
+        ensures { IfOk result
+            (λ _. (seq : ℕ)
+            → Plays (heading_of script.now)
+            (after (heading_of script.now) (line.Step client seq (act.Peek key.now))) self.old self.new) }
     {
         let member = home(script, client);
         let shard = key.shard(script.shards);
@@ -110,7 +109,8 @@ impl World {
     ) -> Result<(), Memory>
         requires work { IsAtWork (heading_of script.now) self.old }
         requires stated { IsStated client (heading_of script.now) }
-        ensures { IfOk result (λ _. Plays (heading_of script.now) (after (heading_of script.now) (line.Step client seq act.now)) self.old self.new) }
+        ensures { IfOk result
+            (λ _. Plays (heading_of script.now) (after (heading_of script.now) (line.Step client seq act.now)) self.old self.new) }
     {
         match act {
             Act::Call(ask) => Ok(self.call(alloc, script, client, seq, ask)?),
@@ -134,7 +134,9 @@ impl World {
     /// What is left behind the last line.
     pub fn into_record(self, alloc: Global, script: &Script) -> Result<Record, Memory>
         requires { IsAtWork (heading_of script.now) self }
-        ensures { IfOk result (λ left. (events : List Event) → self ≡ world_left (heading_of script.now) events → IsLeft (heading_of script.now) events left) }
+        ensures { IfOk result
+            (λ left. (events : List Event) → self ≡ world_left (heading_of script.now) events
+            → IsLeft (heading_of script.now) events left) }
     {
         let World { grid, tellings } = self;
         Ok(Record {

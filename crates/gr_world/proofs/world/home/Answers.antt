@@ -1,5 +1,5 @@
-use Rattle.std.proofs.Common.{◌≡◌, ◌-◌, ap, ◌∙◌, sym, subst, slice_index}
-use Rattle.gr_script.specs.Rules.{IsMember, home_of}
+use Rattle.std.proofs.Common.{◌-◌, ap, ◌∙◌, sym, subst, slice_index}
+use Rattle.gr_script.specs.Rules.{IsMember}
 use Rattle.gr_script.specs.Scripts.{heading_of}
 use Rattle.gr_world.proofs.Causal.{home_stated}
 use Rattle.gr_world.proofs.world.home.Goals as goal

@@ -1,4 +1,4 @@
-use Rattle.std.proofs.Common.{◌≡◌, ◌∙◌, []}
+use Rattle.std.proofs.Common.{◌∙◌, []}
 use Rattle.gr_world.proofs.Lists.{numbers_more}
 use Rattle.gr_world.proofs.tellings.Tellings.new.Goals as goal
 

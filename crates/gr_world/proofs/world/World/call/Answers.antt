@@ -1,4 +1,4 @@
-use Rattle.std.proofs.Common.{◌≡◌, ◌∙◌, ap, sym, subst, ◌<◌, arith, length}
+use Rattle.std.proofs.Common.{◌≡◌, ◌∙◌, ap, arith}
 use Rattle.gr_value.specs.Shard.{shard_of}
 use Rattle.gr_history.specs.Asks.{key_of}
 use Rattle.gr_script.specs.Scripts.{heading_of}
@@ -7,20 +7,21 @@ use Rattle.gr_world.proofs.world.World.call.Goals as goal
 
 pub call-requires-clause-cell : goal.call-requires-clause-cell
 call-requires-clause-cell c =
-    let heading = heading_of c.args.script.now in
-    let at : c.shard-shard.result ≡ shard_of (key_of c.args.ask.now) heading.shards =
-    c.shard-shard.ensures ∙ ap (λ key. shard_of key heading.shards) c.key.ensures in
-    work_cell heading c.args.self.now c.home-member.result c.shard-shard.result c.requires.work c.home-member.ensures.member
-    (subst (λ n. n < heading.shards) (sym at) (shard_within (key_of c.args.ask.now) heading.shards c.args.script.now.ruled.heading.shards.0))
+    let script = c.args.script.now in
+    let key = key_of c.args.ask.now in
+    let shard = c.shard-shard.result in
+    let at : shard ≡ shard_of key script.shards = c.shard-shard.ensures ∙ ap (λ k. shard_of k script.shards) c.key.ensures in
+    work_cell (heading_of script) c.args.self.now c.home-member.result shard c.requires.work c.home-member.ensures.member
+    (shard_within key shard script.shards script.ruled.heading.shards.0 at)
 
 pub call-requires-clause-here : goal.call-requires-clause-here
 call-requires-clause-here c =
-    let heading = heading_of c.args.script.now in
-    let at : c.shard-shard.result ≡ shard_of (key_of c.args.ask.now) heading.shards =
-    c.shard-shard.ensures ∙ ap (λ key. shard_of key heading.shards) c.key.ensures in
-    work_shard heading c.args.self.now c.home-member.result c.shard-shard.result (key_of c.args.ask.now) c.requires.work
-    c.home-member.ensures.member
-    (subst (λ n. n < heading.shards) (sym at) (shard_within (key_of c.args.ask.now) heading.shards c.args.script.now.ruled.heading.shards.0)) at
+    let script = c.args.script.now in
+    let key = key_of c.args.ask.now in
+    let shard = c.shard-shard.result in
+    let at : shard ≡ shard_of key script.shards = c.shard-shard.ensures ∙ ap (λ k. shard_of k script.shards) c.key.ensures in
+    work_shard (heading_of script) c.args.self.now c.home-member.result shard key c.requires.work c.home-member.ensures.member
+    (shard_within key shard script.shards script.ruled.heading.shards.0 at) at
 
 pub tell-requires-clause-stated : goal.tell-requires-clause-stated
 tell-requires-clause-stated c =
@@ -29,10 +30,10 @@ tell-requires-clause-stated c =
 
 pub returns : goal.returns
 returns c =
-    let heading = heading_of c.args.script.now in
-    let at : c.shard-shard.result ≡ shard_of (key_of c.args.ask.now) heading.shards =
-    c.shard-shard.ensures ∙ ap (λ key. shard_of key heading.shards) c.key.ensures in
-    call_plays heading c.args.self.now _ c.home-member.result c.shard-shard.result c.args.client c.args.seq c.args.ask.now c.in_ok-done.done
-    c.home-member.ensures.member c.requires.stated c.args.script.now.ruled.heading.shards.0 c.home-member.ensures.home at
-    (subst (λ n. n < heading.shards) (sym at) (shard_within (key_of c.args.ask.now) heading.shards c.args.script.now.ruled.heading.shards.0))
-    c.in_ok-done.ensures c.in_ok-tell.ensures
+    let script = c.args.script.now in
+    let key = key_of c.args.ask.now in
+    let shard = c.shard-shard.result in
+    let at : shard ≡ shard_of key script.shards = c.shard-shard.ensures ∙ ap (λ k. shard_of k script.shards) c.key.ensures in
+    call_plays (heading_of script) c.args.self.now _ c.home-member.result shard c.args.client c.args.seq c.args.ask.now
+    c.in_ok-done.done c.home-member.ensures.member c.requires.stated c.home-member.ensures.home at
+    (shard_within key shard script.shards script.ruled.heading.shards.0 at) c.in_ok-done.ensures c.in_ok-tell.ensures
