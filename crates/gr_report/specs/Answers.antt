@@ -1,5 +1,6 @@
 -- The text of what the clients were told.
-use Rattle.std.specs.Prelude.{ℕ, ◌+◌, List, [], ◌∷◌, ◌++◌, codes, decimal}
+use Rattle.std.specs.Prelude.{ℕ, ◌+◌, List, [], ◌∷◌, ◌++◌, codes, decimal, Option, Some, None}
+use Rattle.gr_value.specs.declared.value.Field.{Field}
 use Rattle.gr_value.specs.ValueText.{value_text}
 use Rattle.gr_history.specs.declared.reply.Reply.{Reply}
 use Rattle.gr_history.specs.declared.reply.Reply.TheVariants.{Null, Value, Done, Yes, No, NotFound, NotReady, Limit}
@@ -17,8 +18,14 @@ reply_text NotFound = codes "not-found"
 reply_text NotReady = codes "not-ready"
 reply_text Limit = codes "limit"
 
+abbrev pub seen_text : Option (List Field) → List ℕ
+seen_text None = codes "null"
+seen_text (Some value) = value_text value
+
+-- A peek is told with the place of the history that it saw.
 abbrev pub answer_text : Answer → List ℕ
 answer_text (answer.Reply reply) = reply_text reply
+answer_text (answer.Peeked seen at) = seen_text seen ++ codes " @" ++ decimal at
 
 -- the line of one answer, with its client and the number of its step
 unfoldable pub answer_line : ℕ → ℕ → Answer → List ℕ

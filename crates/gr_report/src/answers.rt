@@ -1,10 +1,11 @@
 ghost use Rattle.std.specs.Prelude.{◌≡◌, ◌++◌, OnOk};
-ghost use Rattle.gr_report.specs.Answers.{reply_text, answer_text, answer_line, client_text};
+ghost use Rattle.gr_history.specs.declared.record.Answer.TheVariants as answer;
+ghost use Rattle.gr_report.specs.Answers.{reply_text, seen_text, answer_text, answer_line, client_text};
 
 use crate::put::{put_number, put_text};
 use crate::written::Written;
 use gr_history::{Answer, ClientRecord, Reply};
-use gr_value::Memory;
+use gr_value::{Memory, Value};
 use std::alloc::Global;
 
 fn put_reply(alloc: Global, out: &mut Vec<u8>, reply: &Reply) -> Result<(), Memory>
@@ -22,11 +23,30 @@ fn put_reply(alloc: Global, out: &mut Vec<u8>, reply: &Reply) -> Result<(), Memo
     }
 }
 
+// What a peek saw.
+fn put_seen(alloc: Global, out: &mut Vec<u8>, seen: &Option<Value>) -> Result<(), Memory>
+    ensures { OnOk result (out.new.items ≡ out.old.items ++ seen_text seen.now) }
+{
+    match seen {
+        None => put_text(out, "null"),
+        Some(value) => value.print_to(alloc, out),
+    }
+}
+
+fn put_peek(alloc: Global, out: &mut Vec<u8>, seen: &Option<Value>, at: u64) -> Result<(), Memory>
+    ensures { OnOk result (out.new.items ≡ out.old.items ++ answer_text (answer.Peeked seen.now at)) }
+{
+    put_seen(alloc, out, seen)?;
+    put_text(out, " @")?;
+    put_number(out, u128::from(at))
+}
+
 fn put_answer(alloc: Global, out: &mut Vec<u8>, answer: &Answer) -> Result<(), Memory>
     ensures { OnOk result (out.new.items ≡ out.old.items ++ answer_text answer.now) }
 {
     match answer {
         Answer::Reply(reply) => put_reply(alloc, out, reply),
+        Answer::Peeked { value, at } => put_peek(alloc, out, value, *at),
     }
 }
 
