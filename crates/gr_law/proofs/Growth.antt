@@ -14,30 +14,12 @@ use Rattle.gr_law.specs.Integrity.{IsGift}
 use Rattle.gr_history.specs.Lawful.{IsLawful, IsLawfulDeed}
 use Rattle.gr_history.specs.Gifts.{IsImageOf}
 use Rattle.gr_history.specs.declared.image.What.TheVariants as what
+use Rattle.gr_law.specs.Next.{IsFirstImage, IsNext}
 use Rattle.gr_law.proofs.Lists.{among_right}
 
 -- the member's history with one more deed
 abbrev pub pushed : Grid → ℕ → Deed → Grid
 pushed grid m deed = record grid { history = λ i. if i == m then deed ∷ grid.history i else grid.history i }
-
--- an image comes once
-abbrev pub IsFirstImage : Deed → List Deed → Type 0
-IsFirstImage (Call client seq ask reply made to) past = Unit {0}
-IsFirstImage (Taken change verdict) past = Unit {0}
-IsFirstImage (Gave to what) past = Unit {0}
-IsFirstImage (Imaged image) past = HasNoImage past
-IsFirstImage (Reported report) past = Unit {0}
-IsFirstImage (Heard report) past = Unit {0}
-IsFirstImage (Swept moment keys) past = Unit {0}
-
--- what is asked of a deed that comes next at the member
-pub record IsNext (grid : Grid) (m : ℕ) (deed : Deed) : Type 0 where
-  pub from : 1 ≤ m
-  pub to : m ≤ grid.members
-  pub lawful : IsLawfulDeed (identity grid m) (grid.opening m) deed (grid.history m)
-  pub genuine : IsGenuineDeed grid m deed
-  pub once : IsFirstImage deed (grid.history m)
-  pub heard : IsHeardDeed grid deed
 
 still_made : (grid : Grid) (m : ℕ) (deed : Deed) (change : Change) → IsMade grid change → IsMade (pushed grid m deed) change
 still_made grid m deed change h = at_test (change.stamp.member == m)
@@ -158,3 +140,12 @@ whole_pushed grid whole m deed next = record {
       (still_heard grid m deed deed next.heard, all_heard grid m deed (grid.history m) (whole.heard m))
       (λ i. all_heard grid m deed (grid.history i) (whole.heard i));
 }
+
+pub same_grid : (grid : Grid) (history : ℕ → List Deed) → ((i : ℕ) → grid.history i ≡ history i) → grid ≡ record grid { history = history }
+same_grid grid history e = λ j. record grid { history = λ i. e i j }
+
+-- The same, where the new histories are given member by member.
+pub whole_next : (grid : Grid) → IsWhole grid → (m : ℕ) (deed : Deed) → IsNext grid m deed → (history : ℕ → List Deed)
+    → ((i : ℕ) → (pushed grid m deed).history i ≡ history i) → IsWhole (record grid { history = history })
+whole_next grid whole m deed next history e =
+    subst IsWhole (same_grid (pushed grid m deed) history e) (whole_pushed grid whole m deed next)

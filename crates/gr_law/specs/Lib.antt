@@ -1,4 +1,5 @@
 pub mod Grids
 pub mod Integrity
 pub mod Laws
+pub mod Next
 pub mod Small

@@ -1,4 +1,12 @@
-pub mod Calls
+pub mod Built
+pub mod Causes
+pub mod Clients
+pub mod Courses
+pub mod Doings
+pub mod Events
 pub mod Histories
-pub mod Plays
-pub mod Replayed
+pub mod Named
+pub mod Numbered
+pub mod Records
+pub mod Rows
+pub mod Worlds

@@ -1,7 +1,16 @@
 //! Replay: the one record that a script's lines define.
 #![tactic(auto)]
 
-mod play;
+mod built;
+mod grid;
+mod laws;
 mod replaying;
+mod row;
+mod rows;
+mod tellings;
+mod world;
 
+pub use built::unbuilt;
+pub use laws::laws_of_courses;
 pub use replaying::replay;
+pub use rows::{a_repeat_is_told, an_image_drops_a_tombstone, concurrent_puts_meet};

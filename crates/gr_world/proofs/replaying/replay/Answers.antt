@@ -1,18 +1,37 @@
-use Rattle.std.proofs.Common.{arith}
 use Rattle.std.proofs.lemmas.Grind.{common_steps}
-use Rattle.gr_world.proofs.Abiding.{abiding_record}
-use Rattle.gr_world.proofs.Follows.{follows-listed}
-use Rattle.gr_world.proofs.OneRecord.{only_record}
+use Rattle.gr_world.specs.Records.{IsReplayed}
+use Rattle.gr_world.proofs.Left.{left_abiding}
+use Rattle.std.proofs.Common.{◌≡◌, ◌∙◌, arith, subst, sym, reverse, take, List, length, get_or, ◌<◌}
+use Rattle.gr_script.specs.declared.line.Line.{Line}
+use Rattle.gr_script.specs.Scripts.{heading_of}
+use Rattle.gr_world.specs.Courses.{course}
+use Rattle.gr_world.specs.Worlds.{CanPlay}
+use Rattle.gr_world.proofs.Playable.{can_play}
 use Rattle.gr_world.proofs.replaying.replay.Goals as goal
 
-pub loop-line-preserved : goal.loop-line-preserved
-loop-line-preserved c =
-    follows-listed c.args.script.now c.args.script.now.ruled c.as_slice-line-items.result.now c.as_slice-line-items.ensures
-    c.loop-line.shard c.play.new.shard c.loop-line.answers c.push.new.self c.loop-line.line-index c.line-item.result c.in_ok-play.field-0
-    c.loop-line.invariant c.loop-line-test.true c.line-item.is c.in_ok-play.ensures c.in_ok-push.ensures.ok
+pub play-requires-clause-work : goal.play-requires-clause-work
+play-requires-clause-work c = (
+  course (heading_of c.args.script.now) (reverse (take c.loop-line.line-index c.as_slice-line-items.result.now)),
+  c.loop-line.invariant,
+)
 
-pub returns-clause-one : goal.returns-clause-one
-returns-clause-one c = only_record c.args.script.now c.record_of.result (grind (arith, common_steps))
+pub play-requires-clause-built : goal.play-requires-clause-built
+play-requires-clause-built c =
+    let heading = heading_of c.args.script.now in
+    let line = c.line-item.result in
+    let i = c.loop-line.line-index in
+    let CanAt : List Line → Type 0 = λ lines. i < length lines → line ≡ get_or lines i line → CanPlay heading line in
+    subst CanAt (sym c.as_slice-line-items.ensures) (can_play heading c.args.script.now.lines c.args.script.now.ruled c.requires i line)
+    c.loop-line-test.true c.line-item.is
 
 pub returns-clause-laws : goal.returns-clause-laws
-returns-clause-laws c = abiding_record c.args.script.now c.record_of.result (grind (arith, common_steps))
+returns-clause-laws c =
+    let script = c.args.script.now in
+    let heading = heading_of script in
+    let left = c.in_ok-into_record.field-0 in
+    let all : take c.loop-line.line-index c.as_slice-line-items.result.now ≡ c.as_slice-line-items.result.now =
+    grind (arith, common_steps, c.loop-line-test.false) in
+    let replayed : IsReplayed heading script.lines left =
+    subst (λ lines. IsReplayed heading lines left) (all ∙ c.as_slice-line-items.ensures)
+    (c.in_ok-into_record.ensures _ c.loop-line.invariant) in
+    left_abiding heading script.lines script.ruled left replayed

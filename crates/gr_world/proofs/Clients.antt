@@ -1,0 +1,217 @@
+-- Each client's calls stand once and in order, with its answers.
+use Rattle.std.proofs.Common.{suc, ◌≡◌, ℕ, List, [], ◌∷◌, Bool, true, false, ◌&&◌, ◌==◌, refl, ap, ◌∙◌, subst, inl, inr}
+use Rattle.std.proofs.Common.{arith, map, if◌then◌else◌}
+use Rattle.std.specs.Prelude.{Option, Some, None}
+use Rattle.std.proofs.lemmas.Bool.Decides.{nat_tests}
+use Rattle.gr_value.specs.Shard.{shard_of}
+use Rattle.gr_stamp.specs.declared.change.Change.{Change}
+use Rattle.gr_vector.specs.declared.report.Report.{Report}
+use Rattle.gr_history.specs.declared.reply.Reply.{Reply}
+use Rattle.gr_history.specs.declared.image.What.{What}
+use Rattle.gr_history.specs.declared.image.What.TheVariants as what
+use Rattle.gr_history.specs.declared.deed.Deed.TheVariants.{Call}
+use Rattle.gr_history.specs.declared.record.Answer.{Answer}
+use Rattle.gr_history.specs.declared.record.Answer.TheVariants as answer
+use Rattle.gr_history.specs.Asks.{key_of}
+use Rattle.gr_history.specs.Made.{made}
+use Rattle.gr_history.specs.Gifts.{own_changes}
+use Rattle.gr_law.specs.Grids.{Among}
+use Rattle.gr_script.specs.declared.line.Act.TheVariants as act
+use Rattle.gr_script.specs.declared.line.Line.{Line}
+use Rattle.gr_script.specs.declared.line.Line.TheVariants.{Step, Deliver, Hear, Sweep, Join}
+use Rattle.gr_script.specs.declared.line.Line.TheVariants as line
+use Rattle.gr_script.specs.Rules.{Heading, home_of}
+use Rattle.gr_world.specs.Events.{Event, Did, Peeked, put_if, history}
+use Rattle.gr_world.specs.Doings.{Doing, Calls, Takes, Gives, Merges, Reports, Hears, Sweeps, image_of}
+use Rattle.gr_world.specs.Named.{made_by, reports, numbered}
+use Rattle.gr_world.specs.Courses.{does, for_each, delivers, hears, takes_all, gives_unless, what_from, after, course}
+use Rattle.gr_world.specs.Clients.{add_some, askings, asked_at, calls_stand, Numbered, told_by_deed, told, number_at, answers_stand}
+use Rattle.gr_world.specs.Clients.{replies_stand}
+use Rattle.gr_world.proofs.Events.{at_put}
+use Rattle.gr_world.proofs.Causes.{each_keeps}
+
+-- all but a call
+abbrev pub IsQuiet : Doing → Type 0
+IsQuiet (Calls client number ask) = ⊥
+IsQuiet (Takes change) = Unit {0}
+IsQuiet (Gives to what) = Unit {0}
+IsQuiet (Merges image) = Unit {0}
+IsQuiet Reports = Unit {0}
+IsQuiet (Hears report) = Unit {0}
+IsQuiet (Sweeps moment) = Unit {0}
+
+abbrev pub IsNoStep : Line → Type 0
+IsNoStep (Step client number act) = ⊥
+IsNoStep (Deliver member client number) = Unit {0}
+IsNoStep (line.Report member) = Unit {0}
+IsNoStep (Hear member of number) = Unit {0}
+IsNoStep (Sweep member moment) = Unit {0}
+IsNoStep (Join joiner provider) = Unit {0}
+
+abbrev pub Keeps : Heading → (List Event → Type 0) → Type 0
+Keeps heading P = (m s : ℕ) (doing : Doing) (now : List Event) → IsQuiet doing → P now → P (does heading m s doing now)
+
+takes_keep : (heading : Heading) (P : List Event → Type 0) → Keeps heading P → (m s : ℕ) (changes : List Change) (now : List Event)
+    → P now → P (takes_all heading m s changes now)
+takes_keep heading P keeps m s [] now h = h
+takes_keep heading P keeps m s (change ∷ rest) now h =
+    takes_keep heading P keeps m s rest (does heading m s (Takes change) now) (keeps m s (Takes change) now tt h)
+
+gives_keep : (heading : Heading) (P : List Event → Type 0) → Keeps heading P
+    → (joiner shard giver : ℕ) (stays : Bool) (gift : What) (now : List Event) → P now
+    → P (gives_unless stays heading joiner shard giver gift now)
+gives_keep heading P keeps joiner shard giver true gift now h = h
+gives_keep heading P keeps joiner shard giver false what.Image now h =
+    keeps joiner shard (Merges (image_of giver heading.floor (history giver shard now)))
+    (does heading giver shard (Gives joiner what.Image) now) tt (keeps giver shard (Gives joiner what.Image) now tt h)
+gives_keep heading P keeps joiner shard giver false what.Own now h =
+    takes_keep heading P keeps joiner shard (own_changes (history giver shard now)) (does heading giver shard (Gives joiner what.Own) now)
+    (keeps giver shard (Gives joiner what.Own) now tt h)
+
+-- what each deed but a call keeps, each line but a step keeps
+pub rest_keeps : (heading : Heading) (P : List Event → Type 0) → Keeps heading P → (line : Line) (before : List Event) → IsNoStep line
+    → P before → P (after heading line before)
+rest_keeps heading P keeps (Step client number act) before quiet h = absurd quiet
+rest_keeps heading P keeps (Deliver member client number) before quiet h = at_change (made_by client number before)
+  where
+    at_change : (o : Option Change) → P (delivers heading member o before)
+    at_change None = h
+    at_change (Some change) = keeps member (shard_of change.key heading.shards) (Takes change) before tt h
+rest_keeps heading P keeps (line.Report member) before quiet h =
+    each_keeps (λ n now. P now) heading.shards (λ shard. does heading member shard Reports) before h
+    (λ shard now less k. keeps member shard Reports now tt k)
+rest_keeps heading P keeps (Hear member of number) before quiet h =
+    each_keeps (λ n now. P now) heading.shards
+    (λ shard now. hears heading member shard (numbered number (reports (history of shard now))) now) before h
+    (λ shard now less k. at_report shard now k (numbered number (reports (history of shard now))))
+  where
+    at_report : (shard : ℕ) (now : List Event) → P now → (o : Option Report) → P (hears heading member shard o now)
+    at_report shard now k None = k
+    at_report shard now k (Some report) = keeps member shard (Hears report) now tt k
+rest_keeps heading P keeps (Sweep member moment) before quiet h =
+    each_keeps (λ n now. P now) heading.shards (λ shard. does heading member shard (Sweeps moment)) before h
+    (λ shard now less k. keeps member shard (Sweeps moment) now tt k)
+rest_keeps heading P keeps (Join joiner provider) before quiet h =
+    each_keeps (λ n now. P now) heading.shards
+    (λ shard. for_each heading.members
+    (λ n. gives_unless (suc n == joiner) heading joiner shard (suc n) (what_from (suc n == provider)))) before h
+    (λ shard now less k. each_keeps (λ n mid. P mid) heading.members
+    (λ n. gives_unless (suc n == joiner) heading joiner shard (suc n) (what_from (suc n == provider))) now k
+    (λ n mid within j. gives_keep heading P keeps joiner shard (suc n) (suc n == joiner) (what_from (suc n == provider)) mid j))
+
+quiet_deed : (heading : Heading) (i t m s : ℕ) (doing : Doing) (now : List Event) → IsQuiet doing
+    → askings (history i t (does heading m s doing now)) ≡ askings (history i t now)
+quiet_deed heading i t m s (Calls client number ask) now quiet = absurd quiet
+quiet_deed heading i t m s (Takes change) now quiet =
+    at_put (λ past. askings past ≡ askings (history i t now)) (t == s && i == m) _ (history i t now) refl (λ e. e)
+quiet_deed heading i t m s (Gives to what) now quiet =
+    at_put (λ past. askings past ≡ askings (history i t now)) (t == s && i == m) _ (history i t now) refl (λ e. e)
+quiet_deed heading i t m s (Merges image) now quiet =
+    at_put (λ past. askings past ≡ askings (history i t now)) (t == s && i == m) _ (history i t now) refl (λ e. e)
+quiet_deed heading i t m s Reports now quiet =
+    at_put (λ past. askings past ≡ askings (history i t now)) (t == s && i == m) _ (history i t now) refl (λ e. e)
+quiet_deed heading i t m s (Hears report) now quiet =
+    at_put (λ past. askings past ≡ askings (history i t now)) (t == s && i == m) _ (history i t now) refl (λ e. e)
+quiet_deed heading i t m s (Sweeps moment) now quiet =
+    at_put (λ past. askings past ≡ askings (history i t now)) (t == s && i == m) _ (history i t now) refl (λ e. e)
+
+rest_asks : (heading : Heading) (line : Line) (before : List Event) (i t : ℕ) → IsNoStep line
+    → askings (history i t (after heading line before)) ≡ askings (history i t before)
+rest_asks heading line before i t quiet =
+    rest_keeps heading (λ now. askings (history i t now) ≡ askings (history i t before))
+    (λ m s doing now not e. quiet_deed heading i t m s doing now not ∙ e) line before quiet refl
+
+line_asks : (heading : Heading) (line : Line) (before : List Event) (i t : ℕ)
+    → askings (history i t (after heading line before)) ≡ add_some (asked_at heading i t line) (askings (history i t before))
+line_asks heading (Step client number (act.Call ask)) before i t =
+    at_test (t == shard_of (key_of ask) heading.shards && i == home_of heading client) _ _ _
+  where
+    at_test : (b : Bool) (reply : Reply) (made : Option Change) (to : ℕ)
+        → askings (put_if b (Call client number ask reply made to) (history i t before))
+        ≡ add_some (if b then Some (record { client = client; number = number; ask = ask }) else None) (askings (history i t before))
+    at_test true reply made to = refl
+    at_test false reply made to = refl
+line_asks heading (Step client number (act.Query ask)) before i t = refl
+line_asks heading (Step client number (act.Peek key)) before i t = refl
+line_asks heading (Deliver member client number) before i t = rest_asks heading (Deliver member client number) before i t tt
+line_asks heading (line.Report member) before i t = rest_asks heading (line.Report member) before i t tt
+line_asks heading (Hear member of number) before i t = rest_asks heading (Hear member of number) before i t tt
+line_asks heading (Sweep member moment) before i t = rest_asks heading (Sweep member moment) before i t tt
+line_asks heading (Join joiner provider) before i t = rest_asks heading (Join joiner provider) before i t tt
+
+pub calls_stand-holds : (heading : Heading) (past : List Line) → calls_stand heading past (course heading past)
+calls_stand-holds heading [] i t = refl
+calls_stand-holds heading (line ∷ past) i t =
+    line_asks heading line (course heading past) i t ∙ ap (add_some (asked_at heading i t line)) (calls_stand-holds heading past i t)
+
+quiet_told : (heading : Heading) (client m s : ℕ) (doing : Doing) (now : List Event) → IsQuiet doing
+    → told client (does heading m s doing now) ≡ told client now
+quiet_told heading client m s (Calls own number ask) now quiet = absurd quiet
+quiet_told heading client m s (Takes change) now quiet = refl
+quiet_told heading client m s (Gives to what) now quiet = refl
+quiet_told heading client m s (Merges image) now quiet = refl
+quiet_told heading client m s Reports now quiet = refl
+quiet_told heading client m s (Hears report) now quiet = refl
+quiet_told heading client m s (Sweeps moment) now quiet = refl
+
+rest_tells : (heading : Heading) (line : Line) (before : List Event) (client : ℕ) → IsNoStep line
+    → told client (after heading line before) ≡ told client before
+rest_tells heading line before client quiet =
+    rest_keeps heading (λ now. told client now ≡ told client before)
+    (λ m s doing now not e. quiet_told heading client m s doing now not ∙ e) line before quiet refl
+
+abbrev counted : List Numbered → List ℕ
+counted all = map (λ one. one.number) all
+
+count_one : (b : Bool) (number : ℕ) (answer : Answer) (all : List Numbered)
+    → counted (add_some (if b then Some (record { number = number; answer = answer }) else None) all) ≡ add_some
+    (if b then Some number else None) (counted all)
+count_one true number answer all = refl
+count_one false number answer all = refl
+
+line_tells : (heading : Heading) (line : Line) (before : List Event) (client : ℕ)
+    → counted (told client (after heading line before)) ≡ add_some (number_at client line) (counted (told client before))
+line_tells heading (Step who number (act.Call ask)) before client = count_one (who == client) number _ (told client before)
+line_tells heading (Step who number (act.Query ask)) before client = refl
+line_tells heading (Step who number (act.Peek key)) before client = count_one (who == client) number _ (told client before)
+line_tells heading (Deliver member of number) before client = ap counted (rest_tells heading (Deliver member of number) before client tt)
+line_tells heading (line.Report member) before client = ap counted (rest_tells heading (line.Report member) before client tt)
+line_tells heading (Hear member of number) before client = ap counted (rest_tells heading (Hear member of number) before client tt)
+line_tells heading (Sweep member moment) before client = ap counted (rest_tells heading (Sweep member moment) before client tt)
+line_tells heading (Join joiner provider) before client = ap counted (rest_tells heading (Join joiner provider) before client tt)
+
+pub answers_stand-holds : (heading : Heading) (past : List Line) → answers_stand past (course heading past)
+answers_stand-holds heading [] client = refl
+answers_stand-holds heading (line ∷ past) client =
+    line_tells heading line (course heading past) client ∙ ap (add_some (number_at client line)) (answers_stand-holds heading past client)
+
+among_some : {A : Type 0} → (x : A) (o : Option A) (rest : List A) → Among x rest → Among x (add_some o rest)
+among_some x None rest a = a
+among_some x (Some first) rest a = inr a
+
+-- This holds of each list of events.
+pub replies_stand-holds : (course : List Event) → replies_stand course
+replies_stand-holds [] member shard client number ask reply made to a = absurd a
+replies_stand-holds (Did m s deed ∷ before) member shard client number ask reply made to a =
+    at_test (shard == s && member == m) (replies_stand-holds before member shard client number ask reply made to) a
+  where
+    itself : (client == client) ≡ true
+    itself = grind (arith, nat_tests)
+
+    here : Call client number ask reply made to ≡ deed
+        → Among (record { number = number; answer = answer.Reply reply }) (add_some (told_by_deed client deed) (told client before))
+    here is = subst
+        (λ d. Among (record { number = number; answer = answer.Reply reply }) (add_some (told_by_deed client d) (told client before))) is
+        (rw itself (inl refl))
+
+    at_test : (b : Bool)
+        → (Among (Call client number ask reply made to) (history member shard before)
+        → Among (record { number = number; answer = answer.Reply reply }) (told client before))
+        → Among (Call client number ask reply made to) (put_if b deed (history member shard before))
+        → Among (record { number = number; answer = answer.Reply reply }) (add_some (told_by_deed client deed) (told client before))
+    at_test true next (inl is) = here is
+    at_test true next (inr a) = among_some _ (told_by_deed client deed) (told client before) (next a)
+    at_test false next a = among_some _ (told_by_deed client deed) (told client before) (next a)
+replies_stand-holds (Peeked own number_ key value at ∷ before) member shard client number ask reply made to a =
+    among_some _ (if own == client then Some (record { number = number_; answer = answer.Peeked value at }) else None) (told client before)
+    (replies_stand-holds before member shard client number ask reply made to a)

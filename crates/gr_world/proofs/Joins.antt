@@ -1,0 +1,285 @@
+-- A joiner is given one image, by a founder, and changes that were made.
+use Rattle.std.proofs.Common.{suc, ◌≡◌, ◌⊎◌, ℕ, ◌+◌, ◌≤◌, ◌<◌, List, [], ◌∷◌, Bool, true, false, ◌==◌, refl, sym, ap, ◌∙◌, subst, inl, inr}
+use Rattle.std.proofs.Common.{arith, reverse, length, if◌then◌else◌}
+use Rattle.std.specs.Prelude.{Option, Some, None, nat_le}
+use Rattle.std.proofs.lemmas.Bool.Decides.{nat_tests}
+use Rattle.gr_value.specs.Shard.{shard_of}
+use Rattle.gr_stamp.specs.declared.change.Change.{Change}
+use Rattle.gr_vector.specs.declared.report.Report.{Report}
+use Rattle.gr_history.specs.declared.image.Image.{Image}
+use Rattle.gr_history.specs.declared.image.What.{What}
+use Rattle.gr_history.specs.declared.image.What.TheVariants as what
+use Rattle.gr_history.specs.declared.deed.Deed.{Deed}
+use Rattle.gr_history.specs.declared.deed.Deed.TheVariants.{Gave, Imaged}
+use Rattle.gr_history.specs.Asks.{key_of}
+use Rattle.gr_history.specs.Calls.{given}
+use Rattle.gr_history.specs.Made.{made}
+use Rattle.gr_history.specs.Gifts.{own_changes, IsImageOf}
+use Rattle.gr_history.specs.Lawful.{IsLawful}
+use Rattle.gr_law.specs.Grids.{Among, Older, at_place}
+use Rattle.gr_law.specs.Integrity.{giver_of, IsMade, HasNoImage, IsGift}
+use Rattle.gr_law.proofs.Lists.{among_either}
+use Rattle.gr_law.proofs.Made.{made_member}
+use Rattle.gr_script.specs.declared.line.Act.TheVariants as act
+use Rattle.gr_script.specs.declared.line.Line.{Line}
+use Rattle.gr_script.specs.declared.line.Line.TheVariants.{Step, Deliver, Hear, Sweep, Join}
+use Rattle.gr_script.specs.declared.line.Line.TheVariants as line
+use Rattle.gr_script.specs.Rules.{Heading, IsMember, home_of}
+use Rattle.gr_script.specs.Steps.{joins_of, is_join_of}
+use Rattle.std.proofs.lemmas.List.Sums.{sum_by-cons}
+use Rattle.gr_world.specs.Events.{Event, Did, history}
+use Rattle.gr_world.specs.Doings.{Doing, Calls, Takes, Gives, Merges, Reports, Hears, Sweeps, deed_of, image_of}
+use Rattle.gr_world.specs.Named.{made_by, reports, numbered}
+use Rattle.gr_world.specs.Courses.{identity_at, does, for_each, delivers, hears, takes_all, gives_unless, what_from, after, course}
+use Rattle.gr_world.specs.Causes.{grid_at, IsCausal}
+use Rattle.std.proofs.lemmas.Grind.{reverse_onto}
+use Rattle.gr_world.proofs.Events.{equal_numbers, history_here, more_made, no_image, other_shard, Spares}
+use Rattle.gr_world.proofs.Ordered.{standing_in_order}
+use Rattle.gr_world.proofs.Whole.{whole_course}
+use Rattle.gr_world.proofs.Causes.{does_causal, each_keeps}
+
+-- what the lines before left at the joiner: all in integrity, and no image from this shard on
+pub record IsReady (heading : Heading) (joiner from : ℕ) (now : List Event) : Type 0 where
+  pub causal : IsCausal heading now
+  pub none : (shard : ℕ) → from ≤ shard → HasNoImage (history joiner shard now)
+
+-- the same between two givers of a shard
+pub record IsJoining (heading : Heading) (joiner provider shard given : ℕ) (now : List Event) : Type 0 where
+  pub causal : IsCausal heading now
+  pub none : given < provider → HasNoImage (history joiner shard now)
+  pub later : (t : ℕ) → shard < t → HasNoImage (history joiner t now)
+
+takes_joining : (heading : Heading) (joiner provider shard given : ℕ) (changes : List Change) (now : List Event) → IsMember heading joiner
+    → ((change : Change) → Among change changes → IsMade (grid_at heading shard now) change)
+    → IsJoining heading joiner provider shard given now
+    → IsJoining heading joiner provider shard given (takes_all heading joiner shard changes now)
+takes_joining heading joiner provider shard given [] now is made_all h = h
+takes_joining heading joiner provider shard given (change ∷ rest) now is made_all h =
+    takes_joining heading joiner provider shard given rest (does heading joiner shard (Takes change) now) is
+    (λ one a. more_made one.stamp.member shard one
+    (Did joiner shard (deed_of (identity_at heading joiner shard) heading.floor (history joiner shard now) (Takes change))) now
+    (made_all one (inr a)))
+    (record {
+      causal = does_causal heading joiner shard (Takes change) now is (made_all change (inl refl)) h.causal;
+      none = λ less. no_image heading joiner shard joiner shard (Takes change) now tt (h.none less);
+      later = λ t less. no_image heading joiner t joiner shard (Takes change) now tt (h.later t less);
+    })
+
+among_reverse : {A : Type 0} → (x : A) (xs : List A) → Among x (reverse xs) → Among x xs
+among_reverse x [] a = a
+among_reverse x (first ∷ rest) a =
+    at (among_reverse x rest) (among_either x (reverse rest) (first ∷ []) (subst (Among x) (reverse_onto rest first []) a))
+  where
+    at : (Among x (reverse rest) → Among x rest) → Among x (reverse rest) ⊎ Among x (first ∷ []) → Among x (first ∷ rest)
+    at next (inl a) = inr (next a)
+    at next (inr (inl is)) = inl is
+    at next (inr (inr a)) = absurd a
+
+-- the own changes of a member were made
+own_made : (heading : Heading) (giver shard : ℕ) (now : List Event) → IsCausal heading now → (change : Change)
+    → Among change (own_changes (history giver shard now))
+    → IsMade (grid_at heading shard now) change
+own_made heading giver shard now h change a =
+    let made_is : Among change (made (history giver shard now)) = among_reverse change _ a in
+    let who : change.stamp.member ≡ giver =
+    member_of_made _ _ (history giver shard now) ((whole_course heading now h shard).sound.lawful giver) made_is in
+    subst (λ i. Among change (made (history i shard now))) (sym who) made_is
+  where
+    member_of_made : (id : _) (opening : ℕ) (past : List Deed) → IsLawful id opening past → Among change (made past)
+        → change.stamp.member ≡ id.member
+    member_of_made id opening past law a = (made_member id opening change past law a).0
+
+at_end : (past : List Deed) → at_place (length past) past ≡ past
+at_end [] = refl
+at_end (deed ∷ past) = rw (itself (length past)) refl
+  where
+    itself : (n : ℕ) → nat_le (suc n) (suc n) ≡ true
+    itself n = grind (arith, nat_tests)
+
+before_end : (deed : Deed) (past : List Deed) → at_place (length past) (deed ∷ past) ≡ past
+before_end deed past = rw (over (length past)) (at_end past)
+  where
+    over : (n : ℕ) → nat_le (suc n) n ≡ false
+    over n = grind (arith, nat_tests)
+
+-- the image that a founder just gave is its gift
+just_given : (heading : Heading) (joiner shard giver : ℕ) (now : List Event) → giver ≤ heading.founders
+    → IsGift (grid_at heading shard (does heading giver shard (Gives joiner what.Image) now)) joiner
+    (image_of giver heading.floor (history giver shard now))
+just_given heading joiner shard giver now founder = record {
+  from_founder = founder;
+  gave = subst (λ p. Older (Gave joiner what.Image ∷ p) (history giver shard (does heading giver shard (Gives joiner what.Image) now)))
+      (sym there)
+      (subst (Older (Gave joiner what.Image ∷ past)) (sym here) (inl refl));
+  is_image = subst (λ p. IsImageOf giver heading.floor p (image_of giver heading.floor past)) (sym there)
+      (record { giver_is = refl; at_is = refl; rows_are = refl; vector_is = refl; floor_is = refl });
+}
+  where
+    past : List Deed
+    past = history giver shard now
+
+    here : history giver shard (does heading giver shard (Gives joiner what.Image) now) ≡ Gave joiner what.Image ∷ history giver shard now
+    here = history_here giver shard (Gave joiner what.Image) now
+
+    there : giver_of (grid_at heading shard (does heading giver shard (Gives joiner what.Image) now))
+        (image_of giver heading.floor (history giver shard now)) ≡ history giver shard now
+    there = ap (at_place (length (history giver shard now))) here ∙ before_end (Gave joiner what.Image) (history giver shard now)
+
+gives_joining : (heading : Heading) (joiner provider shard n : ℕ) (now : List Event) → IsMember heading joiner → heading.founders < joiner
+    → provider ≤ heading.founders
+    → suc n ≤ heading.members → IsJoining heading joiner provider shard n now
+    → IsJoining heading joiner provider shard (suc n)
+    (gives_unless (suc n == joiner) heading joiner shard (suc n) (what_from (suc n == provider)) now)
+gives_joining heading joiner provider shard n now is joins founder within h = at_joiner (suc n == joiner) (suc n == provider) refl
+  where
+    giver : IsMember heading (suc n)
+    giver = (omega arith, within)
+
+    given : (gift : What) → IsJoining heading joiner provider shard n (does heading (suc n) shard (Gives joiner gift) now)
+    given gift = record {
+      causal = does_causal heading (suc n) shard (Gives joiner gift) now giver tt h.causal;
+      none = λ less. no_image heading joiner shard (suc n) shard (Gives joiner gift) now tt (h.none less);
+      later = λ t less. no_image heading joiner t (suc n) shard (Gives joiner gift) now tt (h.later t less);
+    }
+
+    sooner : (now : List Event) → IsJoining heading joiner provider shard n now → IsJoining heading joiner provider shard (suc n) now
+    sooner now h = record { causal = h.causal; none = λ less. h.none (omega (arith, less)); later = h.later }
+
+    at_joiner : (b image : Bool) → (suc n == provider) ≡ image
+        → IsJoining heading joiner provider shard (suc n) (gives_unless b heading joiner shard (suc n) (what_from image) now)
+    at_joiner true image e = sooner now h
+    at_joiner false false e = sooner _
+        (takes_joining heading joiner provider shard n (own_changes (history (suc n) shard now))
+        (does heading (suc n) shard (Gives joiner what.Own) now) is
+        (λ change a. more_made change.stamp.member shard change (Did (suc n) shard (Gave joiner what.Own)) now
+        (own_made heading (suc n) shard now h.causal change a))
+        (given what.Own))
+    at_joiner false true e =
+        let now_given : List Event = does heading (suc n) shard (Gives joiner what.Image) now in
+        let image : Image = image_of (suc n) heading.floor (history (suc n) shard now) in
+        let provides : suc n ≡ provider = equal_numbers (suc n) provider e in
+        let gift : IsGift (grid_at heading shard now_given) joiner image =
+        just_given heading joiner shard (suc n) now (omega (arith, provides, founder)) in
+        let first : HasNoImage (history joiner shard now_given) = (given what.Image).none (omega (arith, provides)) in
+        record {
+          causal = does_causal heading joiner shard (Merges image) now_given is
+              (joins, gift, first, standing_in_order (history (suc n) shard now)) (given what.Image).causal;
+          none = λ less. absurd (omega (arith, provides, less));
+          later = λ t less. subst HasNoImage
+              (sym (other_shard joiner t joiner shard (Imaged image) now_given (λ same. omega (arith, same, less))))
+              ((given what.Image).later t less);
+        }
+
+pub joins_ready : (heading : Heading) (joiner provider : ℕ) (before : List Event) → IsMember heading joiner → heading.founders < joiner
+    → provider ≤ heading.founders
+    → IsReady heading joiner 0 before → IsCausal heading (after heading (Join joiner provider) before)
+joins_ready heading joiner provider before is joins founder ready =
+    (each_keeps (IsReady heading joiner) heading.shards _ before ready
+    (λ shard now within h.
+    let first : IsJoining heading joiner provider shard 0 now = record {
+      causal = h.causal;
+      none = λ less. h.none shard (omega arith);
+      later = λ t less. h.none t (omega (arith, less));
+    } in
+    let last = each_keeps (IsJoining heading joiner provider shard) heading.members
+    (λ n. gives_unless (suc n == joiner) heading joiner shard (suc n) (what_from (suc n == provider))) now first
+    (λ n mid less joining. gives_joining heading joiner provider shard n mid is joins founder (omega (arith, less)) joining) in
+    record { causal = last.causal; none = λ t from. last.later t (omega (arith, from)) })).causal
+
+-- A member that hasn't joined has no image.
+abbrev NoImages : ℕ → List Event → Type 0
+NoImages joiner now = (shard : ℕ) → HasNoImage (history joiner shard now)
+
+unmerged : (heading : Heading) (j m s : ℕ) (doing : Doing) (now : List Event) → Spares j m doing → NoImages j now
+    → NoImages j (does heading m s doing now)
+unmerged heading j m s doing now spares none shard = no_image heading j shard m s doing now spares (none shard)
+
+takes_unmerged : (heading : Heading) (j m s : ℕ) (changes : List Change) (now : List Event) → NoImages j now
+    → NoImages j (takes_all heading m s changes now)
+takes_unmerged heading j m s [] now none = none
+takes_unmerged heading j m s (change ∷ rest) now none =
+    takes_unmerged heading j m s rest (does heading m s (Takes change) now) (unmerged heading j m s (Takes change) now tt none)
+
+gives_unmerged : (heading : Heading) (j joiner shard giver : ℕ) (stays : Bool) (gift : What) (now : List Event) → ((joiner ≡ j) → ⊥)
+    → NoImages j now → NoImages j (gives_unless stays heading joiner shard giver gift now)
+gives_unmerged heading j joiner shard giver true gift now other none = none
+gives_unmerged heading j joiner shard giver false what.Image now other none =
+    unmerged heading j joiner shard (Merges (image_of giver heading.floor (history giver shard now)))
+    (does heading giver shard (Gives joiner what.Image) now) other
+    (unmerged heading j giver shard (Gives joiner what.Image) now tt none)
+gives_unmerged heading j joiner shard giver false what.Own now other none =
+    takes_unmerged heading j joiner shard (own_changes (history giver shard now)) (does heading giver shard (Gives joiner what.Own) now)
+    (unmerged heading j giver shard (Gives joiner what.Own) now tt none)
+
+-- the line isn't one at which this member joins
+abbrev JoinsNot : ℕ → Line → Type 0
+JoinsNot j (Step client number act) = Unit {0}
+JoinsNot j (Deliver member client number) = Unit {0}
+JoinsNot j (line.Report member) = Unit {0}
+JoinsNot j (Hear member of number) = Unit {0}
+JoinsNot j (Sweep member moment) = Unit {0}
+JoinsNot j (Join joiner provider) = (joiner ≡ j) → ⊥
+
+joins_more : (j : ℕ) (line : Line) (past : List Line)
+    → joins_of j (line ∷ past) ≡ (if is_join_of j line then 1 else 0) + joins_of j past
+joins_more j line past = sum_by-cons (λ one. if is_join_of j one then 1 else 0) line past
+
+joins_apart : (j : ℕ) (line : Line) (past : List Line) → joins_of j (line ∷ past) ≡ 0 → JoinsNot j line × (joins_of j past ≡ 0)
+joins_apart j (Step client number act) past h =
+    (tt, omega (arith, h, joins_more j (Step client number act) past))
+joins_apart j (Deliver member client number) past h =
+    (tt, omega (arith, h, joins_more j (Deliver member client number) past))
+joins_apart j (line.Report member) past h =
+    (tt, omega (arith, h, joins_more j (line.Report member) past))
+joins_apart j (Hear member of number) past h =
+    (tt, omega (arith, h, joins_more j (Hear member of number) past))
+joins_apart j (Sweep member moment) past h =
+    (tt, omega (arith, h, joins_more j (Sweep member moment) past))
+joins_apart j (Join joiner provider) past h = at_test (joiner == j) refl
+    (sym (joins_more j (Join joiner provider) past) ∙ h)
+  where
+    at_test : (b : Bool) → (joiner == j) ≡ b → (if b then 1 else 0) + joins_of j past ≡ 0 → ((joiner ≡ j) → ⊥) × (joins_of j past ≡ 0)
+    at_test true e h = absurd (omega (arith, h))
+    at_test false e h = (λ same. apart joiner j e same, omega (arith, h))
+      where
+        apart : (one other : ℕ) → (one == other) ≡ false → one ≡ other → ⊥
+        apart one other e h = grind (arith, nat_tests)
+
+line_unmerged : (heading : Heading) (j : ℕ) (line : Line) (now : List Event) → JoinsNot j line → NoImages j now
+    → NoImages j (after heading line now)
+line_unmerged heading j (Step client number (act.Call ask)) now not none =
+    unmerged heading j (home_of heading client) (shard_of (key_of ask) heading.shards) (Calls client number ask) now tt none
+line_unmerged heading j (Step client number (act.Query ask)) now not none = none
+line_unmerged heading j (Step client number (act.Peek key)) now not none = none
+line_unmerged heading j (Deliver member client number) now not none = at_change (made_by client number now)
+  where
+    at_change : (o : Option Change) → NoImages j (delivers heading member o now)
+    at_change None = none
+    at_change (Some change) = unmerged heading j member (shard_of change.key heading.shards) (Takes change) now tt none
+line_unmerged heading j (line.Report member) now not none =
+    each_keeps (λ n mid. NoImages j mid) heading.shards (λ shard. does heading member shard Reports) now none
+    (λ shard mid less h. unmerged heading j member shard Reports mid tt h)
+line_unmerged heading j (Hear member of number) now not none =
+    each_keeps (λ n mid. NoImages j mid) heading.shards
+    (λ shard mid. hears heading member shard (numbered number (reports (history of shard mid))) mid) now none
+    (λ shard mid less h. at_report shard mid h (numbered number (reports (history of shard mid))))
+  where
+    at_report : (shard : ℕ) (mid : List Event) → NoImages j mid → (o : Option Report) → NoImages j (hears heading member shard o mid)
+    at_report shard mid h None = h
+    at_report shard mid h (Some report) = unmerged heading j member shard (Hears report) mid tt h
+line_unmerged heading j (Sweep member moment) now not none =
+    each_keeps (λ n mid. NoImages j mid) heading.shards (λ shard. does heading member shard (Sweeps moment)) now none
+    (λ shard mid less h. unmerged heading j member shard (Sweeps moment) mid tt h)
+line_unmerged heading j (Join joiner provider) now not none =
+    each_keeps (λ n mid. NoImages j mid) heading.shards
+    (λ shard. for_each heading.members
+    (λ n. gives_unless (suc n == joiner) heading joiner shard (suc n) (what_from (suc n == provider)))) now none
+    (λ shard mid less h. each_keeps (λ n last. NoImages j last) heading.members
+    (λ n. gives_unless (suc n == joiner) heading joiner shard (suc n) (what_from (suc n == provider))) mid h
+    (λ n last within k. gives_unmerged heading j joiner shard (suc n) (suc n == joiner) (what_from (suc n == provider)) last not k))
+
+pub course_unmerged : (heading : Heading) (j : ℕ) (past : List Line) → joins_of j past ≡ 0 → NoImages j (course heading past)
+course_unmerged heading j [] h = λ shard. tt
+course_unmerged heading j (line ∷ past) h =
+    let apart = joins_apart j line past h in
+    line_unmerged heading j line (course heading past) apart.0 (course_unmerged heading j past apart.1)

@@ -1,0 +1,246 @@
+-- One event more leaves one deed and one answer more.
+use Rattle.std.proofs.Common.{◌≡◌, ◌∙◌, ap, sym, subst, refl, ℕ, ◌+◌, ◌-◌, ◌≤◌, ◌<◌, List, [], ◌∷◌, ◌++◌, length, reverse, map}
+use Rattle.std.proofs.Common.{Bool, true, false, ◌&&◌, ◌==◌, arith, get_or, set, if◌then◌else◌}
+use Rattle.std.specs.Prelude.{Some, None}
+use Rattle.std.proofs.lemmas.Bool.Decides.{nat_tests}
+use Rattle.std.proofs.lemmas.Grind.{reverse_onto}
+use Rattle.std.proofs.lemmas.List.{reverse-reverse, length-reverse}
+use Rattle.std.specs.Prelude.{◌%◌}
+use Rattle.gr_value.specs.Shard.{key_hash, shard_of}
+use Rattle.gr_history.specs.declared.ask.Ask.{Ask}
+use Rattle.gr_history.specs.declared.deed.Deed.{Deed}
+use Rattle.gr_history.specs.declared.done.Done.{Done}
+use Rattle.gr_history.specs.declared.record.Answer.{Answer}
+use Rattle.gr_history.specs.declared.record.Answer.TheVariants as answer
+use Rattle.gr_history.specs.Asks.{key_of}
+use Rattle.gr_history.specs.Calls.{call_gives}
+use Rattle.gr_history.specs.Standing.{present}
+use Rattle.gr_shard.specs.View.{Account}
+use Rattle.gr_script.specs.declared.line.Act.TheVariants as act
+use Rattle.gr_script.specs.declared.line.Line.TheVariants.{Step}
+use Rattle.gr_script.specs.Rules.{Heading, IsMember, IsStated, home_of}
+use Rattle.gr_world.specs.declared.world.World.{World}
+use Rattle.gr_world.specs.Events.{Event, Did, Peeked, put_if, history}
+use Rattle.gr_world.specs.Doings.{Calls, call_with, deed_of}
+use Rattle.gr_world.specs.Courses.{identity_at, does, after}
+use Rattle.gr_world.specs.Clients.{Numbered, add_some, told, told_by}
+use Rattle.gr_world.specs.Numbered.{numbers_from}
+use Rattle.gr_world.specs.Records.{answers}
+use Rattle.gr_world.specs.Worlds.{IsAtWork, IsCalled, IsCell, Plays, account_at, account_in, account_left, gives_at, grid_left, grid_with}
+use Rattle.gr_world.specs.Worlds.{longer, no_account}
+use Rattle.gr_world.specs.Worlds.{row_with, tellings_left, told_also, world_left}
+use Rattle.gr_world.proofs.Events.{history_here, same_number}
+use Rattle.gr_world.proofs.Lists.{numbers_get, numbers_length, numbers_same, numbers_set}
+
+-- the accounts of a member's shards
+abbrev pub row_left : Heading → List Event → ℕ → List Account
+row_left heading events member = numbers_from 0 heading.shards (account_left heading events member)
+
+account_of : Heading → ℕ → ℕ → List Deed → Account
+account_of heading member shard past = record { id = identity_at heading member shard; opening = heading.floor; deeds = reverse past }
+
+-- a member's number is its place and one
+place_and_one : (member : ℕ) → 1 ≤ member → 1 + (member - 1) ≡ member
+place_and_one member from = omega (arith, from)
+
+row_at : (heading : Heading) (events : List Event) (member : ℕ) → IsMember heading member
+    → get_or (grid_left heading events) (member - 1) [] ≡ row_left heading events member
+row_at heading events member is =
+    numbers_get 1 heading.members (member - 1) (row_left heading events) [] (omega (arith, is.0, is.1))
+    ∙ ap (row_left heading events) (place_and_one member is.0)
+
+account_in_row : (heading : Heading) (events : List Event) (member shard : ℕ) → shard < heading.shards
+    → account_in (row_left heading events member) shard ≡ account_left heading events member shard
+account_in_row heading events member shard within =
+    let e : 0 + shard ≡ shard = omega arith in
+    numbers_get 0 heading.shards shard (account_left heading events member) no_account within ∙ ap (account_left heading events member) e
+
+-- what a cell has is the course's
+pub cell_left : (heading : Heading) (events : List Event) (member shard : ℕ) → IsMember heading member → shard < heading.shards
+    → account_at (grid_left heading events) member shard ≡ account_left heading events member shard
+cell_left heading events member shard is within =
+    ap (λ row. account_in row shard) (row_at heading events member is) ∙ account_in_row heading events member shard within
+
+pub is_cell : (heading : Heading) (events : List Event) (member shard : ℕ) → IsMember heading member → shard < heading.shards
+    → IsCell (grid_left heading events) member shard
+is_cell heading events member shard is within = record {
+  from = is.0;
+  stated =
+      let long = numbers_length 1 heading.members (row_left heading events) in
+      omega (arith, is.1, long);
+  within =
+      let long = numbers_length 0 heading.shards (account_left heading events member) in
+      subst (λ row. shard < length row) (sym (row_at heading events member is)) (omega (arith, within, long));
+}
+
+-- elsewhere nothing changes
+elsewhere : (a b : Bool) → b ≡ false → (deed : Deed) (past : List Deed) → past ≡ put_if (a && b) deed past
+elsewhere true b e deed past = rw e refl
+elsewhere false b e deed past = refl
+
+other_shard_here : (a b : Bool) → a ≡ false → (deed : Deed) (past : List Deed) → past ≡ put_if (a && b) deed past
+other_shard_here a b e deed past = rw e refl
+
+apart : (a b : ℕ) → (a ≡ b → ⊥) → (a == b) ≡ false
+apart a b h = grind (arith, nat_tests)
+
+row_next : (heading : Heading) (events : List Event) (member shard : ℕ) (deed : Deed) → shard < heading.shards
+    → row_with (row_left heading events member) shard deed ≡ row_left heading (Did member shard deed ∷ events) member
+unfolding account_of
+row_next heading events member shard deed within =
+    let old = account_left heading events member in
+    let new = account_left heading (Did member shard deed ∷ events) member in
+    let e : shard ≡ 0 + shard = omega arith in
+    let past = history member shard events in
+    let here : longer (old shard) deed ≡ new shard =
+    ap (λ deeds. record (old shard) { deeds = deeds }) (sym (reverse_onto past deed []))
+    ∙ ap (account_of heading member shard) (sym (history_here member shard deed events)) in
+    ap (λ account. set (row_left heading events member) shard (longer account deed)) (account_in_row heading events member shard within)
+    ∙ ap (set (row_left heading events member) shard) (here ∙ ap new e)
+    ∙ numbers_set 0 heading.shards shard old new within
+    (λ k low high other. ap (account_of heading member k)
+    (other_shard_here (k == shard) (member == member) (apart k shard (λ is. other (is ∙ e))) deed (history member k events)))
+
+-- One deed more at a member's shard.
+pub grid_next : (heading : Heading) (events : List Event) (member shard : ℕ) (deed : Deed) → IsMember heading member
+    → shard < heading.shards
+    → grid_with (grid_left heading events) member shard deed ≡ grid_left heading (Did member shard deed ∷ events)
+unfolding account_of
+grid_next heading events member shard deed is within =
+    let old = row_left heading events in
+    let new = row_left heading (Did member shard deed ∷ events) in
+    let e : member ≡ 1 + (member - 1) = omega (arith, is.0) in
+    ap (λ row. set (grid_left heading events) (member - 1) (row_with row shard deed)) (row_at heading events member is)
+    ∙ ap (set (grid_left heading events) (member - 1)) (row_next heading events member shard deed within ∙ ap new e)
+    ∙ numbers_set 1 heading.members (member - 1) old new (omega (arith, is.0, is.1))
+    (λ k low high other. numbers_same 0 heading.shards (account_left heading events k)
+    (account_left heading (Did member shard deed ∷ events) k)
+    (λ s least most. ap (account_of heading k s)
+    (elsewhere (s == shard) (k == member) (apart k member (λ same. other (same ∙ e))) deed (history k s events))))
+
+numbered_answers : List Numbered → List Answer
+numbered_answers all = reverse (map (λ one. one.answer) all)
+
+-- One answer more for a client.
+pub tellings_next : (heading : Heading) (events : List Event) (event : Event) (client number : ℕ) (told_now : Answer)
+    → IsStated client heading
+    → ((c : ℕ) → told_by c event ≡ (if client == c then Some (record { number = number; answer = told_now }) else None))
+    → told_also (tellings_left heading events) client told_now ≡ tellings_left heading (event ∷ events)
+unfolding numbered_answers
+tellings_next heading events event client number told_now is tells =
+    let old : ℕ → List Answer = λ c. answers c events in
+    let new : ℕ → List Answer = λ c. answers c (event ∷ events) in
+    let n = length heading.clients in
+    let e : client ≡ 1 + (client - 1) = omega (arith, is.0) in
+    let less : client - 1 < n = omega (arith, is.0, is.1) in
+    let one : Numbered = record { number = number; answer = told_now } in
+    let had : get_or (tellings_left heading events) (client - 1) [] ≡ old client =
+    numbers_get 1 n (client - 1) old [] less ∙ ap old (sym e) in
+    let here : old client ++ told_now ∷ [] ≡ new client =
+    sym (reverse_onto (map (λ x. x.answer) (told client events)) told_now [])
+    ∙ ap (λ o. numbered_answers (add_some o (told client events))) (sym (tells client ∙ if_same (same_number client) one)) in
+    ap (λ xs. set (tellings_left heading events) (client - 1) (xs ++ told_now ∷ [])) had
+    ∙ ap (set (tellings_left heading events) (client - 1)) (here ∙ ap new e)
+    ∙ numbers_set 1 n (client - 1) old new less
+    (λ k low high other. ap (λ o. numbered_answers (add_some o (told k events)))
+    (sym (tells k ∙ if_other (apart client k (λ same. other (sym same ∙ e))) one)))
+  where
+    if_same : {b : Bool} → b ≡ true → (one : Numbered) → (if b then Some one else None) ≡ Some one
+    if_same h one = rw h refl
+
+    if_other : {b : Bool} → b ≡ false → (one : Numbered) → (if b then Some one else None) ≡ None
+    if_other h one = rw h refl
+
+world_of : List (List Account) → List (List Answer) → World
+world_of grid tellings = record { grid = grid; tellings = tellings }
+
+-- A call adds its deed and tells its reply.
+pub call_plays : (heading : Heading) (old new : World) (member shard client seq : ℕ) (ask : Ask) (done : Done)
+    → IsMember heading member → IsStated client heading
+    → member ≡ home_of heading client → shard ≡ shard_of (key_of ask) heading.shards → shard < heading.shards
+    → IsCalled old.grid new.grid member shard client seq ask done
+    → new.tellings ≡ told_also old.tellings client (answer.Reply done.reply)
+    → Plays heading (after heading (Step client seq (act.Call ask))) old new
+unfolding world_of
+call_plays heading old new member shard client seq ask done is stated at_home at_shard within called tells events same =
+    let past = history member shard events in
+    let doing = Calls client seq ask in
+    let deed = deed_of (identity_at heading member shard) heading.floor past doing in
+    let gives : done ≡ call_gives (identity_at heading member shard) heading.floor past ask =
+    called.given ∙ ap (λ w. gives_at (account_at w.grid member shard) ask) same
+    ∙ ap (λ account. gives_at account ask) (cell_left heading events member shard is within)
+    ∙ ap (λ p. call_gives (identity_at heading member shard) heading.floor p ask) (reverse-reverse past) in
+    let deed_is : call_with client seq ask done ≡ deed = ap (call_with client seq ask) gives in
+    let grid : new.grid ≡ grid_left heading (does heading member shard doing events) =
+    called.added ∙ ap (λ w. grid_with w.grid member shard (call_with client seq ask done)) same
+    ∙ ap (grid_with (grid_left heading events) member shard) deed_is
+    ∙ grid_next heading events member shard deed is within in
+    let tellings : new.tellings ≡ tellings_left heading (does heading member shard doing events) =
+    tells ∙ ap (λ w. told_also w.tellings client (answer.Reply done.reply)) same
+    ∙ ap (λ d. told_also (tellings_left heading events) client (answer.Reply d.reply)) gives
+    ∙ tellings_next heading events (Did member shard deed) client seq _ stated (λ c. refl) in
+    let played : new ≡ world_left heading (does heading member shard doing events) =
+    ap (λ g. world_of g new.tellings) grid ∙ ap (world_of (grid_left heading (does heading member shard doing events))) tellings in
+    played ∙ ap (λ m. world_left heading (does heading m shard doing events)) at_home
+    ∙ ap (λ s. world_left heading (does heading (home_of heading client) s doing events)) at_shard
+
+-- A peek tells what is present.
+pub peek_plays : (heading : Heading) (old new : World) (member shard client seq : ℕ) (key : List ℕ) (seen : Answer)
+    → IsMember heading member → IsStated client heading
+    → member ≡ home_of heading client → shard ≡ shard_of key heading.shards → shard < heading.shards
+    → seen ≡ answer.Peeked (present key (reverse (account_at old.grid member shard).deeds))
+    (length (account_at old.grid member shard).deeds)
+    → new.grid ≡ old.grid → new.tellings ≡ told_also old.tellings client seen
+    → Plays heading (after heading (Step client seq (act.Peek key))) old new
+unfolding world_of
+peek_plays heading old new member shard client seq key seen is stated at_home at_shard within is_seen grid_is tells events same =
+    let past = history member shard events in
+    let looked : ℕ → ℕ
+    → List Event = λ m s. Peeked client seq key (present key (history m s events)) (length (history m s events)) ∷ events in
+    let cell = cell_left heading events member shard is within in
+    let deeds : (account_at old.grid member shard).deeds ≡ reverse past =
+    ap (λ w. (account_at w.grid member shard).deeds) same ∙ ap (λ account. account.deeds) cell in
+    let seen_is : seen ≡ answer.Peeked (present key past) (length past) =
+    is_seen ∙ ap (λ ds. answer.Peeked (present key (reverse ds)) (length ds)) deeds
+    ∙ ap (λ ds. answer.Peeked (present key ds) (length (reverse past))) (reverse-reverse past)
+    ∙ ap (answer.Peeked (present key past)) (length-reverse past) in
+    let grid : new.grid ≡ grid_left heading (looked member shard) = grid_is ∙ ap (λ w. w.grid) same in
+    let tellings : new.tellings ≡ tellings_left heading (looked member shard) =
+    tells ∙ ap (λ w. told_also w.tellings client seen) same ∙ ap (told_also (tellings_left heading events) client) seen_is
+    ∙ tellings_next heading events (Peeked client seq key (present key past) (length past)) client seq _ stated (λ c. refl) in
+    let played : new ≡ world_left heading (looked member shard) =
+    ap (λ g. world_of g new.tellings) grid ∙ ap (world_of (grid_left heading (looked member shard))) tellings in
+    played ∙ ap (λ m. world_left heading (looked m shard)) at_home
+    ∙ ap (λ s. world_left heading (looked (home_of heading client) s)) at_shard
+
+-- ---- what a world that is at work has
+
+pub shard_within : (key : List ℕ) (shard shards : ℕ) → 1 ≤ shards → shard ≡ shard_of key shards → shard < shards
+shard_within key shard shards some is = mod_within (key_hash key) shards some is
+  where
+    mod_within : (a n : ℕ) → 1 ≤ n → shard ≡ a % n → shard < n
+    mod_within a n some is = omega (arith, some, is)
+
+-- there is a cell for each member and shard
+pub work_cell : (heading : Heading) (world : World) (member shard : ℕ) → IsAtWork heading world → IsMember heading member
+    → shard < heading.shards
+    → IsCell world.grid member shard
+work_cell heading world member shard (events, same) is within =
+    subst (λ w. IsCell w.grid member shard) (sym same) (is_cell heading events member shard is within)
+
+-- and its identity is that of the place
+pub work_shard : (heading : Heading) (world : World) (member shard : ℕ) (key : List ℕ) → IsAtWork heading world → IsMember heading member
+    → shard < heading.shards → shard ≡ shard_of key heading.shards
+    → shard_of key (account_at world.grid member shard).id.shards ≡ (account_at world.grid member shard).id.shard
+work_shard heading world member shard key (events, same) is within at_shard =
+    let cell : account_at world.grid member shard ≡ account_left heading events member shard =
+    ap (λ w. account_at w.grid member shard) same ∙ cell_left heading events member shard is within in
+    ap (λ account. shard_of key account.id.shards) cell ∙ sym at_shard ∙ sym (ap (λ account. account.id.shard) cell)
+
+pub work_clients : (heading : Heading) (world : World) → IsAtWork heading world → length world.tellings ≡ length heading.clients
+work_clients heading world (events, same) =
+    ap (λ w. length w.tellings) same ∙ numbers_length 1 (length heading.clients) (λ client. answers client events)
+
+pub work_members : (heading : Heading) (world : World) → IsAtWork heading world → length world.grid ≡ heading.members
+work_members heading world (events, same) =
+    ap (λ w. length w.grid) same ∙ numbers_length 1 heading.members (row_left heading events)

@@ -1,0 +1,15 @@
+use Rattle.gr_world.proofs.Events.{one_deed}
+use Rattle.gr_world.proofs.Served.{script_causal, script_abiding, script_served}
+use Rattle.gr_world.proofs.laws.laws_of_courses.Goals as goal
+
+pub returns-clause-causal : goal.returns-clause-causal
+returns-clause-causal c = script_causal
+
+pub returns-clause-abiding : goal.returns-clause-abiding
+returns-clause-abiding c = script_abiding
+
+pub returns-clause-served : goal.returns-clause-served
+returns-clause-served c = script_served
+
+pub returns-clause-one : goal.returns-clause-one
+returns-clause-one c = one_deed

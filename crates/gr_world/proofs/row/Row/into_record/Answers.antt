@@ -1,0 +1,12 @@
+use Rattle.std.proofs.Common.{sym, subst}
+use Rattle.gr_shard.specs.Records.{IsRecordOf}
+use Rattle.gr_world.specs.Numbered.{PairsFrom}
+use Rattle.gr_world.proofs.Lists.{pairs_more}
+use Rattle.gr_world.proofs.row.Row.into_record.Goals as goal
+
+pub loop-shard-preserved : goal.loop-shard-preserved
+loop-shard-preserved c =
+    subst (PairsFrom (λ _. IsRecordOf) 0 _) (sym c.in_ok-push.ensures.ok)
+    (pairs_more
+    (λ _. IsRecordOf) 0 c.loop-shard.yielded c.loop-shard.shards c.in-Some.shard c.in_ok-into_record.field-0 c.loop-shard.invariant
+    c.in_ok-into_record.ensures.record_of)

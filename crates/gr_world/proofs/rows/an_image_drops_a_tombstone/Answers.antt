@@ -1,0 +1,15 @@
+use Rattle.std.proofs.Common.{refl, arith}
+use Rattle.gr_history.specs.Recipients.{recipients}
+use Rattle.gr_world.proofs.Scripts.{joining-script}
+use Rattle.gr_world.proofs.rows.an_image_drops_a_tombstone.Goals as goal
+
+pub returns-clause-script : goal.returns-clause-script
+returns-clause-script c = joining-script
+
+pub returns-clause-giver : goal.returns-clause-giver
+unfolding recipients
+returns-clause-giver c = refl
+
+pub returns-clause-joiner : goal.returns-clause-joiner
+unfolding recipients
+returns-clause-joiner c = refl

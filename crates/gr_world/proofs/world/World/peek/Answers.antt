@@ -1,0 +1,29 @@
+use Rattle.std.proofs.Common.{◌≡◌, ◌∙◌, ap, arith, length, refl, reverse}
+use Rattle.gr_history.specs.declared.record.Answer.TheVariants as answer
+use Rattle.gr_history.specs.Standing.{present}
+use Rattle.gr_script.specs.Scripts.{heading_of}
+use Rattle.gr_world.proofs.Worlds.{peek_plays, shard_within, work_cell, work_clients}
+use Rattle.gr_world.proofs.world.World.peek.Goals as goal
+
+pub shard-requires : goal.shard-requires
+shard-requires c =
+    let script = c.args.script.now in
+    let shard = c.shard-shard.result in
+    work_cell (heading_of script) c.args.self.now c.home-member.result shard c.requires.work c.home-member.ensures.member
+    (shard_within c.args.key.now shard script.shards script.ruled.heading.shards.0 c.shard-shard.ensures)
+
+pub tell-requires-clause-stated : goal.tell-requires-clause-stated
+tell-requires-clause-stated c =
+    let long = work_clients (heading_of c.args.script.now) c.args.self.now c.requires.work in
+    omega (arith, long, c.requires.stated.1)
+
+pub returns : goal.returns
+returns c seq =
+    let script = c.args.script.now in
+    let shard = c.shard-shard.result in
+    peek_plays (heading_of script) c.args.self.now _ c.home-member.result shard c.args.client seq c.args.key.now
+    c.in_ok-answer.answer c.home-member.ensures.member c.requires.stated c.home-member.ensures.home c.shard-shard.ensures
+    (shard_within c.args.key.now shard script.shards script.ruled.heading.shards.0 c.shard-shard.ensures)
+    (c.in_ok-answer.ensures
+    ∙ ap (λ account. answer.Peeked (present c.args.key.now (reverse account.deeds)) (length account.deeds)) c.shard.ensures) refl
+    c.in_ok-tell.ensures

@@ -1,0 +1,28 @@
+-- Which scripts can be replayed.
+use Rattle.std.specs.Prelude.{ℕ, ◌==◌, List, Bool, true, false, not, Option, Some, if◌then◌else◌}
+use Rattle.std.specs.List.{position}
+use Rattle.std.specs.Option.{is_none}
+use Rattle.gr_script.specs.declared.line.Act.TheVariants as act
+use Rattle.gr_script.specs.declared.line.Line.{Line}
+use Rattle.gr_script.specs.declared.line.Line.TheVariants.{Step, Deliver, Hear, Sweep, Join}
+use Rattle.gr_script.specs.declared.line.Line.TheVariants as line
+use Rattle.gr_script.specs.Rules.{Heading}
+
+-- Calls and peeks.
+abbrev pub is_built_line : Line → Bool
+is_built_line (Step client seq (act.Call ask)) = true
+is_built_line (Step client seq (act.Query ask)) = false
+is_built_line (Step client seq (act.Peek key)) = true
+is_built_line (Deliver to client seq) = false
+is_built_line (line.Report member) = false
+is_built_line (Hear by of number) = false
+is_built_line (Sweep member moment) = false
+is_built_line (Join joiner provider) = false
+
+-- The place of the first line that isn't built, counted from 0. Members that join aren't built either, which is
+-- told of the first line.
+abbrev pub unbuilt : Heading → List Line → Option ℕ
+unbuilt heading lines = if heading.founders == heading.members then position (λ line. not (is_built_line line)) lines else Some 0
+
+abbrev pub is_built : Heading → List Line → Bool
+is_built heading lines = is_none (unbuilt heading lines)

@@ -1,0 +1,46 @@
+-- What each event rests on was there before it.
+use Rattle.std.specs.Prelude.{◌≡◌, ℕ, List, [], ◌∷◌, length}
+use Rattle.gr_value.specs.Shard.{shard_of}
+use Rattle.gr_history.specs.declared.deed.Deed.{Deed}
+use Rattle.gr_history.specs.declared.deed.Deed.TheVariants.{Call, Taken, Gave, Imaged, Reported, Heard, Swept}
+use Rattle.gr_history.specs.Asks.{key_of}
+use Rattle.gr_history.specs.Standing.{present}
+use Rattle.gr_law.specs.Grids.{Grid}
+use Rattle.gr_law.specs.Next.{IsNext}
+use Rattle.gr_script.specs.Rules.{Heading, home_of}
+use Rattle.gr_world.specs.Events.{Event, Did, Peeked, history}
+
+-- all members' histories of one shard
+abbrev pub grid_at : Heading → ℕ → List Event → Grid
+grid_at heading shard course = record {
+  members = heading.members;
+  founders = heading.founders;
+  shard = shard;
+  shards = heading.shards;
+  opening = λ _. heading.floor;
+  history = λ member. history member shard course;
+}
+
+-- A call stands at its client's member, in the shard of its key.
+abbrev pub IsPlaced : Heading → ℕ → ℕ → Deed → Type 0
+IsPlaced heading member shard (Call client seq ask reply made to) =
+    (member ≡ home_of heading client) × (shard ≡ shard_of (key_of ask) heading.shards)
+IsPlaced heading member shard (Taken change verdict) = Unit {0}
+IsPlaced heading member shard (Gave to what) = Unit {0}
+IsPlaced heading member shard (Imaged image) = Unit {0}
+IsPlaced heading member shard (Reported report) = Unit {0}
+IsPlaced heading member shard (Heard report) = Unit {0}
+IsPlaced heading member shard (Swept moment expired) = Unit {0}
+
+-- A deed is lawful after the history so far. A change that is taken in and a report that is heard were made
+-- before, and an image that is merged was given before. A peek sees what is present.
+abbrev pub IsNextEvent : Heading → Event → List Event → Type 0
+IsNextEvent heading (Did member shard deed) before =
+    IsNext (grid_at heading shard before) member deed × IsPlaced heading member shard deed
+IsNextEvent heading (Peeked client number key value at) before =
+    (value ≡ present key (history (home_of heading client) (shard_of key heading.shards) before))
+    × (at ≡ length (history (home_of heading client) (shard_of key heading.shards) before))
+
+abbrev pub IsCausal : Heading → List Event → Type 0
+IsCausal heading [] = Unit {0}
+IsCausal heading (event ∷ before) = IsNextEvent heading event before × IsCausal heading before

@@ -1,0 +1,175 @@
+-- What clients asked, and what they were told.
+use Rattle.std.specs.Prelude.{◌≡◌, ℕ, suc, ◌≤◌, ◌<◌, List, [], ◌∷◌, ◌&&◌, ◌==◌, Option, Some, None, length, map, if◌then◌else◌}
+use Rattle.gr_value.specs.declared.value.Field.{Field}
+use Rattle.gr_value.specs.Shard.{shard_of}
+use Rattle.gr_stamp.specs.declared.change.Change.{Change}
+use Rattle.gr_history.specs.declared.ask.Ask.{Ask}
+use Rattle.gr_history.specs.declared.deed.Deed.{Deed}
+use Rattle.gr_history.specs.declared.deed.Deed.TheVariants.{Call, Taken, Gave, Imaged, Reported, Heard, Swept}
+use Rattle.gr_history.specs.declared.record.Answer.{Answer}
+use Rattle.gr_history.specs.declared.record.Answer.TheVariants as answer
+use Rattle.gr_history.specs.declared.reply.Reply.{Reply}
+use Rattle.gr_history.specs.Asks.{key_of}
+use Rattle.gr_history.specs.Standing.{present}
+use Rattle.gr_law.specs.Grids.{Among, Older, at_place}
+use Rattle.gr_script.specs.declared.line.Act.TheVariants as act
+use Rattle.gr_script.specs.declared.line.Line.{Line}
+use Rattle.gr_script.specs.declared.line.Line.TheVariants.{Step, Deliver, Hear, Sweep, Join}
+use Rattle.gr_script.specs.declared.line.Line.TheVariants as line
+use Rattle.gr_script.specs.Rules.{Heading, home_of}
+use Rattle.gr_world.specs.Events.{Event, Did, Peeked, history}
+
+abbrev pub add_some : {A : Type 0} → Option A → List A → List A
+add_some None rest = rest
+add_some (Some first) rest = first ∷ rest
+
+-- ---- calls
+
+-- one step of a client on a key
+pub record Asking : Type 0 where
+  pub client : ℕ
+  pub number : ℕ
+  pub ask : Ask
+
+abbrev pub asking_of : Deed → Option Asking
+asking_of (Call client seq ask reply made to) = Some (record { client = client; number = seq; ask = ask })
+asking_of (Taken change verdict) = None
+asking_of (Gave to what) = None
+asking_of (Imaged image) = None
+asking_of (Reported report) = None
+asking_of (Heard report) = None
+asking_of (Swept moment expired) = None
+
+-- what a history says was asked, the newest first
+abbrev pub askings : List Deed → List Asking
+askings [] = []
+askings (deed ∷ past) = add_some (asking_of deed) (askings past)
+
+-- A call goes to the shard of its key at its client's member.
+abbrev pub asked_at : Heading → ℕ → ℕ → Line → Option Asking
+asked_at heading member shard (Step client number (act.Call ask)) =
+    if shard == shard_of (key_of ask) heading.shards && member == home_of heading client
+    then Some (record { client = client; number = number; ask = ask }) else None
+asked_at heading member shard (Step client number (act.Query ask)) = None
+asked_at heading member shard (Step client number (act.Peek key)) = None
+asked_at heading member shard (Deliver to of number) = None
+asked_at heading member shard (line.Report of) = None
+asked_at heading member shard (Hear to of number) = None
+asked_at heading member shard (Sweep of moment) = None
+asked_at heading member shard (Join joiner provider) = None
+
+-- what the lines ask there, the last one first
+abbrev pub asked : Heading → ℕ → ℕ → List Line → List Asking
+asked heading member shard [] = []
+asked heading member shard (line ∷ past) = add_some (asked_at heading member shard line) (asked heading member shard past)
+
+-- The calls of a history are just those that the lines ask there, each once and in order.
+abbrev pub calls_stand : Heading → List Line → List Event → Type 0
+calls_stand heading past course = (member shard : ℕ) → askings (history member shard course) ≡ asked heading member shard past
+
+-- No other history has a call of the client.
+abbrev pub calls_placed : Heading → List Event → Type 0
+calls_placed heading course = (member shard : ℕ) (client number : ℕ) (ask : Ask) (reply : Reply) (made : Option Change) (to : ℕ)
+    → Among (Call client number ask reply made to) (history member shard course)
+    → (member ≡ home_of heading client) × (shard ≡ shard_of (key_of ask) heading.shards)
+
+-- ---- answers
+
+-- an answer with the number of its step
+pub record Numbered : Type 0 where
+  pub number : ℕ
+  pub answer : Answer
+
+abbrev pub told_by_deed : ℕ → Deed → Option Numbered
+told_by_deed client (Call own seq ask reply made to) =
+    if own == client then Some (record { number = seq; answer = answer.Reply reply }) else None
+told_by_deed client (Taken change verdict) = None
+told_by_deed client (Gave to what) = None
+told_by_deed client (Imaged image) = None
+told_by_deed client (Reported report) = None
+told_by_deed client (Heard report) = None
+told_by_deed client (Swept moment expired) = None
+
+abbrev pub told_by : ℕ → Event → Option Numbered
+told_by client (Did member shard deed) = told_by_deed client deed
+told_by client (Peeked own number key value at) =
+    if own == client then Some (record { number = number; answer = answer.Peeked value at }) else None
+
+-- what a client was told, the newest answer first
+abbrev pub told : ℕ → List Event → List Numbered
+told client [] = []
+told client (event ∷ before) = add_some (told_by client event) (told client before)
+
+-- the number of the client's step, where the line is one that is answered; queries aren't yet
+abbrev pub number_at : ℕ → Line → Option ℕ
+number_at client (Step own number (act.Call ask)) = if own == client then Some number else None
+number_at client (Step own number (act.Query ask)) = None
+number_at client (Step own number (act.Peek key)) = if own == client then Some number else None
+number_at client (Deliver to of number) = None
+number_at client (line.Report of) = None
+number_at client (Hear to of number) = None
+number_at client (Sweep of moment) = None
+number_at client (Join joiner provider) = None
+
+abbrev pub numbers : ℕ → List Line → List ℕ
+numbers client [] = []
+numbers client (line ∷ past) = add_some (number_at client line) (numbers client past)
+
+-- A client has one answer for each step, in order.
+abbrev pub answers_stand : List Line → List Event → Type 0
+answers_stand past course = (client : ℕ) → map (λ one. one.number) (told client course) ≡ numbers client past
+
+-- Each call that stands in a history was answered its reply.
+abbrev pub replies_stand : List Event → Type 0
+replies_stand course = (member shard : ℕ) (client number : ℕ) (ask : Ask) (reply : Reply) (made : Option Change) (to : ℕ)
+    → Among (Call client number ask reply made to) (history member shard course)
+    → Among (record { number = number; answer = answer.Reply reply }) (told client course)
+
+abbrev pub AllBelow : ℕ → List ℕ → Type 0
+AllBelow n [] = Unit {0}
+AllBelow n (first ∷ rest) = (first < n) × AllBelow n rest
+
+abbrev pub Descends : List ℕ → Type 0
+Descends [] = Unit {0}
+Descends (first ∷ rest) = AllBelow first rest × Descends rest
+
+-- The numbers of a client's steps are distinct and in order, so an answer belongs to one step.
+abbrev pub numbers_descend : List Line → Type 0
+numbers_descend past = (client : ℕ) → Descends (numbers client past)
+
+-- ---- peeks
+
+pub record IsPeek (heading : Heading) (course : List Event) (client : ℕ) (key : List ℕ) (value : Option (List Field))
+    (at : ℕ) : Type 0 where
+  pub value_is : value ≡ present key (at_place at (history (home_of heading client) (shard_of key heading.shards) course))
+  pub within : at ≤ length (history (home_of heading client) (shard_of key heading.shards) course)
+
+-- Each peek was answered what is present at the place that it names, in the history as it is in the end.
+abbrev pub peeks_stand : Heading → List Event → Type 0
+peeks_stand heading course = (client number : ℕ) (key : List ℕ) (value : Option (List Field)) (at : ℕ)
+    → Among (Peeked client number key value at) course → IsPeek heading course client key value at
+
+-- A peek names a place behind each deed of the client's earlier steps at that shard.
+abbrev pub peeks_late : Heading → List Event → Type 0
+peeks_late heading course = (client number : ℕ) (key : List ℕ) (value : Option (List Field)) (at : ℕ)
+    → Among (Peeked client number key value at) course
+    → (earlier : ℕ) (ask : Ask) (reply : Reply) (made : Option Change) (to : ℕ) (past : List Deed)
+    → Older (Call client earlier ask reply made to ∷ past) (history (home_of heading client) (shard_of key heading.shards) course)
+    → earlier < number → suc (length past) ≤ at
+
+-- Nor does it name one before a place that an earlier peek of the client at that shard named.
+abbrev pub peeks_grow : Heading → List Event → Type 0
+peeks_grow heading course = (client number earlier : ℕ) (key other : List ℕ) (value seen : Option (List Field)) (at place : ℕ)
+    → Among (Peeked client number key value at) course → Among (Peeked client earlier other seen place) course
+    → shard_of other heading.shards ≡ shard_of key heading.shards → earlier < number → place ≤ at
+
+-- So each client was served, step by step.
+pub record AreServed (heading : Heading) (past : List Line) (course : List Event) : Type 0 where
+  pub calls : calls_stand heading past course
+  pub placed : calls_placed heading course
+  pub answers : answers_stand past course
+  pub in_order : numbers_descend past
+  pub replies : replies_stand course
+  pub peeks : peeks_stand heading course
+  pub late : peeks_late heading course
+  pub growing : peeks_grow heading course

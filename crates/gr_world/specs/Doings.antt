@@ -1,0 +1,70 @@
+-- What is done at a shard, and the one deed that it gives there.
+use Rattle.std.specs.Prelude.{◌≡◌, ℕ, List, length}
+use Rattle.gr_stamp.specs.declared.change.Change.{Change}
+use Rattle.gr_vector.specs.declared.report.Report.{Report}
+use Rattle.gr_vector.specs.Ids.{Ids, top}
+use Rattle.gr_history.specs.declared.ask.Ask.{Ask}
+use Rattle.gr_history.specs.declared.done.Done.{Done}
+use Rattle.gr_history.specs.declared.identity.Identity.{Identity}
+use Rattle.gr_history.specs.declared.image.Image.{Image}
+use Rattle.gr_history.specs.declared.image.What.{What}
+use Rattle.gr_history.specs.declared.deed.Deed.{Deed}
+use Rattle.gr_history.specs.declared.deed.Deed.TheVariants.{Call, Taken, Gave, Imaged, Reported, Heard, Swept}
+use Rattle.gr_history.specs.Calls.{call_gives}
+use Rattle.gr_history.specs.Floor.{floor}
+use Rattle.gr_history.specs.Ids.{ids, known}
+use Rattle.gr_history.specs.Regions.{all_standing}
+use Rattle.gr_history.specs.Stable.{due}
+use Rattle.gr_history.specs.Verdicts.{verdict}
+
+-- a vector of all that a history knows, with no room to spare, as copies have it
+abbrev pub vector_of : List Deed → Ids
+vector_of past = record { ids = known past; spare = 0 }
+
+-- what a member reports of its history
+abbrev pub report_of : ℕ → List Deed → Report
+report_of member past = record { member = member; at = length past; own = top member (ids past); vector = vector_of past }
+
+-- the image that a member gives
+abbrev pub image_of : ℕ → ℕ → List Deed → Image
+image_of member opening past = record {
+  from = member;
+  at = length past;
+  rows = all_standing past;
+  vector = vector_of past;
+  floor = floor opening past;
+}
+
+-- A client's step calls, a change is taken in, a joiner is given something, an image is merged, a report is made,
+-- a report is heard, or a sweep goes through. What comes of it is told by the history before.
+pub data Doing : Type 0 where
+  Calls : ℕ → ℕ → Ask → Doing
+  Takes : Change → Doing
+  Gives : ℕ → What → Doing
+  Merges : Image → Doing
+  Reports : Doing
+  Hears : Report → Doing
+  Sweeps : ℕ → Doing
+
+abbrev pub call_with : ℕ → ℕ → Ask → Done → Deed
+call_with client number ask done = Call client number ask done.reply done.made done.to
+
+-- the one lawful deed
+abbrev pub deed_of : Identity → ℕ → List Deed → Doing → Deed
+deed_of id opening past (Calls client number ask) = call_with client number ask (call_gives id opening past ask)
+deed_of id opening past (Takes change) = Taken change (verdict past change)
+deed_of id opening past (Gives to what) = Gave to what
+deed_of id opening past (Merges image) = Imaged image
+deed_of id opening past Reports = Reported (report_of id.member past)
+deed_of id opening past (Hears report) = Heard report
+deed_of id opening past (Sweeps moment) = Swept moment (due id moment past)
+
+-- a deed says that this was done, and a report that was made has a vector with no room to spare
+abbrev pub Says : Deed → Doing → Type 0
+Says (Call client seq ask reply made to) doing = doing ≡ Calls client seq ask
+Says (Taken change told) doing = doing ≡ Takes change
+Says (Gave to what) doing = doing ≡ Gives to what
+Says (Imaged image) doing = doing ≡ Merges image
+Says (Reported report) doing = (doing ≡ Reports) × (report.vector.spare ≡ 0)
+Says (Heard report) doing = doing ≡ Hears report
+Says (Swept moment expired) doing = doing ≡ Sweeps moment

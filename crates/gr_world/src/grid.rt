@@ -1,0 +1,83 @@
+ghost use Rattle.std.specs.Prelude.{◌≡◌, ◌≤◌, IfOk, length};
+ghost use Rattle.gr_value.specs.Shard.{shard_of};
+ghost use Rattle.gr_history.specs.Asks.{key_of};
+ghost use Rattle.gr_shard.specs.View.{IsPlace};
+ghost use Rattle.gr_world.specs.Numbered.{numbers_from, PairsFrom};
+ghost use Rattle.gr_world.specs.Worlds.{IsCalled, IsCell, IsMemberOf, account_at, new_row};
+
+use crate::row::Row;
+use gr_history::{Ask, Done, Identity, MemberRecordList};
+use gr_shard::Shard;
+use gr_value::Memory;
+use std::alloc::Global;
+use std::marker::Model;
+
+/// All members' shards.
+#[derive(Drop)]
+pub struct Grid {
+    rows: Vec<Row>,
+}
+
+impl Model for Grid {
+    ghost use Rattle.std.specs.Prelude.{List};
+    ghost use Rattle.gr_shard.specs.View.{Account};
+
+    ghost Value = { List (List Account) };
+
+    ghost view = { λ grid. grid.rows.items };
+}
+
+impl Grid {
+    /// Shards with no deeds. The identity is that of the first one of the first member.
+    pub fn new(alloc: Global, id: Identity, floor: u64) -> Result<Grid, Memory>
+        requires { IsPlace id floor }
+        ensures { IfOk result (λ grid. grid ≡ numbers_from 1 id.members (new_row id floor)) }
+    {
+        let mut rows = Vec::new(alloc);
+        for below in 0..id.members {
+            let member = below + 1;
+            rows.push(Row::new(alloc, Identity { member, ..id }, floor)?)?;
+        }
+        Ok(Grid { rows })
+    }
+
+    /// A member's shard.
+    pub fn shard(&self, member: u8, shard: u8) -> &Shard
+        requires { IsCell self.now member shard }
+        ensures { result.now ≡ account_at self.now member shard }
+    {
+        self.rows[usize::from(member) - 1].shard(shard)
+    }
+
+    pub fn call(
+        &mut self,
+        alloc: Global,
+        member: u8,
+        shard: u8,
+        client: u8,
+        seq: u32,
+        ask: &Ask,
+    ) -> Result<Done, Memory>
+        requires cell { IsCell self.old member shard }
+        requires here { shard_of (key_of ask.now) (account_at self.old member shard).id.shards ≡
+            (account_at self.old member shard).id.shard }
+        ensures { IfOk result (IsCalled self.old self.new member shard client seq ask.now) }
+    {
+        let row = &mut self.rows[usize::from(member) - 1];
+        row.call(alloc, shard, client, seq, ask)
+    }
+
+    /// What all members leave.
+    pub fn into_records(self, alloc: Global) -> Result<MemberRecordList, Memory>
+        requires { length self ≤ 8 }
+        ensures { IfOk result (PairsFrom IsMemberOf 1 self) }
+    {
+        let mut members = MemberRecordList::new(alloc)?;
+        let mut member = 0u8;
+        for row in self.rows {
+            member += 1;
+            members.push(row.into_record(alloc, member)?)?;
+        }
+        Ok(members)
+    }
+}

@@ -1,0 +1,147 @@
+ghost use Rattle.std.specs.Prelude.{◌≡◌, ℕ, List, [], length, reverse, IfOk};
+ghost use Rattle.gr_script.specs.declared.line.Act.TheVariants as act;
+ghost use Rattle.gr_script.specs.declared.line.Line.TheVariants as line;
+ghost use Rattle.gr_script.specs.Rules.{IsMember, IsStated, home_of};
+ghost use Rattle.gr_script.specs.Scripts.{heading_of};
+ghost use Rattle.gr_history.specs.declared.record.Answer.TheVariants as answer;
+ghost use Rattle.gr_history.specs.Standing.{present};
+ghost use Rattle.gr_world.specs.Courses.{after};
+ghost use Rattle.gr_world.specs.Events.{Event};
+ghost use Rattle.gr_world.specs.Records.{IsLeft};
+ghost use Rattle.gr_world.specs.Worlds.{CanPlay, IsAtWork, Plays, world_left};
+
+use crate::grid::Grid;
+use crate::tellings::Tellings;
+use gr_history::{Answer, Ask, Identity, Record};
+use gr_script::{Act, Line, Script};
+use gr_shard::Shard;
+use gr_value::{Copied, Key, Memory};
+use std::alloc::Global;
+
+/// All members' shards, and what each client was told.
+#[derive(Drop)]
+pub struct World {
+    pub grid: Grid,
+    pub tellings: Tellings,
+}
+
+// The member that a client is at.
+fn home(script: &Script, client: u8) -> u8
+    requires { IsStated client (heading_of script.now) }
+    ensures home { result ≡ home_of (heading_of script.now) client }
+    ensures member { IsMember (heading_of script.now) result }
+{
+    script.clients.as_slice()[usize::from(client) - 1]
+}
+
+// What a peek at the key is answered.
+fn seen(alloc: Global, shard: &Shard, key: &Key) -> Result<Answer, Memory>
+    ensures { IfOk result (λ seen. seen ≡ answer.Peeked (present key.now (reverse shard.now.deeds)) (length shard.now.deeds)) }
+{
+    let at = shard.history().len();
+    let value = match shard.present(key) {
+        None => None,
+        Some(value) => Some(value.copy(alloc)?),
+    };
+    Ok(Answer::Peeked { value, at })
+}
+
+impl World {
+    /// The world before the first line.
+    pub fn new(alloc: Global, script: &Script) -> Result<World, Memory>
+        requires { script.now.founders ≡ script.now.members }
+        ensures { IfOk result (λ world. world ≡ world_left (heading_of script.now) []) }
+    {
+        let id = Identity {
+            member: 1,
+            members: script.members,
+            founders: script.founders,
+            shard: 0,
+            shards: script.shards,
+        };
+        Ok(World {
+            grid: Grid::new(alloc, id, script.floor)?,
+            tellings: Tellings::new(alloc, script.clients.len())?,
+        })
+    }
+
+    fn call(
+        &mut self,
+        alloc: Global,
+        script: &Script,
+        client: u8,
+        seq: u32,
+        ask: &Ask,
+    ) -> Result<(), Memory>
+        requires work { IsAtWork (heading_of script.now) self.old }
+        requires stated { IsStated client (heading_of script.now) }
+        ensures { IfOk result
+            (λ _. Plays (heading_of script.now)
+            (after (heading_of script.now) (line.Step client seq (act.Call ask.now))) self.old self.new) }
+    {
+        let member = home(script, client);
+        let shard = ask.key().shard(script.shards);
+        let done = self.grid.call(alloc, member, shard, client, seq, ask)?;
+        Ok(self.tellings.tell(client, Answer::Reply(done.reply))?)
+    }
+
+    fn peek(&mut self, alloc: Global, script: &Script, client: u8, key: &Key) -> Result<(), Memory>
+        requires work { IsAtWork (heading_of script.now) self.old }
+        requires stated { IsStated client (heading_of script.now) }
+        ensures { IfOk result
+            (λ _. (seq : ℕ)
+            → Plays (heading_of script.now)
+            (after (heading_of script.now) (line.Step client seq (act.Peek key.now))) self.old self.new) }
+    {
+        let member = home(script, client);
+        let shard = key.shard(script.shards);
+        let answer = seen(alloc, self.grid.shard(member, shard), key)?;
+        Ok(self.tellings.tell(client, answer)?)
+    }
+
+    fn step(
+        &mut self,
+        alloc: Global,
+        script: &Script,
+        client: u8,
+        seq: u32,
+        act: &Act,
+    ) -> Result<(), Memory>
+        requires work { IsAtWork (heading_of script.now) self.old }
+        requires stated { IsStated client (heading_of script.now) }
+        ensures { IfOk result
+            (λ _. Plays (heading_of script.now) (after (heading_of script.now) (line.Step client seq act.now)) self.old self.new) }
+    {
+        match act {
+            Act::Call(ask) => Ok(self.call(alloc, script, client, seq, ask)?),
+            Act::Query(_) => Ok(()),
+            Act::Peek(key) => Ok(self.peek(alloc, script, client, key)?),
+        }
+    }
+
+    /// Does what a line names.
+    pub fn play(&mut self, alloc: Global, script: &Script, line: &Line) -> Result<(), Memory>
+        requires work { IsAtWork (heading_of script.now) self.old }
+        requires built { CanPlay (heading_of script.now) line.now }
+        ensures { IfOk result (λ _. Plays (heading_of script.now) (after (heading_of script.now) line.now) self.old self.new) }
+    {
+        match line {
+            Line::Step { client, seq, act } => Ok(self.step(alloc, script, *client, *seq, act)?),
+            _ => Ok(()),
+        }
+    }
+
+    /// What is left behind the last line.
+    pub fn into_record(self, alloc: Global, script: &Script) -> Result<Record, Memory>
+        requires { IsAtWork (heading_of script.now) self }
+        ensures { IfOk result
+            (λ left. (events : List Event) → self ≡ world_left (heading_of script.now) events
+            → IsLeft (heading_of script.now) events left) }
+    {
+        let World { grid, tellings } = self;
+        Ok(Record {
+            members: grid.into_records(alloc)?,
+            clients: tellings.into_records(alloc, script.clients.as_slice())?,
+        })
+    }
+}
