@@ -37,16 +37,8 @@ pub type MemberRecordList = ItemList<MemberRecord>;
 #[derive(Drop)]
 pub enum Answer {
     Reply(Reply),
-<<<<<<< HEAD
-    /// What was seen at a key, and after how many deeds of its shard.
-    Peeked {
-        value: Option<Value>,
-        at: u64,
-    },
-=======
     /// The value that was present at the key, and how long the history of its shard was.
     Peeked { value: Option<Value>, at: u64 },
->>>>>>> 6a9ae9bc7325c4719f92dd8f30478bccf0eaa84c
 }
 
 pub type AnswerList = ItemList<Answer>;
