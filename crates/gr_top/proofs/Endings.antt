@@ -9,11 +9,6 @@ use Rattle.gr_top.specs.CauseTexts.{text_of_cause}
 use Rattle.gr_top.specs.declared.cause.Cause.{Cause}
 use Rattle.gr_top.specs.declared.cause.Cause.TheVariants.{Script}
 
-pub fault_is : {A : Type 0} (read : Result A Reason) (fault : ScriptFault) → fault_at 0 read ≡ Err fault
-    → fault ≡ record { line = 0; reason = NotBuilt }
-fault_is (Ok x) fault is = cc
-fault_is (Err NotBuilt) fault is = cc
-
 -- seven texts, joined from either end
 in_turn : (a b c d e f g : List ℕ) → a ++ b ++ c ++ d ++ e ++ f ++ g ≡ a ++ (b ++ (c ++ (d ++ (e ++ (f ++ g)))))
 in_turn a b c d e f g = simp append_assoc refl

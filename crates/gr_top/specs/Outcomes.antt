@@ -1,5 +1,5 @@
 -- What each cause says of the words, the source, the sink and the record.
-use Rattle.std.specs.Prelude.{◌≡◌, ◌↔◌, ◌⊎◌, ℕ, ◌+◌, ◌≤◌, List, length, Option, Some, None, IfSome, IsSomeAnd}
+use Rattle.std.specs.Prelude.{◌≡◌, ◌↔◌, ◌⊎◌, ℕ, ◌+◌, ◌≤◌, List, length, Option, Some, None, Ok, Err, true, false, IfSome, IsSomeAnd}
 use Rattle.std.specs.Io.KnownBytes.{IsAtEnd, Appends, Consumes}
 use Rattle.gr_history.specs.declared.record.Record.{Record}
 use Rattle.gr_io.specs.Faults.{Rose}
@@ -7,13 +7,12 @@ use Rattle.gr_io.specs.Ends.{AppendsPart, TakesAtMost}
 use Rattle.gr_report.specs.Report.{record_text}
 use Rattle.gr_script.specs.declared.fault.Reason.TheVariants.{NotBuilt}
 use Rattle.gr_script.specs.declared.fault.ScriptFault.{ScriptFault}
-use Rattle.gr_script.specs.declared.line.Line.{Line}
 use Rattle.gr_script.specs.declared.script.Script.{Script as TheScript}
-use Rattle.gr_script.specs.Rules.{Heading, IsScript}
+use Rattle.gr_script.specs.Reading.{script_of}
 use Rattle.gr_script.specs.Scripts.{heading_of}
-use Rattle.gr_script.specs.Spelling.{IsSpelled}
+use Rattle.gr_world.specs.Built.{is_built}
 use Rattle.gr_world.specs.Histories.{KeepsLaws}
-use Rattle.gr_world.specs.Replayed.{IsReplayed}
+use Rattle.gr_world.specs.Records.{IsReplayed}
 use Rattle.gr_top.specs.declared.cause.Cause.{Cause}
 use Rattle.gr_top.specs.declared.cause.Cause.TheVariants.{Finished, Usage, ReadFault, TooLarge, Script, WriteFault, Memory}
 use Rattle.gr_top.specs.Causes.{status_of}
@@ -45,28 +44,39 @@ pub record IsWhole (source : Stream) (text : List ℕ) : Type 0 where
   pub ended : IsAtEnd source.bytes_after
   pub fits : length text ≤ most_bytes
 
+-- The text is this script.
+abbrev pub IsRead : List ℕ → TheScript → Type 0
+IsRead text script = script_of text ≡ Ok (heading_of script, script.lines)
+
 -- The text is a script, and the record is the one that its lines define. Its histories keep the laws of records.
 pub record IsRecordOfScript (text : List ℕ) (record_of : Record) : Type 0 where
   pub script : TheScript
-  pub spelled : IsSpelled text (heading_of script) script.lines
-  pub replayed : IsReplayed script record_of
-  pub laws : KeepsLaws script record_of
+  pub read : IsRead text script
+  pub replayed : IsReplayed (heading_of script) script.lines record_of
+  pub laws : KeepsLaws (heading_of script) record_of
 
-abbrev pub IsNoScript : List ℕ → Type 0
-IsNoScript text = (h : Heading) (lines : List Line) → IsScript h lines → IsSpelled text h lines → ⊥
-
--- The script is spelled by all that the source had.
+-- The script is all that the source had.
 pub record IsScriptOf (source : Stream) (script : TheScript) : Type 0 where
   pub text : List ℕ
   pub whole : IsWhole source text
-  pub spelled : IsSpelled text (heading_of script) script.lines
+  pub read : IsRead text script
 
--- What the source had is no script.
+-- It can be replayed.
+abbrev pub IsBuilt : TheScript → Type 0
+IsBuilt script = is_built (heading_of script) script.lines ≡ true
+
+-- The text is a script that can't be replayed yet.
+pub record IsNotBuilt (text : List ℕ) (fault : ScriptFault) : Type 0 where
+  pub script : TheScript
+  pub read : IsRead text script
+  pub unbuilt : is_built (heading_of script) script.lines ≡ false
+  pub fault_is : fault ≡ record { line = 0; reason = NotBuilt }
+
+-- What the source had is no script, which this fault tells, or one that can't be replayed yet.
 pub record IsRefused (source : Stream) (fault : ScriptFault) : Type 0 where
   pub text : List ℕ
   pub whole : IsWhole source text
-  pub no_script : IsNoScript text
-  pub fault_is : fault ≡ record { line = 0; reason = NotBuilt }
+  pub refused : (script_of text ≡ Err fault) ⊎ IsNotBuilt text fault
 
 -- The source had more bytes than a script may have, and one more than these was taken.
 pub record IsTooLarge (source : Stream) (bytes lines : ℕ) : Type 0 where

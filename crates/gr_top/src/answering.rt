@@ -1,15 +1,17 @@
-ghost use Rattle.std.specs.Prelude.{◌≡◌, ◌↔◌, ℕ, map, string_bytes, Some, None, MatchResult, IfErr};
+ghost use Rattle.std.specs.Prelude.{◌≡◌, ◌↔◌, ℕ, map, string_bytes, Some, None, MatchResult, IfErr, IfOk};
+ghost use Rattle.gr_script.specs.Scripts.{heading_of};
 ghost use Rattle.gr_top.specs.Causes.{status_of};
-ghost use Rattle.gr_top.specs.Outcomes.{Explains, IsNoUsage, IsReplayOf, IsScriptOf, Stops, Stream, stream};
+ghost use Rattle.gr_top.specs.Outcomes.{Explains, IsBuilt, IsNoUsage, IsReplayOf, IsScriptOf, Stops, Stream, stream};
 ghost use Rattle.gr_top.specs.Words.{misfit};
+ghost use Rattle.gr_world.specs.Built.{is_built};
 
 use crate::words::misfit;
 use crate::{Cause, Outcome};
 use gr_history::Record;
 use gr_io::{ReadEnd, Sink, Source, read_all, write_all};
 use gr_report::report;
-use gr_script::{Form, Script, ScriptEnd, read};
-use gr_world::replay;
+use gr_script::{Form, Reason, Script, ScriptEnd, ScriptFault, read};
+use gr_world::{replay, unbuilt};
 use std::alloc::Global;
 
 /// The most bytes of a script.
@@ -38,12 +40,35 @@ fn script_from<S: Source>(alloc: Global, source: &mut S) -> Result<Script, Cause
     }
 }
 
+fn is_built(script: &Script) -> bool
+    ensures { result ≡ is_built (heading_of script.now) script.now.lines }
+{
+    unbuilt(script).is_none()
+}
+
+// A script that can be replayed.
+fn built_from<S: Source>(alloc: Global, source: &mut S) -> Result<Script, Cause>
+    ensures explained { MatchResult result (IsScriptOf (stream (S.left source.old) (S.left source.new) (S.faults source.old) (S.faults source.new)))
+        (Stops (stream (S.left source.old) (S.left source.new) (S.faults source.old) (S.faults source.new))) }
+    ensures built { IfOk result IsBuilt }
+    ensures understood { IfErr result IsNoUsage }
+{
+    let script = script_from(alloc, source)?;
+    if !is_built(&script) {
+        return Err(Cause::Script(ScriptFault {
+            line: 0,
+            reason: Reason::NotBuilt,
+        }));
+    }
+    Ok(script)
+}
+
 fn record_from<S: Source>(alloc: Global, source: &mut S) -> Result<Record, Cause>
     ensures explained { MatchResult result (IsReplayOf (stream (S.left source.old) (S.left source.new) (S.faults source.old) (S.faults source.new)))
         (Stops (stream (S.left source.old) (S.left source.new) (S.faults source.old) (S.faults source.new))) }
     ensures understood { IfErr result IsNoUsage }
 {
-    let script = script_from(alloc, source)?;
+    let script = built_from(alloc, source)?;
     match replay(alloc, &script) {
         Ok(record_of) => Ok(record_of),
         Err(_) => Err(Cause::Memory),
