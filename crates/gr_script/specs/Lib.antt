@@ -12,6 +12,7 @@ pub mod ReasonNames
 pub mod Reasons
 pub mod Refusals
 pub mod Rules
+pub mod Said
 pub mod Sayings
 pub mod Scripts
 pub mod Steps

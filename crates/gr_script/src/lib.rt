@@ -15,6 +15,7 @@ mod layout;
 mod line;
 mod note;
 mod numeral;
+mod parts;
 mod past;
 mod piece;
 mod reading;
