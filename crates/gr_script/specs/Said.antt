@@ -15,25 +15,12 @@ use Rattle.gr_script.specs.declared.line.Line.{Line}
 use Rattle.gr_script.specs.declared.line.Line.TheVariants as line
 use Rattle.gr_script.specs.declared.parts.Parts.{Parts}
 use Rattle.gr_script.specs.declared.saying.Saying.{Saying}
-use Rattle.gr_script.specs.Forms.{is_step, is_kind}
-use Rattle.gr_script.specs.Past.{number, stated, region, members, founders, homes, steps}
+use Rattle.gr_script.specs.Forms.{is_step}
+use Rattle.gr_script.specs.Past.{number, region, members, founders, shards, inbox, trouble, floor, homes, steps}
 use Rattle.gr_script.specs.Rules.{Heading, heading}
 use Rattle.gr_script.specs.Sayings.{sayings_of}
 
 -- ---- the heading
-
-abbrev pub shards : List Saying → ℕ
-shards past = stated kind.Shards 0 past
-
-abbrev pub inbox : List Saying → ℕ
-inbox [] = 16
-inbox (line ∷ past) = if is_kind kind.Inbox line.kind then number 0 line.items else inbox past
-
-abbrev pub trouble : List Saying → ℕ
-trouble past = stated kind.Trouble 0 past
-
-abbrev pub floor : List Saying → ℕ
-floor past = stated kind.Floor 0 past
 
 abbrev pub heading_said : List Saying → Heading
 heading_said past =

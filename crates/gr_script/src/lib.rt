@@ -21,6 +21,7 @@ mod piece;
 mod reading;
 mod reason;
 mod refusal;
+mod said;
 mod saying;
 mod sayings;
 mod script;

@@ -1,0 +1,93 @@
+ghost use Rattle.std.specs.Prelude.{◌≡◌, ◌<◌, ◌^◌};
+ghost use Rattle.gr_script.specs.Narrow.{IsNarrowStep, IsNarrow};
+ghost use Rattle.gr_script.specs.Said.{act_said, step_said, other_said};
+
+use crate::forms::LineKind;
+use crate::items::Item;
+use crate::parts::{Parts, parts_of};
+use crate::saying::{Saying, number};
+use crate::{Act, Line};
+use gr_history::{Ask, QueryAsk};
+use gr_value::ItemList;
+
+// What a client does at a line of this kind.
+fn act_said(kind: LineKind, parts: Parts) -> Option<Act>
+    ensures { result ≡ act_said kind parts }
+{
+    let key = parts.key?;
+    match kind {
+        LineKind::Get => Some(Act::Call(Ask::Get { key })),
+        LineKind::Put => Some(Act::Call(Ask::Put {
+            key,
+            value: parts.value?,
+        })),
+        LineKind::PutIfAbsent => Some(Act::Call(Ask::PutIfAbsent {
+            key,
+            value: parts.value?,
+        })),
+        LineKind::Replace => Some(Act::Call(Ask::Replace {
+            key,
+            value: parts.value?,
+        })),
+        LineKind::ReplaceIf => Some(Act::Call(Ask::ReplaceIf {
+            key,
+            old: parts.value?,
+            new: parts.other?,
+        })),
+        LineKind::Destroy => Some(Act::Call(Ask::Destroy { key })),
+        LineKind::Remove => Some(Act::Call(Ask::Remove {
+            key,
+            value: parts.value?,
+        })),
+        LineKind::Peek => Some(Act::Peek(key)),
+        LineKind::Open => Some(Act::Query(QueryAsk::Enrol {
+            name: key,
+            query: parts.query?,
+        })),
+        LineKind::Stop => Some(Act::Query(QueryAsk::Stop { name: key })),
+        LineKind::Close => Some(Act::Query(QueryAsk::Close { name: key })),
+        LineKind::Fetch => Some(Act::Query(QueryAsk::Fetch { name: key })),
+        _ => None,
+    }
+}
+
+/// The step of this number.
+pub(crate) fn step_said(seq: u32, kind: LineKind, items: ItemList<Item>) -> Option<Line>
+    requires { IsNarrowStep items }
+    ensures { result ≡ step_said seq kind items }
+{
+    let client = number(0, items.as_slice()) as u8;
+    let act = act_said(kind, parts_of(items))?;
+    Some(Line::Step { client, seq, act })
+}
+
+/// A line that is no step.
+pub(crate) fn other_said(kind: LineKind, items: &[Item]) -> Option<Line>
+    requires { IsNarrow kind items.now }
+    ensures { result ≡ other_said kind items.now }
+{
+    match kind {
+        LineKind::Deliver => Some(Line::Deliver {
+            to: number(0, items) as u8,
+            client: number(1, items) as u8,
+            seq: number(2, items) as u32,
+        }),
+        LineKind::Report => Some(Line::Report {
+            member: number(0, items) as u8,
+        }),
+        LineKind::Hear => Some(Line::Hear {
+            by: number(0, items) as u8,
+            of: number(1, items) as u8,
+            number: number(2, items) as u32,
+        }),
+        LineKind::Sweep => Some(Line::Sweep {
+            member: number(0, items) as u8,
+            moment: number(1, items) as u64,
+        }),
+        LineKind::Join => Some(Line::Join {
+            member: number(0, items) as u8,
+            from: number(1, items) as u8,
+        }),
+        _ => None,
+    }
+}
