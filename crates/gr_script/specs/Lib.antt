@@ -8,8 +8,6 @@ pub mod Narrow
 pub mod Numerals
 pub mod Past
 pub mod Pieces
-pub mod Reading
-pub mod ReasonNames
 pub mod Reasons
 pub mod Refusals
 pub mod Rules
@@ -17,7 +15,5 @@ pub mod Said
 pub mod Sayings
 pub mod Scripts
 pub mod Steps
-pub mod Stops
 pub mod Tallies
 pub mod Texts
-pub mod Words

@@ -1,15 +1,11 @@
 //! Scripts: what a run is asked to do, read from a text.
 #![tactic(auto)]
 
-mod act;
 mod cuts;
 mod ending;
-mod fault;
-mod field;
 mod form;
 mod forms;
 mod halt;
-mod heading;
 mod items;
 mod layout;
 mod line;
@@ -21,20 +17,21 @@ mod piece;
 mod reading;
 mod reason;
 mod refusal;
+mod region;
 mod said;
 mod saying;
 mod sayings;
 mod script;
-mod stop;
 mod tally;
+mod telling;
 mod text;
-mod word;
 
-pub use fault::{Reason, ScriptEnd, ScriptFault};
+pub use ending::{ScriptEnd, ScriptFault};
 pub use form::Form;
 pub use line::{Act, Line, LineList, Step, StepList};
 pub use reading::read;
+pub use reason::Reason;
 pub use script::{MemberNumberList, Script};
 
-#[cfg(test)]
-mod tests;
+
+
