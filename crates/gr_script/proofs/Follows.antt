@@ -1,5 +1,5 @@
 -- What every line that was read is behind the earlier ones.
-use Rattle.std.proofs.Common.{◌≡◌, ℕ, zero, suc, ◌+◌, ◌≤◌, ◌<◌, List, [], ◌∷◌, Bool, true, false, cond, ltb, not, ◌&&◌, Option, Some, None, Result, Ok, Err, refl, sym, ap, ◌∙◌, subst, arith, codes, bytes_eq}
+use Rattle.std.proofs.Common.{◌≡◌, ℕ, zero, suc, ◌+◌, ◌≤◌, ◌<◌, List, [], ◌∷◌, length, Bool, true, false, cond, ltb, not, ◌&&◌, Option, Some, None, Result, Ok, Err, refl, sym, ap, ◌∙◌, subst, arith, codes, bytes_eq}
 use Rattle.std.specs.List.{list_all}
 use Rattle.std.specs.Char.{is_ascii_digit}
 use Rattle.std.proofs.lemmas.Bool.{and_parts, ltb-false, not-false}
@@ -23,6 +23,7 @@ use Rattle.gr_script.specs.Refusals.{lacks, is_replayed, tests, refusal, unless_
 use Rattle.gr_script.specs.Sayings.{ended, go_on, sayings_from, end_of, sayings_of}
 use Rattle.gr_script.specs.Texts.{lines_of}
 use Rattle.gr_script.proofs.Contents.{Contents, items_of, items_held}
+use Rattle.gr_script.proofs.LineCounts.{lines_counted}
 use Rattle.gr_script.proofs.Passes.{done_is, bind_ok, unless_ok, some_ok}
 
 pub record Follows (past : List Saying) (kind : LineKind) (items : List Item) : Type 0 where
@@ -144,12 +145,45 @@ from_follows runs number past (line ∷ lines) all e so_far =
     from_follows runs (number + 1) g.0 lines all g.2 (past_follows runs past line g.0 g.1 so_far)
 
 end_ok : (many : Bool) (end : ScriptEnd) (found : Result (List Saying) ScriptFault) (all : List Saying)
-    → cond many (Err end) (end_of found) ≡ Ok all → found ≡ Ok all
+    → cond many (Err end) (end_of found) ≡ Ok all → (many ≡ false) × (found ≡ Ok all)
 end_ok true end found all e = absurd cc
-end_ok false end (Ok past) all e = cc
+end_ok false end (Ok past) all e = (refl, cc)
 end_ok false end (Err fault) all e = absurd cc
 
 -- Each line that was read suits the earlier ones, and the heading is whole.
 pub all_follow : (runs : Bool) (text : List ℕ) (all : List Saying) → sayings_of runs text ≡ Ok all → AllFollow all × (4 ≤ stage all)
 all_follow runs text all e =
-    from_follows runs 1 [] (lines_of text) all (end_ok (ltb most_lines (line_count text)) _ (sayings_from runs 1 [] (lines_of text)) all e) tt
+    from_follows runs 1 [] (lines_of text) all (end_ok (ltb most_lines (line_count text)) _ (sayings_from runs 1 [] (lines_of text)) all e).1 tt
+
+-- ---- how many there are
+
+with_length : (skipped : Bool) (past : List Saying) (read : Result Saying Reason) (longer : List Saying)
+    → with skipped past read ≡ Ok longer → length longer ≤ length past + 1
+with_length true past read longer e =
+    let same = ap (length {A = Saying}) (done_is past longer e) in
+    omega (arith, same)
+with_length false past read longer e =
+    let b = bind_ok read _ longer e in
+    let same = ap (length {A = Saying}) (done_is (b.0 ∷ past) longer b.2) in
+    omega (arith, same)
+
+from_length : (runs : Bool) (number : ℕ) (past : List Saying) (lines : List (List ℕ)) (all : List Saying)
+    → sayings_from runs number past lines ≡ Ok all → length all ≤ length past + length lines
+from_length runs number past [] all e =
+    let same = ap (length {A = Saying}) (ended_follows (ltb (stage past) 4) past all _ e).1 in
+    omega (arith, same)
+from_length runs number past (line ∷ lines) all e =
+    let g = go_on_ok number (past_with runs past line) _ all e in
+    let t = bind_ok (text_at line) _ g.0 g.1 in
+    let one = with_length (is_skipped (text_said t.0)) past (saying_at runs past (text_said t.0)) g.0 t.2 in
+    let rest = from_length runs (number + 1) g.0 lines all g.2 in
+    omega (arith, one, rest)
+
+-- There are at most as many as a script may have lines.
+pub few_sayings : (runs : Bool) (text : List ℕ) (all : List Saying) → sayings_of runs text ≡ Ok all → length all ≤ most_lines
+few_sayings runs text all e =
+    let whole = end_ok (ltb most_lines (line_count text)) _ (sayings_from runs 1 [] (lines_of text)) all e in
+    let within = ltb-false most_lines (line_count text) whole.0 in
+    let counted = lines_counted text in
+    let length = from_length runs 1 [] (lines_of text) all whole.1 in
+    omega (arith, within, counted, length)
