@@ -4,6 +4,7 @@ pub mod Forms
 pub mod Halts
 pub mod Index
 pub mod Items
+pub mod LineNumbers
 pub mod Narrow
 pub mod Numerals
 pub mod Past

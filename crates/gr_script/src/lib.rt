@@ -9,7 +9,9 @@ mod halt;
 mod items;
 mod layout;
 mod line;
+
 mod note;
+mod numbering;
 mod numeral;
 mod parts;
 mod past;
@@ -29,9 +31,8 @@ mod text;
 pub use ending::{ScriptEnd, ScriptFault};
 pub use form::Form;
 pub use line::{Act, Line, LineList, Step, StepList};
+pub use numbering::line_number;
 pub use reading::read;
 pub use reason::Reason;
 pub use script::{MemberNumberList, Script};
-
-
 
