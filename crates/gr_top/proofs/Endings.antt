@@ -1,9 +1,6 @@
 -- How a call ends where the words are understood.
 use Rattle.std.proofs.Common.{◌≡◌, ℕ, List, ◌++◌, append_assoc, codes, decimal, refl, Result, Ok, Err}
-use Rattle.gr_script.specs.declared.fault.Reason.{Reason}
-use Rattle.gr_script.specs.declared.fault.Reason.TheVariants.{NotBuilt}
-use Rattle.gr_script.specs.declared.fault.ScriptFault.{ScriptFault}
-use Rattle.gr_script.specs.Reading.{fault_at}
+use Rattle.gr_script.specs.declared.ending.ScriptFault.{ScriptFault}
 use Rattle.gr_script.specs.Reasons.{name_of, number_of}
 use Rattle.gr_top.specs.CauseTexts.{text_of_cause}
 use Rattle.gr_top.specs.declared.cause.Cause.{Cause}

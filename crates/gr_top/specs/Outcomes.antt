@@ -1,23 +1,29 @@
 -- What each cause says of the words, the source, the sink and the record.
-use Rattle.std.specs.Prelude.{◌≡◌, ◌↔◌, ◌⊎◌, ℕ, ◌+◌, ◌≤◌, List, length, Option, Some, None, Ok, Err, true, false, IfSome, IsSomeAnd}
+use Rattle.std.specs.Prelude.{◌≡◌, ◌⊎◌, ℕ, ◌+◌, ◌≤◌, List, length, Option, Some, None, Result, Ok, Err, false, IfSome, IsSomeAnd}
 use Rattle.std.specs.Io.KnownBytes.{IsAtEnd, Appends, Consumes}
 use Rattle.gr_history.specs.declared.record.Record.{Record}
 use Rattle.gr_io.specs.Faults.{Rose}
 use Rattle.gr_io.specs.Ends.{AppendsPart, TakesAtMost}
 use Rattle.gr_report.specs.Report.{record_text}
-use Rattle.gr_script.specs.declared.fault.Reason.TheVariants.{NotBuilt}
-use Rattle.gr_script.specs.declared.fault.ScriptFault.{ScriptFault}
+use Rattle.gr_script.specs.declared.ending.ScriptEnd.TheVariants as end
+use Rattle.gr_script.specs.declared.ending.ScriptFault.{ScriptFault}
+use Rattle.gr_script.specs.declared.reason.Reason.TheVariants.{NotBuilt}
 use Rattle.gr_script.specs.declared.script.Script.{Script as TheScript}
-use Rattle.gr_script.specs.Reading.{script_of}
+use Rattle.gr_script.specs.Cuts.{line_count}
+use Rattle.gr_script.specs.LineNumbers.{number_of_line}
+use Rattle.gr_script.specs.Printed.{script_text}
+use Rattle.gr_script.specs.Said.{script_of}
 use Rattle.gr_script.specs.Scripts.{heading_of}
-use Rattle.gr_world.specs.Built.{is_built}
+use Rattle.gr_world.specs.Built.{unbuilt}
 use Rattle.gr_world.specs.Histories.{KeepsLaws}
 use Rattle.gr_world.specs.Records.{IsReplayed}
 use Rattle.gr_top.specs.declared.cause.Cause.{Cause}
 use Rattle.gr_top.specs.declared.cause.Cause.TheVariants.{Finished, Usage, ReadFault, TooLarge, Script, WriteFault, Memory}
 use Rattle.gr_top.specs.Causes.{status_of}
 use Rattle.gr_top.specs.CauseTexts.{text_of_cause}
-use Rattle.gr_top.specs.Words.{misfit}
+use Rattle.gr_top.specs.declared.words.Mode.{Mode}
+use Rattle.gr_top.specs.declared.words.Mode.TheVariants.{Check, Replay}
+use Rattle.gr_top.specs.Words.{mode_of}
 
 -- The most bytes of a script.
 abbrev pub most_bytes : ℕ
@@ -46,51 +52,50 @@ pub record IsWhole (source : Stream) (text : List ℕ) : Type 0 where
 
 -- The text is this script.
 abbrev pub IsRead : List ℕ → TheScript → Type 0
-IsRead text script = script_of text ≡ Ok (heading_of script, script.lines)
+IsRead text script = script_of false text ≡ Ok (heading_of script, script.lines)
 
--- The text is a script, and the record is the one that its lines define. Its histories keep the laws of records.
-pub record IsRecordOfScript (text : List ℕ) (record_of : Record) : Type 0 where
-  pub script : TheScript
+-- The text is all that the source had, and this script.
+pub record IsGiven (source : Stream) (text : List ℕ) (script : TheScript) : Type 0 where
+  pub whole : IsWhole source text
   pub read : IsRead text script
+
+-- The record is that of the script which the source had. Its histories keep the laws of records.
+pub record IsReplayOf (source : Stream) (record_of : Record) : Type 0 where
+  pub text : List ℕ
+  pub script : TheScript
+  pub given : IsGiven source text script
   pub replayed : IsReplayed (heading_of script) script.lines record_of
   pub laws : KeepsLaws (heading_of script) record_of
 
--- The script is all that the source had.
-pub record IsScriptOf (source : Stream) (script : TheScript) : Type 0 where
+-- The text is a script with a line that can't be replayed yet, which is the first of these.
+pub record IsNotBuilt (source : Stream) (fault : ScriptFault) : Type 0 where
   pub text : List ℕ
-  pub whole : IsWhole source text
-  pub read : IsRead text script
-
--- It can be replayed.
-abbrev pub IsBuilt : TheScript → Type 0
-IsBuilt script = is_built script.lines ≡ true
-
--- The text is a script that can't be replayed yet.
-pub record IsNotBuilt (text : List ℕ) (fault : ScriptFault) : Type 0 where
   pub script : TheScript
-  pub read : IsRead text script
-  pub unbuilt : is_built script.lines ≡ false
-  pub fault_is : fault ≡ record { line = 0; reason = NotBuilt }
+  pub given : IsGiven source text script
+  pub place : ℕ
+  pub first : unbuilt script.lines ≡ Some place
+  pub fault_is : fault ≡ record { line = number_of_line text place; reason = NotBuilt }
 
--- What the source had is no script, which this fault tells, or one that can't be replayed yet.
+-- What the source had is no script, and this is its first fault.
 pub record IsRefused (source : Stream) (fault : ScriptFault) : Type 0 where
   pub text : List ℕ
   pub whole : IsWhole source text
-  pub refused : (script_of text ≡ Err fault) ⊎ IsNotBuilt text fault
+  pub refused : script_of false text ≡ Err (end.Fault fault)
 
 -- The source had more bytes than a script may have, and one more than these was taken.
-pub record IsTooLarge (source : Stream) (bytes lines : ℕ) : Type 0 where
+pub record HasTooManyBytes (source : Stream) (bytes lines : ℕ) : Type 0 where
   pub taken : List ℕ
   pub consumed : Consumes source.bytes_before source.bytes_after taken
   pub count : length taken ≡ bytes
   pub one_more : bytes ≡ most_bytes + 1
-  pub no_lines : lines ≡ 0
+  pub lines_are : lines ≡ line_count taken
 
--- The record is that of a script, which is all that the source had.
-pub record IsReplayOf (source : Stream) (record_of : Record) : Type 0 where
+-- What the source had has more lines than a script may have.
+pub record HasTooManyLines (source : Stream) (bytes lines : ℕ) : Type 0 where
   pub text : List ℕ
   pub whole : IsWhole source text
-  pub of_script : IsRecordOfScript text record_of
+  pub count : length text ≡ bytes
+  pub many : script_of false text ≡ Err (end.TooManyLines lines)
 
 -- No more was taken of the source than a script may have.
 abbrev pub IsWithin : Stream → Type 0
@@ -99,25 +104,56 @@ IsWithin source = TakesAtMost most_bytes source.bytes_before source.bytes_after
 abbrev pub Counted : Stream → Type 0
 Counted stream = Rose stream.faults_before stream.faults_after
 
--- What each cause says of the source, the sink and the record that was kept.
-abbrev pub Explains : Stream → Stream → Option Record → Cause → Type 0
-Explains source sink kept Finished =
-    IsSomeAnd kept (λ record_of. IsReplayOf source record_of × Appends sink.bytes_before sink.bytes_after (record_text record_of))
-Explains source sink kept (Usage place) = (kept ≡ None) × IsUntouched source × IsUntouched sink
-Explains source sink kept ReadFault = (kept ≡ None) × Counted source × IsWithin source × IsUntouched sink
-Explains source sink kept (TooLarge bytes lines) = (kept ≡ None) × IsTooLarge source bytes lines × IsUntouched sink
-Explains source sink kept (Script fault) = (kept ≡ None) × IsRefused source fault × IsUntouched sink
-Explains source sink kept WriteFault =
-    IsSomeAnd kept (λ record_of. IsReplayOf source record_of × AppendsPart sink.bytes_before sink.bytes_after (record_text record_of)) × Counted sink
-Explains source sink kept Memory = IfSome kept (IsReplayOf source) × IsWithin source × IsUntouched sink
+-- why the script isn't one that the mode can answer
+abbrev pub Refuses : Mode → Stream → ScriptFault → Type 0
+Refuses Check source fault = IsRefused source fault
+Refuses (Replay histories) source fault = IsRefused source fault ⊎ IsNotBuilt source fault
+
+-- the record that is kept, if one is: none by a check
+abbrev pub Keeps : Mode → Stream → Option Record → Type 0
+Keeps Check source kept = kept ≡ None
+Keeps (Replay histories) source kept = IfSome kept (IsReplayOf source)
+
+-- The text of a script that the source had.
+pub record IsPrinted (source : Stream) (printed : List ℕ) : Type 0 where
+  pub text : List ℕ
+  pub script : TheScript
+  pub given : IsGiven source text script
+  pub printed_is : printed ≡ script_text (heading_of script) script.lines
+
+-- What the mode prints: the script, or the text of the record.
+abbrev pub Prints : Mode → Stream → Option Record → List ℕ → Type 0
+Prints Check source kept text = (kept ≡ None) × IsPrinted source text
+Prints (Replay histories) source kept text =
+    IsSomeAnd kept (λ record_of. IsReplayOf source record_of × (text ≡ record_text histories record_of))
+
+-- what each cause says of the source, the sink and the record that was kept
+abbrev pub Explains : Mode → Stream → Stream → Option Record → Cause → Type 0
+Explains mode source sink kept Finished =
+    (text : List ℕ) × Prints mode source kept text × Appends sink.bytes_before sink.bytes_after text
+Explains mode source sink kept (Usage place) = ⊥
+Explains mode source sink kept ReadFault = (kept ≡ None) × Counted source × IsWithin source × IsUntouched sink
+Explains mode source sink kept (TooLarge bytes lines) =
+    (kept ≡ None) × (HasTooManyBytes source bytes lines ⊎ HasTooManyLines source bytes lines) × IsUntouched sink
+Explains mode source sink kept (Script fault) = (kept ≡ None) × Refuses mode source fault × IsUntouched sink
+Explains mode source sink kept WriteFault =
+    (text : List ℕ) × Prints mode source kept text × AppendsPart sink.bytes_before sink.bytes_after text × Counted sink
+Explains mode source sink kept Memory = Keeps mode source kept × IsWithin source × IsUntouched sink
+
+-- The same by the words. Where they aren't understood nothing happens.
+abbrev pub Answers : Result Mode ℕ → Stream → Stream → Option Record → Cause → Type 0
+Answers (Ok mode) source sink kept cause = Explains mode source sink kept cause
+Answers (Err place) source sink kept cause = (cause ≡ Usage place) × (kept ≡ None) × IsUntouched source × IsUntouched sink
 
 -- The cause explains it whatever sink stood by untouched, with no record kept.
-abbrev pub Stops : Stream → Cause → Type 0
-Stops source cause = (sink : Stream) → IsUntouched sink → Explains source sink None cause
+abbrev pub Stops : Mode → Stream → Cause → Type 0
+Stops mode source cause = (sink : Stream) → IsUntouched sink → Explains mode source sink None cause
 
--- The words aren't the cause.
-abbrev pub IsNoUsage : Cause → Type 0
-IsNoUsage cause = (place : ℕ) → cause ≡ Usage place → ⊥
+-- A text was written to the sink, or a part of it where the sink's count rose.
+abbrev pub IsWritten : Stream → List ℕ → Cause → Type 0
+IsWritten sink text Finished = Appends sink.bytes_before sink.bytes_after text
+IsWritten sink text WriteFault = AppendsPart sink.bytes_before sink.bytes_after text × Counted sink
+IsWritten sink text _ = ⊥
 
 -- The cause's line was written, or a part of it where the sink's count rose.
 abbrev pub IsTold : Stream → Cause → Type 0
@@ -129,6 +165,5 @@ pub record IsAnswered (words : List (List ℕ)) (source sink errors : Stream) (s
   pub cause : Cause
   pub kept : Option Record
   pub status_is : status ≡ status_of cause
-  pub usage : (place : ℕ) → (cause ≡ Usage place) ↔ (misfit words ≡ Some place)
-  pub explained : Explains source sink kept cause
+  pub explained : Answers (mode_of words) source sink kept cause
   pub told : IsTold errors cause

@@ -1,91 +1,71 @@
-ghost use Rattle.std.specs.Prelude.{◌≡◌, ◌↔◌, ℕ, map, string_bytes, Some, None, MatchResult, IfErr, IfOk};
-ghost use Rattle.gr_script.specs.Scripts.{heading_of};
+ghost use Rattle.std.specs.Prelude.{◌≡◌, map, string_bytes, Some, None, MatchResult, IfErr};
 ghost use Rattle.gr_top.specs.Causes.{status_of};
-ghost use Rattle.gr_top.specs.Outcomes.{Explains, IsBuilt, IsNoUsage, IsReplayOf, IsScriptOf, Stops, Stream, stream};
-ghost use Rattle.gr_top.specs.Words.{misfit};
-ghost use Rattle.gr_world.specs.Built.{is_built};
+ghost use Rattle.gr_top.specs.Outcomes.{Answers, Explains, IsPrinted, IsReplayOf, IsWritten, Prints, Stops, Stream, stream};
+ghost use Rattle.gr_top.specs.Words.{mode_of};
+ghost use Rattle.gr_top.specs.declared.words.Mode.TheVariants as mode;
 
-use crate::words::misfit;
+use crate::giving::{Given, built_from, script_from};
+use crate::words::{Mode, mode_of};
 use crate::{Cause, Outcome};
 use gr_history::Record;
-use gr_io::{ReadEnd, Sink, Source, read_all, write_all};
+use gr_io::{Sink, Source, write_all};
 use gr_report::report;
-use gr_script::{Form, Reason, Script, ScriptEnd, ScriptFault, read};
-use gr_world::{replay, unbuilt};
+use gr_script::print;
+use gr_value::Memory;
+use gr_world::replay;
 use std::alloc::Global;
 
-/// The most bytes of a script.
-const MOST_BYTES: u64 = 8_388_608;
-
-fn script_from<S: Source>(alloc: Global, source: &mut S) -> Result<Script, Cause>
-    ensures explained { MatchResult result (IsScriptOf (stream (S.left source.old) (S.left source.new) (S.faults source.old) (S.faults source.new)))
-        (Stops (stream (S.left source.old) (S.left source.new) (S.faults source.old) (S.faults source.new))) }
-    ensures understood { IfErr result IsNoUsage }
+fn hand_out<K: Sink>(sink: &mut K, text: &[u8]) -> Cause
+    ensures { IsWritten (stream (K.held sink.old) (K.held sink.new) (K.faults sink.old) (K.faults sink.new)) text.now result }
 {
-    let bytes = match read_all(alloc, source, MOST_BYTES) {
-        Ok(bytes) => bytes,
-        Err(ReadEnd::Fault) => return Err(Cause::ReadFault),
-        Err(ReadEnd::TooLarge(bytes)) => {
-            return Err(Cause::TooLarge {
-                bytes: bytes.len() as u64,
-                lines: 0,
-            });
-        }
-        Err(ReadEnd::Memory) => return Err(Cause::Memory),
+    match write_all(sink, text) {
+        Ok(()) => Cause::Finished,
+        Err(_) => Cause::WriteFault,
+    }
+}
+
+// Prints the script that the source has.
+fn check<S: Source, K: Sink>(alloc: Global, source: &mut S, sink: &mut K) -> Cause
+    ensures { Explains mode.Check
+        (stream (S.left source.old) (S.left source.new) (S.faults source.old) (S.faults source.new))
+        (stream (K.held sink.old) (K.held sink.new) (K.faults sink.old) (K.faults sink.new)) None result }
+{
+    let given = match script_from(alloc, source) {
+        Ok(given) => given,
+        Err(cause) => return cause,
     };
-    match read(alloc, bytes.as_slice(), Form::Replay) {
-        Ok(script) => Ok(script),
-        Err(ScriptEnd::Fault(fault)) => Err(Cause::Script(fault)),
-        Err(ScriptEnd::Memory) => Err(Cause::Memory),
+    match print(alloc, &given.script) {
+        Ok(text) => hand_out(sink, text.as_slice()),
+        Err(Memory) => Cause::Memory,
     }
 }
 
-fn is_built(script: &Script) -> bool
-    ensures { result ≡ is_built script.now.lines }
-{
-    unbuilt(script).is_none()
-}
-
-// A script that can be replayed.
-fn built_from<S: Source>(alloc: Global, source: &mut S) -> Result<Script, Cause>
-    ensures explained { MatchResult result (IsScriptOf (stream (S.left source.old) (S.left source.new) (S.faults source.old) (S.faults source.new)))
-        (Stops (stream (S.left source.old) (S.left source.new) (S.faults source.old) (S.faults source.new))) }
-    ensures built { IfOk result IsBuilt }
-    ensures understood { IfErr result IsNoUsage }
-{
-    let script = script_from(alloc, source)?;
-    if !is_built(&script) {
-        return Err(Cause::Script(ScriptFault {
-            line: 0,
-            reason: Reason::NotBuilt,
-        }));
-    }
-    Ok(script)
-}
-
+// The record of the script that the source has.
 fn record_from<S: Source>(alloc: Global, source: &mut S) -> Result<Record, Cause>
-    ensures explained { MatchResult result (IsReplayOf (stream (S.left source.old) (S.left source.new) (S.faults source.old) (S.faults source.new)))
-        (Stops (stream (S.left source.old) (S.left source.new) (S.faults source.old) (S.faults source.new))) }
-    ensures understood { IfErr result IsNoUsage }
+    ensures { (histories : Bool)
+        → MatchResult result (IsReplayOf (stream (S.left source.old) (S.left source.new) (S.faults source.old) (S.faults source.new)))
+        (Stops (mode.Replay histories) (stream (S.left source.old) (S.left source.new) (S.faults source.old) (S.faults source.new))) }
 {
-    let script = built_from(alloc, source)?;
-    match replay(alloc, &script) {
+    let given = built_from(alloc, source)?;
+    match replay(alloc, &given.script) {
         Ok(record_of) => Ok(record_of),
-        Err(_) => Err(Cause::Memory),
+        Err(Memory) => Err(Cause::Memory),
     }
 }
 
-fn print<K: Sink>(alloc: Global, sink: &mut K, record_of: &Record) -> Cause
-    ensures explained { (source : Stream) → IsReplayOf source record_of.now
-        → Explains source (stream (K.held sink.old) (K.held sink.new) (K.faults sink.old) (K.faults sink.new)) (Some record_of.now) result }
-    ensures understood { IsNoUsage result }
+fn hand_out_report<K: Sink>(
+    alloc: Global,
+    histories: bool,
+    record_of: &Record,
+    sink: &mut K,
+) -> Cause
+    ensures { (source : Stream) → IsReplayOf source record_of.now
+        → Explains (mode.Replay histories) source
+        (stream (K.held sink.old) (K.held sink.new) (K.faults sink.old) (K.faults sink.new)) (Some record_of.now) result }
 {
-    match report(alloc, record_of) {
-        Err(_) => Cause::Memory,
-        Ok(text) => match write_all(sink, text.as_slice()) {
-            Ok(()) => Cause::Finished,
-            Err(_) => Cause::WriteFault,
-        },
+    match report(alloc, record_of, histories) {
+        Ok(text) => hand_out(sink, text.as_slice()),
+        Err(Memory) => Cause::Memory,
     }
 }
 
@@ -99,6 +79,27 @@ fn ended(cause: Cause, kept: Option<Record>) -> Outcome
     }
 }
 
+// Replays the script that the source has, and prints the report.
+fn report_of<S: Source, K: Sink>(
+    alloc: Global,
+    histories: bool,
+    source: &mut S,
+    sink: &mut K,
+) -> Outcome
+    ensures status { result.status ≡ status_of result.cause }
+    ensures explained { Explains (mode.Replay histories)
+        (stream (S.left source.old) (S.left source.new) (S.faults source.old) (S.faults source.new))
+        (stream (K.held sink.old) (K.held sink.new) (K.faults sink.old) (K.faults sink.new)) result.kept result.cause }
+{
+    match record_from(alloc, source) {
+        Err(cause) => ended(cause, None),
+        Ok(record_of) => {
+            let cause = hand_out_report(alloc, histories, &record_of, sink);
+            ended(cause, Some(record_of))
+        }
+    }
+}
+
 /// Answers the words with the script that the source has, and writes to the sink.
 pub fn replay_words<S: Source, K: Sink>(
     alloc: Global,
@@ -108,23 +109,16 @@ pub fn replay_words<S: Source, K: Sink>(
 ) -> Outcome
     ensures status { result.status ≡ status_of result.cause }
 
-    // A word isn't understood exactly where the words aren't those of a mode.
-    ensures usage { (place : ℕ) → (result.cause ≡ Cause.Usage place) ↔ (misfit (map (λ word. string_bytes word) words.now) ≡ Some place) }
-
-    // What the cause says of the source, the sink and the record.
-    ensures explained { Explains
+    // What the cause says of the words, the source, the sink and the record. A word isn't understood
+    // exactly where the words aren't those of a mode.
+    ensures explained { Answers (mode_of (map (λ word. string_bytes word) words.now))
         (stream (S.left source.old) (S.left source.new) (S.faults source.old) (S.faults source.new))
         (stream (K.held sink.old) (K.held sink.new) (K.faults sink.old) (K.faults sink.new))
         result.kept result.cause }
 {
-    if let Some(place) = misfit(words) {
-        return ended(Cause::Usage(place), None);
-    }
-    match record_from(alloc, source) {
-        Err(cause) => ended(cause, None),
-        Ok(record_of) => {
-            let cause = print(alloc, sink, &record_of);
-            ended(cause, Some(record_of))
-        }
+    match mode_of(words) {
+        Err(place) => ended(Cause::Usage(place), None),
+        Ok(Mode::Check) => ended(check(alloc, source, sink), None),
+        Ok(Mode::Replay { histories }) => report_of(alloc, histories, source, sink),
     }
 }

@@ -6,6 +6,7 @@ mod arguments;
 mod cause;
 mod cause_texts;
 mod concluding;
+mod giving;
 #[cfg(test)]
 mod tests;
 mod words;
