@@ -1,5 +1,5 @@
 -- What the fields of a line that was read hold.
-use Rattle.std.proofs.Common.{◌≡◌, ℕ, ◌≤◌, List, [], ◌∷◌, true, ltb, not, Option, Some, None, Result, Ok, Err, refl, sym, ap, ◌∙◌, subst, arith}
+use Rattle.std.proofs.Common.{◌≡◌, ℕ, ◌≤◌, List, [], ◌∷◌, true, ltb, not, Ok, sym, ap, ◌∙◌, subst}
 use Rattle.std.proofs.lemmas.Bool.{ltb-false, not-false}
 use Rattle.gr_value.specs.declared.value.Field.{Field}
 use Rattle.gr_oql.specs.Question.{Question}
@@ -130,6 +130,7 @@ items_held setting (kind ∷ kinds) text read e =
     let b = bind_ok (item_at setting kind (piece kind text)) _ read e in
     let r = bind_ok (items_at setting kinds (left kind text)) _ read b.2 in
     let one = item_held setting kind (piece kind text) b.0 b.1 in
-    let more = items_held setting kinds (left kind text) r.0 r.1 in
-    ((one.0, more.0),
-    ap (λ (i : Item). i ∷ items_of setting kinds more.0) one.1 ∙ ap (λ (is : List Item). b.0 ∷ is) more.1 ∙ done_is (b.0 ∷ r.0) read r.2)
+    let more = items_held setting kinds (left kind text) r.0 r.1 in (
+      (one.0, more.0),
+      ap (λ (i : Item). i ∷ items_of setting kinds more.0) one.1 ∙ ap (λ (is : List Item). b.0 ∷ is) more.1 ∙ done_is (b.0 ∷ r.0) read r.2,
+    )

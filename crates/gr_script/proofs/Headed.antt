@@ -1,6 +1,6 @@
 -- The heading that is said keeps its rules.
-use Rattle.std.proofs.Common.{◌≡◌, ℕ, ◌+◌, ◌≤◌, ◌<◌, List, [], ◌∷◌, ◌++◌, length, true, false, ltb, not, eqb, Option, Some, None, refl, sym, ap, ◌∙◌, subst, arith, inl, inr}
-use Rattle.std.specs.Option.{unwrap_or, IsSome}
+use Rattle.std.proofs.Common.{◌≡◌, ℕ, ◌+◌, ◌≤◌, ◌<◌, List, [], ◌∷◌, ◌++◌, length, true, eqb, Option, None, refl, sym, ◌∙◌, subst, arith, inl, inr}
+use Rattle.std.specs.Option.{IsSome}
 use Rattle.std.proofs.lemmas.Bool.{cases_lt, not-false, ltb-false, eqb-true}
 use Rattle.std.proofs.lemmas.List.{length-append}
 use Rattle.gr_script.specs.declared.forms.LineKind.{LineKind}
@@ -13,7 +13,7 @@ use Rattle.gr_script.specs.Refusals.{tests, refusal}
 use Rattle.gr_script.specs.Rules.{Heading, IsHeading, IsWithin, AreWithin, is_region}
 use Rattle.gr_script.specs.Said.{heading_said}
 use Rattle.gr_script.proofs.Contents.{Contents, items_of}
-use Rattle.gr_script.proofs.Follows.{Follows, AllFollow}
+use Rattle.gr_script.proofs.Follows.{AllFollow}
 use Rattle.gr_script.proofs.Standing.{passed, rank_next}
 
 -- what holds of a heading once the lines of a stage are read

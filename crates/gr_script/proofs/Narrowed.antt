@@ -1,6 +1,5 @@
 -- The numbers of lines that were read have room where a script keeps them.
-use Rattle.std.proofs.Common.{◌≡◌, ℕ, ◌+◌, ◌≤◌, ◌<◌, ◌^◌, List, [], ◌∷◌, length, Bool, true, false, cond, eqb, ltb, ◌&&◌, None, refl, sym, ap, ◌∙◌, subst, arith, inl, inr}
-use Rattle.std.proofs.lemmas.Bool.{cases_lt}
+use Rattle.std.proofs.Common.{◌≡◌, ℕ, ◌≤◌, ◌<◌, ◌^◌, List, [], ◌∷◌, length, true, eqb, ◌&&◌, None, sym, subst, arith}
 use Rattle.std.proofs.lemmas.List.Sums.{count_by-le-length}
 use Rattle.gr_script.specs.declared.forms.LineKind.{LineKind}
 use Rattle.gr_script.specs.declared.forms.LineKind.TheVariants as kind
@@ -9,11 +8,11 @@ use Rattle.gr_script.specs.declared.saying.Saying.{Saying}
 use Rattle.gr_script.specs.Forms.{fields, rank, is_step, is_kind}
 use Rattle.gr_script.specs.Index.{most_lines}
 use Rattle.gr_script.specs.Narrow.{IsNarrowStep, IsNarrow, AreNarrow}
-use Rattle.gr_script.specs.Past.{number, setting, members, steps, reports, stage}
+use Rattle.gr_script.specs.Past.{number, setting, members, steps, reports}
 use Rattle.gr_script.specs.Refusals.{tests, refusal}
 use Rattle.gr_script.specs.Rules.{IsWithin}
 use Rattle.gr_script.proofs.Contents.{Contents, items_of}
-use Rattle.gr_script.proofs.Follows.{Follows, AllFollow}
+use Rattle.gr_script.proofs.Follows.{AllFollow}
 use Rattle.gr_script.proofs.Headed.{headed, whole}
 use Rattle.gr_script.proofs.Standing.{passed, not_missing}
 
@@ -80,9 +79,10 @@ narrowed (saying ∷ past) all le =
     let fewer : length past ≤ most_lines = omega (arith, le) in
     let held = headed past all.1 in
     let most = λ (late : 4 ≤ rank saying.kind).
-    (held.members (let at = whole past saying.kind late (f.order, f.due) in omega (arith, at))).1 in
-    (λ is. subst IsNarrowStep f.items_are (narrow_step past saying.kind f.held is),
-    subst (IsNarrow saying.kind) f.items_are
-    (narrow past saying.kind f.held (subst (λ (is : List Item). refusal (tests past saying.kind is) ≡ None) (sym f.items_are) f.passes)
-    most fewer),
-    narrowed past all.1 fewer)
+    (held.members (let at = whole past saying.kind late (f.order, f.due) in omega (arith, at))).1 in (
+      λ is. subst IsNarrowStep f.items_are (narrow_step past saying.kind f.held is),
+      subst (IsNarrow saying.kind) f.items_are
+          (narrow past saying.kind f.held (subst (λ (is : List Item). refusal (tests past saying.kind is) ≡ None) (sym f.items_are) f.passes)
+          most fewer),
+      narrowed past all.1 fewer,
+    )

@@ -9,7 +9,6 @@ mod halt;
 mod items;
 mod layout;
 mod line;
-
 mod note;
 mod numbering;
 mod numeral;
@@ -36,3 +35,5 @@ pub use reading::read;
 pub use reason::Reason;
 pub use script::{MemberNumberList, Script};
 
+#[cfg(test)]
+mod tests;

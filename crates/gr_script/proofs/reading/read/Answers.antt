@@ -1,6 +1,5 @@
-use Rattle.std.proofs.Common.{arith, reverse, sym, subst, List}
+use Rattle.std.proofs.Common.{arith, sym, subst}
 use Rattle.std.proofs.lemmas.List.{reverse-reverse}
-use Rattle.gr_script.specs.declared.line.Line.{Line}
 use Rattle.gr_script.specs.Rules.{AllStand}
 use Rattle.gr_script.specs.Said.{heading_said, lines_said}
 use Rattle.gr_script.proofs.Follows.{all_follow, few_sayings}
