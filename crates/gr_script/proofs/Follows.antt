@@ -1,5 +1,6 @@
 -- What every line that was read is behind the earlier ones.
-use Rattle.std.proofs.Common.{◌≡◌, ℕ, zero, suc, ◌+◌, ◌≤◌, ◌<◌, List, [], ◌∷◌, length, Bool, true, false, cond, ltb, not, ◌&&◌, Option, Some, None, Result, Ok, Err, refl, sym, ap, ◌∙◌, subst, arith, bytes_eq}
+use Rattle.std.proofs.Common.{◌≡◌, ℕ, zero, suc, ◌+◌, ◌≤◌, ◌<◌, List, [], ◌∷◌, length, Bool, true, false, cond, ltb, not, ◌&&◌, Option}
+use Rattle.std.proofs.Common.{Some, None, Result, Ok, Err, refl, sym, ap, ◌∙◌, subst, arith, bytes_eq}
 use Rattle.std.specs.List.{list_all}
 use Rattle.std.specs.Char.{is_ascii_digit}
 use Rattle.std.proofs.lemmas.Bool.{and_parts, ltb-false, not-false}
@@ -154,7 +155,8 @@ end_ok false end (Err fault) all e = absurd cc
 -- Each line that was read suits the earlier ones, and the heading is whole.
 pub all_follow : (runs : Bool) (text : List ℕ) (all : List Saying) → sayings_of runs text ≡ Ok all → AllFollow all × (4 ≤ stage all)
 all_follow runs text all e =
-    from_follows runs 1 [] (lines_of text) all (end_ok (ltb most_lines (line_count text)) _ (sayings_from runs 1 [] (lines_of text)) all e).1 tt
+    from_follows runs 1 [] (lines_of text) all
+    (end_ok (ltb most_lines (line_count text)) _ (sayings_from runs 1 [] (lines_of text)) all e).1 tt
 
 -- ---- how many there are
 

@@ -1,5 +1,6 @@
 -- The heading that is said keeps its rules.
-use Rattle.std.proofs.Common.{◌≡◌, ℕ, ◌+◌, ◌≤◌, ◌<◌, List, [], ◌∷◌, ◌++◌, length, true, eqb, Option, None, refl, sym, ◌∙◌, subst, arith, inl, inr}
+use Rattle.std.proofs.Common.{◌≡◌, ℕ, ◌+◌, ◌≤◌, ◌<◌, List, [], ◌∷◌, ◌++◌, length, true, eqb, Option, None, refl, sym, ◌∙◌, subst, arith}
+use Rattle.std.proofs.Common.{inl, inr}
 use Rattle.std.specs.Option.{IsSome}
 use Rattle.std.proofs.lemmas.Bool.{cases_lt, not-false, ltb-false, eqb-true}
 use Rattle.std.proofs.lemmas.List.{length-append}
@@ -202,7 +203,8 @@ headed_more past kind.Client c due none alone held =
       few_clients = omega (arith, next, most, more);
       at_members = within_more (members past) (homes past) c.1.1.1.0.0 held.at_members c.1.1.1.0.1;
     }
-headed_more past form c due none alone held = later (stage past) 8 (region past) (heading_said past) (whole past form (omega arith) due) held
+headed_more past form c due none alone held =
+    later (stage past) 8 (region past) (heading_said past) (whole past form (omega arith) due) held
 
 pub headed : (past : List Saying) → AllFollow past → Headed past
 headed [] all = record {

@@ -57,12 +57,14 @@ narrow : (past : List Saying) (form : LineKind) (c : Held past form) → refusal
     → (4 ≤ rank form → members past ≤ 8) → length past ≤ most_lines → IsNarrow form (held_items past form c)
 narrow past kind.Deliver c none most le =
     let client = c.1.1.0.1.0.1 in
-    let seq = (not_missing c.1.1.0.0.1 (steps c.1.1.0.0.0 past) (passed (tests past kind.Deliver (held_items past kind.Deliver c)) none).0).1 in
+    let pass = passed (tests past kind.Deliver (held_items past kind.Deliver c)) none in
+    let seq = (not_missing c.1.1.0.0.1 (steps c.1.1.0.0.0 past) pass.0).1 in
     let count = few c.1.1.0.0.0 past le in
     (small past c.1.0.0 (most (omega arith)) c.1.0.1, omega (arith, client), omega (arith, seq, count))
 narrow past kind.Report c none most le = small past c.1.0.0 (most (omega arith)) c.1.0.1
 narrow past kind.Hear c none most le =
-    let seq = (not_missing c.1.1.1.0 (reports c.1.1.0.0 past) (passed (tests past kind.Hear (held_items past kind.Hear c)) none).0).1 in
+    let pass = passed (tests past kind.Hear (held_items past kind.Hear c)) none in
+    let seq = (not_missing c.1.1.1.0 (reports c.1.1.0.0 past) pass.0).1 in
     let count = few_reports c.1.1.0.0 past le in
     (small past c.1.0.0 (most (omega arith)) c.1.0.1, small past c.1.1.0.0 (most (omega arith)) c.1.1.0.1, omega (arith, seq, count))
 narrow past kind.Sweep c none most le =
@@ -82,7 +84,8 @@ narrowed (saying ∷ past) all le =
     (held.members (let at = whole past saying.kind late (f.order, f.due) in omega (arith, at))).1 in (
       λ is. subst IsNarrowStep f.items_are (narrow_step past saying.kind f.held is),
       subst (IsNarrow saying.kind) f.items_are
-          (narrow past saying.kind f.held (subst (λ (is : List Item). refusal (tests past saying.kind is) ≡ None) (sym f.items_are) f.passes)
+          (narrow past saying.kind f.held
+          (subst (λ (is : List Item). refusal (tests past saying.kind is) ≡ None) (sym f.items_are) f.passes)
           most fewer),
       narrowed past all.1 fewer,
     )

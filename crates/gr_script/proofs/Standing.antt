@@ -1,5 +1,6 @@
 -- Each line that is said stands where it may.
-use Rattle.std.proofs.Common.{◌≡◌, ℕ, ◌+◌, ◌≤◌, ◌<◌, List, [], ◌∷◌, Bool, true, false, eqb, ltb, leb, not, ◌||◌, Option, Some, None, refl, sym, ap, ◌∙◌, subst, arith, bytes_eq, inl, inr}
+use Rattle.std.proofs.Common.{◌≡◌, ℕ, ◌+◌, ◌≤◌, ◌<◌, List, [], ◌∷◌, Bool, true, false, eqb, ltb, leb, not, ◌||◌, Option, Some, None, refl}
+use Rattle.std.proofs.Common.{sym, ap, ◌∙◌, subst, arith, bytes_eq, inl, inr}
 use Rattle.std.specs.List.{cons_option}
 use Rattle.std.specs.Option.{option_map_or, unwrap_or}
 use Rattle.std.proofs.lemmas.Bool.{cases_lt, or_parts, leb-false, ltb-false, eqb-false, not_from_false}

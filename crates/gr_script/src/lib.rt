@@ -27,6 +27,7 @@ mod tally;
 mod telling;
 mod text;
 
+pub use cuts::line_count;
 pub use ending::{ScriptEnd, ScriptFault};
 pub use form::Form;
 pub use line::{Act, Line, LineList, Step, StepList};

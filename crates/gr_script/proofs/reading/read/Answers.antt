@@ -20,7 +20,8 @@ script_of-requires-clause-ruled c =
 pub script_of-requires-clause-narrow : goal.script_of-requires-clause-narrow
 script_of-requires-clause-narrow c =
     let past = c.in_ok-past.past in
-    narrowed past (all_follow c.is_run.result c.args.bytes.now past c.in_ok-past.ensures).0 (few_sayings c.is_run.result c.args.bytes.now past c.in_ok-past.ensures)
+    narrowed past (all_follow c.is_run.result c.args.bytes.now past c.in_ok-past.ensures).0
+    (few_sayings c.is_run.result c.args.bytes.now past c.in_ok-past.ensures)
 
 pub script_of-requires-clause-named : goal.script_of-requires-clause-named
 script_of-requires-clause-named c =
