@@ -9,7 +9,6 @@ mod halt;
 mod items;
 mod layout;
 mod line;
-
 mod note;
 mod numbering;
 mod numeral;
@@ -28,6 +27,7 @@ mod tally;
 mod telling;
 mod text;
 
+pub use cuts::line_count;
 pub use ending::{ScriptEnd, ScriptFault};
 pub use form::Form;
 pub use line::{Act, Line, LineList, Step, StepList};
@@ -36,3 +36,5 @@ pub use reading::read;
 pub use reason::Reason;
 pub use script::{MemberNumberList, Script};
 
+#[cfg(test)]
+mod tests;
