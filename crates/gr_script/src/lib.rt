@@ -17,6 +17,7 @@ mod note;
 mod numeral;
 mod past;
 mod piece;
+mod print;
 mod reading;
 mod reason;
 mod refusal;

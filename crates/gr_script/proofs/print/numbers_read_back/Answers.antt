@@ -1,0 +1,6 @@
+use Rattle.gr_script.proofs.PrintedNumbers.{number_back}
+use Rattle.gr_script.proofs.PrintedValues.{value_piece}
+use Rattle.gr_script.proofs.print.numbers_read_back.Goals as goal
+
+pub returns : goal.returns
+returns c = record { number = number_back; value = value_piece }
