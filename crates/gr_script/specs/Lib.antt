@@ -7,6 +7,7 @@ pub mod Items
 pub mod Numerals
 pub mod Past
 pub mod Pieces
+pub mod Printing
 pub mod Reading
 pub mod ReasonNames
 pub mod Reasons
@@ -16,6 +17,7 @@ pub mod Sayings
 pub mod Scripts
 pub mod Steps
 pub mod Stops
+pub mod Suiting
 pub mod Tallies
 pub mod Texts
 pub mod Words
