@@ -1,11 +1,11 @@
 -- Texts that can stand on a line as they are: what is said there is the whole text.
-use Rattle.std.proofs.Common.{◌≡◌, ℕ, ◌+◌, ◌-◌, ◌<◌, ◌≤◌, zero, suc, List, [], ◌∷◌, ◌++◌, length, take, drop, Bool, true, false, not, cond, eqb}
+use Rattle.std.proofs.Common.{◌≡◌, ℕ, ◌+◌, ◌-◌, ◌<◌, ◌≤◌, zero, suc, List, [], ◌∷◌, ◌++◌, length, take, drop, Bool, true, false, not, cond, eqb, inl, inr}
 use Rattle.std.proofs.Common.{◌||◌, get_or, refl, sym, ap, ◌∙◌, subst, arith, length-append}
 use Rattle.std.specs.List.{list_all, list_any, prefix_len, suffix_len, flat_map}
 use Rattle.std.specs.Option.{option_map_or}
 use Rattle.std.specs.Prelude.{slice_get}
 use Rattle.std.specs.Str.{IsUtf8, IsAscii}
-use Rattle.std.proofs.lemmas.Bool.{and_parts, or_from, leb-true}
+use Rattle.std.proofs.lemmas.Bool.{cases_Bool, both_ways, eqb-true, and_parts, or_from, leb-true}
 use Rattle.std.proofs.lemmas.List.Folds.{list_any-append}
 use Rattle.std.proofs.lemmas.List.Sums.{suffix_len_is}
 use Rattle.std.proofs.lemmas.List.{append-nil}
@@ -68,10 +68,19 @@ said_whole text is =
 
 -- ---- what such texts are put together from
 
-no_end : (mark : ℕ) (text : List ℕ) → is_key_byte mark ≡ false → list_all is_key_byte text ≡ true → ends_with mark text ≡ false
-no_end mark [] isnt all = refl
-no_end mark (first ∷ []) isnt all = not_mark mark first isnt (and_parts _ _ all).0
-no_end mark (first ∷ next ∷ rest) isnt all = ends_skip mark first next rest ∙ no_end mark (next ∷ rest) isnt (and_parts _ _ all).1
+pub other_byte : (test : ℕ → Bool) (mark byte : ℕ) → test mark ≡ false → test byte ≡ true → eqb byte mark ≡ false
+other_byte test mark byte isnt is =
+    elim (cases_Bool (eqb byte mark)) [
+      | inl same ↦ absurd (both_ways (test mark) isnt (ap test (sym (eqb-true byte mark same)) ∙ is))
+      | inr differs ↦ differs
+    ]
+
+-- where all bytes pass a test that the mark fails, the mark isn't the last one
+pub no_end : (test : ℕ → Bool) (mark : ℕ) (text : List ℕ) → test mark ≡ false → list_all test text ≡ true → ends_with mark text ≡ false
+no_end test mark [] isnt all = refl
+no_end test mark (first ∷ []) isnt all = other_byte test mark first isnt (and_parts (test first) true all).0
+no_end test mark (first ∷ next ∷ rest) isnt all =
+    ends_skip mark first next rest ∙ no_end test mark (next ∷ rest) isnt (and_parts (test first) (list_all test (next ∷ rest)) all).1
 
 no_space_first : (text : List ℕ) → list_all is_key_byte text ≡ true → begins_spaced text ≡ false
 no_space_first [] all = refl
@@ -94,13 +103,13 @@ pub plain_stands : (text : List ℕ) → 0 < length text → list_all is_key_byt
 plain_stands text some all = record {
   some = some;
   front = no_space_first text all;
-  back = no_end 0x20 text refl all;
-  no_return = no_end 0x0D text refl all;
+  back = no_end is_key_byte 0x20 text refl all;
+  no_return = no_end is_key_byte 0x0D text refl all;
   line = no_mark 0x0A text refl all;
   readable = IsUtf8-from_ascii text (key_bytes_ascii text all);
 }
 
-front_kept : (text rest : List ℕ) → 0 < length text → begins_spaced (text ++ rest) ≡ begins_spaced text
+pub front_kept : (text rest : List ℕ) → 0 < length text → begins_spaced (text ++ rest) ≡ begins_spaced text
 front_kept [] rest some = absurd (omega (arith, some))
 front_kept (first ∷ text) rest some = refl
 

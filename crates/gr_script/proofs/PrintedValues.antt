@@ -100,7 +100,7 @@ rest_leads (field ∷ fields) all =
     join Outside Outside Outside (codes "," ++ field_text field) _ (Outside, refl, field_leads field all.0) (rest_leads fields all.1)
 
 -- what stands between the braces
-abbrev inner : List Field → List ℕ
+abbrev pub inner : List Field → List ℕ
 inner [] = []
 inner (field ∷ fields) = field_text field ++ flat_map (λ next. codes "," ++ field_text next) fields
 
@@ -108,7 +108,7 @@ inner_leads : (fields : List Field) → AllByRecursion IsField fields → Leads 
 inner_leads [] all = refl
 inner_leads (field ∷ fields) all = join Outside Outside Outside (field_text field) _ (field_leads field all.0) (rest_leads fields all.1)
 
-braced : (fields : List Field) → value_text fields ≡ 123 ∷ (inner fields ++ 125 ∷ [])
+pub braced : (fields : List Field) → value_text fields ≡ 123 ∷ (inner fields ++ 125 ∷ [])
 unfolding value_text
 braced [] = refl
 braced (field ∷ fields) = refl

@@ -8,6 +8,7 @@ pub mod Numerals
 pub mod Past
 pub mod Pieces
 pub mod Printing
+pub mod ReadBack
 pub mod Reading
 pub mod ReasonNames
 pub mod Reasons

@@ -1,13 +1,12 @@
-ghost use Rattle.std.specs.Prelude.{◌≡◌, ◌<◌, ◌^◌, ◌++◌, ℕ, List, Some, length};
-ghost use Rattle.std.specs.Fmt.{decimal};
-ghost use Rattle.gr_value.specs.declared.value.Field.{Field as AField};
-ghost use Rattle.gr_value.specs.ValueText.{value_text};
-ghost use Rattle.gr_value.specs.Values.{IsValue};
-ghost use Rattle.gr_script.specs.Numerals.{number_of};
-ghost use Rattle.gr_script.specs.Pieces.{piece_len};
+ghost use Rattle.gr_script.specs.declared.items.Setting.{Setting as ASetting};
+ghost use Rattle.gr_script.specs.declared.saying.Saying.{Saying as ASaying};
+ghost use Rattle.gr_script.specs.Forms.{fields};
+ghost use Rattle.gr_script.specs.Printing.{saying_text};
+ghost use Rattle.gr_script.specs.ReadBack.{IsReadBack};
+ghost use Rattle.gr_script.specs.Suiting.{AllSuit};
 
-/// A number is read from its digits.
-pub fn numbers_read_back()
-    ensures number { (n : ℕ) → n < 10 ^ 20 → number_of (decimal n) ≡ Some n }
-    ensures value { (fields : List AField) (rest : List ℕ) → IsValue fields → piece_len (value_text fields ++ rest) ≡ length (value_text fields) }
+// A line is read as what it was spelled to say.
+fn lines_read_back()
+    ensures { (setting : ASetting) (saying : ASaying) → AllSuit setting (fields saying.kind) saying.items
+        → IsReadBack setting saying (saying_text saying) }
 {}
