@@ -4,6 +4,7 @@ pub mod Forms
 pub mod Halts
 pub mod Index
 pub mod Items
+pub mod Narrow
 pub mod Numerals
 pub mod Past
 pub mod Pieces
@@ -14,6 +15,7 @@ pub mod ReasonNames
 pub mod Reasons
 pub mod Refusals
 pub mod Rules
+pub mod Said
 pub mod Sayings
 pub mod Scripts
 pub mod Steps

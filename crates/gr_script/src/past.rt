@@ -1,7 +1,7 @@
 ghost use Rattle.std.specs.Prelude.{◌≡◌, ◌<◌, [], ◌∷◌, List, length, IfOk};
 ghost use Rattle.gr_script.specs.Index.{most_lines, counted};
 ghost use Rattle.gr_script.specs.declared.saying.Saying.{Saying};
-ghost use Rattle.gr_script.specs.Past.{stage, founders, clients, steps, reports, joins, homes as homes_of, home, setting};
+ghost use Rattle.gr_script.specs.Past.{stage, founders, clients, steps, reports, joins, homes as homes_of, home, setting, sizes};
 
 use crate::forms::{LineKind, is_kind, is_step};
 use crate::items::Setting;
@@ -13,6 +13,9 @@ use std::alloc::Global;
 use std::collections::BTreeMap;
 use std::marker::Model;
 
+/// How many mails an inbox has room for, where no line states it.
+const DEFAULT_INBOX: u128 = 16;
+
 /// How many lines of some kinds there are.
 #[derive(Clone, Copy)]
 pub(crate) struct Counted {
@@ -23,6 +26,15 @@ pub(crate) struct Counted {
     pub(crate) queries: u32,
 }
 
+/// Numbers of the heading that no line is compared with.
+#[derive(Clone, Copy)]
+pub(crate) struct Sizes {
+    pub(crate) shards: u128,
+    pub(crate) inbox: u128,
+    pub(crate) trouble: u128,
+    pub(crate) floor: u128,
+}
+
 /// What the earlier lines of a script say, which contracts see as these, the last one first. The
 /// rest is kept so that none of them is looked at again.
 #[derive(Drop)]
@@ -31,6 +43,7 @@ pub(crate) struct Past {
     stage: u8,
     setting: Setting,
     founders: u128,
+    sizes: Sizes,
     homes: ItemList<u128>,
     steps: BTreeMap<u128, u32>,
     reports: BTreeMap<u128, u32>,
@@ -51,7 +64,8 @@ impl Model for Past {
 
     ghost view = { λ past. reverse past.sayings };
 
-    ghost invariant = { λ past. IsIndex past.stage past.setting past.founders past.homes past.steps past.reports past.joins past.counted (reverse past.sayings) };
+    ghost invariant = { λ past. IsIndex past.stage past.setting past.founders past.sizes past.homes past.steps past.reports past.joins past.counted
+        (reverse past.sayings) };
 }
 
 impl Past {
@@ -71,11 +85,18 @@ impl Past {
             opens: 0,
             queries: 0,
         };
+        let sizes = Sizes {
+            shards: 0,
+            inbox: DEFAULT_INBOX,
+            trouble: 0,
+            floor: 0,
+        };
         Ok(Past {
             sayings: ItemList::new(alloc)?,
             stage: 0,
             setting,
             founders: 0,
+            sizes,
             homes: ItemList::new(alloc)?,
             steps: BTreeMap::new(alloc),
             reports: BTreeMap::new(alloc),
@@ -159,6 +180,7 @@ impl Past {
         let homes = homes_with(&line, self.homes)?;
         let setting = setting_with(alloc, &line, self.setting, &homes)?;
         let founders = stated_with(LineKind::Members, 1, &line, self.founders);
+        let sizes = sizes_with(&line, self.sizes);
         let steps = counts_with(self.steps, is_step(kind), first)?;
         let reports = counts_with(self.reports, is_kind(LineKind::Report, kind), first)?;
         let joins = counts_with(self.joins, is_kind(LineKind::Join, kind), first)?;
@@ -170,6 +192,7 @@ impl Past {
             stage: next_rank(kind),
             setting,
             founders,
+            sizes,
             homes,
             steps,
             reports,
@@ -206,5 +229,16 @@ fn counted_with(line: &Saying, counts: Counted) -> Counted
         sweeps: counted(is_kind(LineKind::Sweep, kind), counts.sweeps),
         opens: counted(is_kind(LineKind::Open, kind), counts.opens),
         queries: counted(is_query(kind), counts.queries),
+    }
+}
+
+fn sizes_with(line: &Saying, before: Sizes) -> Sizes
+    ensures { (past : List Saying) → before ≡ sizes past → result ≡ sizes (line.now ∷ past) }
+{
+    Sizes {
+        shards: stated_with(LineKind::Shards, 0, line, before.shards),
+        inbox: stated_with(LineKind::Inbox, 0, line, before.inbox),
+        trouble: stated_with(LineKind::Trouble, 0, line, before.trouble),
+        floor: stated_with(LineKind::Floor, 0, line, before.floor),
     }
 }
