@@ -38,7 +38,7 @@ region_key (slash ∷ word) is =
 
 -- ---- a key has none of the bytes that no key has
 
-pub not_mark : (mark byte : ℕ) → is_key_byte mark ≡ false → is_key_byte byte ≡ true → eqb byte mark ≡ false
+not_mark : (mark byte : ℕ) → is_key_byte mark ≡ false → is_key_byte byte ≡ true → eqb byte mark ≡ false
 not_mark mark byte isnt is =
     elim (cases_Bool (eqb byte mark)) [
       | inl same ↦ absurd (both_ways (is_key_byte mark) isnt (ap is_key_byte (sym (eqb-true byte mark same)) ∙ is))

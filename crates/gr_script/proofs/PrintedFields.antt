@@ -39,15 +39,15 @@ use Rattle.gr_script.specs.Items.{key_from, value_from, question_of, query_from,
 use Rattle.gr_script.specs.Pieces.{piece_len}
 use Rattle.gr_script.specs.Printing.{item_text, field_text}
 use Rattle.gr_script.specs.Rules.{IsWithin, is_region}
-use Rattle.gr_script.specs.Suiting.{IsShort, IsClient, IsOwnQuery, Suits, begins_spaced}
+use Rattle.gr_script.specs.Suiting.{IsShort, IsClient, IsOwnQuery, Suits}
+use Rattle.gr_script.specs.Rests.{begins_spaced}
 use Rattle.gr_oql.specs.Question.{Question}
 use Rattle.gr_script.specs.Texts.{IsLine}
-use Rattle.gr_script.proofs.Fields.{cut_again}
 use Rattle.gr_script.proofs.Questions.{query_spelled}
 use Rattle.gr_script.proofs.QueryEnds.{query_ends, query_some}
-use Rattle.gr_script.proofs.Keys.{not_mark, region_key_bytes}
+use Rattle.gr_script.proofs.Marks.{other_byte, unmarked, cut_at, region_bytes}
 use Rattle.gr_script.proofs.PrintedNumbers.{decimal_spells, number_back}
-use Rattle.gr_script.proofs.PrintedTexts.{Stands, plain_stands, other_byte, ends_append}
+use Rattle.gr_script.proofs.PrintedTexts.{Stands, plain_stands, ends_append}
 use Rattle.gr_script.proofs.PrintedValues.{value_piece, inner, braced}
 
 -- ---- the bytes of such texts
@@ -115,7 +115,7 @@ word_plain kind.Join = record { some = omega arith; each = refl }
 -- ---- where such a field ends
 
 key_byte_no_space : (byte : ℕ) → is_key_byte byte ≡ true → is_space byte ≡ false
-key_byte_no_space byte is = not_mark 0x20 byte refl is
+key_byte_no_space byte is = other_byte is_key_byte 0x20 byte refl is
 
 pub field_before_space : (text rest : List ℕ) → list_all is_key_byte text ≡ true → field_len (text ++ 0x20 ∷ rest) ≡ length text
 field_before_space [] rest all = refl
@@ -177,22 +177,13 @@ number_in_back : (least most number : ℕ) → IsWithin least most number → Is
 number_in_back least most number is few =
     ap (λ found. found >>= within least most) (number_at_back number few) ∙ within_back least most number is
 
-digit_no_dot : (byte : ℕ) → is_ascii_digit byte ≡ true → eqb byte 0x2E ≡ false
-digit_no_dot byte is = other_byte is_ascii_digit 0x2E byte refl is
-
-no_dot : (digits : List ℕ) → list_all is_ascii_digit digits ≡ true → list_any (λ byte. eqb byte 0x2E) digits ≡ false
-no_dot [] all = refl
-no_dot (digit ∷ digits) all =
-    let parts = and_parts (is_ascii_digit digit) (list_all is_ascii_digit digits) all in
-    or_from _ _ (digit_no_dot digit parts.0) (no_dot digits parts.1)
-
 abbrev step_from : Setting → Result (ℕ × ℕ) Reason → Result Item Reason
 step_from setting found = found >>= λ numbers. stated_client setting numbers.0 >>= λ client. Ok (Step client numbers.1)
 
 step_back : (setting : Setting) (client seq : ℕ) → IsClient setting client → IsShort seq
     → item_at setting field.Step (decimal client ++ 0x2E ∷ decimal seq) ≡ Ok (Step client seq)
 step_back setting client seq is few =
-    let cut = cut_again 0x2E (decimal client) (decimal seq) (no_dot (decimal client) (decimal_spells client (client_short setting client is)).each) in
+    let cut = cut_at 0x2E (decimal client) (decimal seq) (unmarked is_ascii_digit 0x2E (decimal client) refl (decimal_spells client (client_short setting client is)).each) in
     ap (λ parts. step_from setting (dotted_numbers parts)) cut
     ∙ ap (λ found. step_from setting (found >>= λ c. number_at (decimal seq) >>= λ s. Ok (c, s)))
     (number_at_back client (client_short setting client is))
@@ -222,10 +213,6 @@ value_stands value is =
       readable = utf8_text value is.readable;
     }
 
-not_true : (test : Bool) → not test ≡ true → test ≡ false
-not_true true e = absurd cc
-not_true false e = refl
-
 query_read : (setting : Setting) (query : Question) → IsOwnQuery setting query → query_at setting query.text ≡ Ok query
 query_read setting query is =
     ap (λ test. cond (not test) (Err reason.Utf8) (Ok query.text) >>= λ text. query_from (question_of text) >>= own_query setting) is.readable
@@ -237,8 +224,8 @@ query_stands setting query is =
     let some = query_some query.text query is.spelled in
     record {
       some = some;
-      front = not_true (begins_spaced query.text) is.rest.front;
-      back = not_true (ends_with 0x20 query.text) is.rest.back;
+      front = is.rest.front;
+      back = is.rest.back;
       no_return = query_ends query.text query is.spelled some;
       line = is.rest.line;
       readable = IsUtf8-from_is_utf8 query.text is.readable;
@@ -254,7 +241,7 @@ field_back setting line field.At Word suits =
 field_back setting line field.Version Word suits =
     plain_back setting field.Version Word (codes "1") (record { some = omega arith; each = refl }) (λ t. refl) refl refl
 field_back setting line field.Region (Key region) suits =
-    let each = region_key_bytes region suits in
+    let each = region_bytes region suits in
     let some = region_some region suits in
     plain_back setting field.Region (Key region) region (record { some = some; each = each }) (λ t. refl) (is_there region some)
     (ap (λ test. cond (not test) (Err reason.Name) (Ok region) >>= λ name. Ok (Key name)) suits)

@@ -24,10 +24,12 @@ use Rattle.gr_script.specs.Halts.{◌>>=◌}
 use Rattle.gr_script.specs.Items.{item_at, items_at}
 use Rattle.gr_script.specs.Printing.{field_text, field_texts, spaced, saying_text}
 use Rattle.gr_script.specs.ReadBack.{IsReadBack}
-use Rattle.gr_script.specs.Suiting.{Suits, AllSuit, begins_spaced, IsClient}
+use Rattle.gr_script.specs.Suiting.{Suits, AllSuit, IsClient}
+use Rattle.gr_script.specs.Rests.{begins_spaced}
 use Rattle.gr_script.proofs.PrintedFields.{GoesOn, IsBack, field_back, IsPlain, decimal_plain, word_plain, client_short, field_before_space, field_alone}
+use Rattle.gr_script.proofs.Marks.{other_byte}
 use Rattle.gr_script.proofs.PrintedNumbers.{decimal_spells}
-use Rattle.gr_script.proofs.PrintedTexts.{Stands, spaced_stand, plain_stands, other_byte, front_kept, said_whole}
+use Rattle.gr_script.proofs.PrintedTexts.{Stands, spaced_stand, plain_stands, front_kept, said_whole}
 
 -- Each field but the last one goes on.
 abbrev LastAlone : List FieldKind → Type 0

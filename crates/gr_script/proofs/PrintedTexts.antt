@@ -1,11 +1,11 @@
 -- Texts that can stand on a line as they are: what is said there is the whole text.
-use Rattle.std.proofs.Common.{◌≡◌, ℕ, ◌+◌, ◌-◌, ◌<◌, ◌≤◌, zero, suc, List, [], ◌∷◌, ◌++◌, length, take, drop, Bool, true, false, not, cond, eqb, inl, inr}
+use Rattle.std.proofs.Common.{◌≡◌, ℕ, ◌+◌, ◌-◌, ◌<◌, ◌≤◌, zero, suc, List, [], ◌∷◌, ◌++◌, length, take, drop, Bool, true, false, not, cond, eqb}
 use Rattle.std.proofs.Common.{◌||◌, get_or, refl, sym, ap, ◌∙◌, subst, arith, length-append}
 use Rattle.std.specs.List.{list_all, list_any, prefix_len, suffix_len, flat_map}
 use Rattle.std.specs.Option.{option_map_or}
 use Rattle.std.specs.Prelude.{slice_get}
 use Rattle.std.specs.Str.{IsUtf8, IsAscii}
-use Rattle.std.proofs.lemmas.Bool.{cases_Bool, both_ways, eqb-true, and_parts, or_from, leb-true}
+use Rattle.std.proofs.lemmas.Bool.{and_parts, or_from, leb-true}
 use Rattle.std.proofs.lemmas.List.Folds.{list_any-append}
 use Rattle.std.proofs.lemmas.List.Sums.{suffix_len_is}
 use Rattle.std.proofs.lemmas.List.{append-nil}
@@ -13,9 +13,9 @@ use Rattle.std.proofs.lemmas.Str.{IsUtf8-append, IsUtf8-from_ascii}
 use Rattle.std.proofs.Math.Seq.{take-length}
 use Rattle.gr_value.specs.KeyBytes.{is_key_byte}
 use Rattle.gr_script.specs.Cuts.{is_space, ends_with, without_return, after_spaces, before_spaces, text_said}
-use Rattle.gr_script.specs.Suiting.{begins_spaced}
+use Rattle.gr_script.specs.Rests.{begins_spaced}
 use Rattle.gr_script.specs.Texts.{IsLine}
-use Rattle.gr_script.proofs.Keys.{not_mark, no_mark}
+use Rattle.gr_script.proofs.Marks.{other_byte, unmarked}
 
 pub record Stands (text : List ℕ) : Type 0 where
   pub some : 0 < length text
@@ -68,13 +68,6 @@ said_whole text is =
 
 -- ---- what such texts are put together from
 
-pub other_byte : (test : ℕ → Bool) (mark byte : ℕ) → test mark ≡ false → test byte ≡ true → eqb byte mark ≡ false
-other_byte test mark byte isnt is =
-    elim (cases_Bool (eqb byte mark)) [
-      | inl same ↦ absurd (both_ways (test mark) isnt (ap test (sym (eqb-true byte mark same)) ∙ is))
-      | inr differs ↦ differs
-    ]
-
 -- where all bytes pass a test that the mark fails, the mark isn't the last one
 pub no_end : (test : ℕ → Bool) (mark : ℕ) (text : List ℕ) → test mark ≡ false → list_all test text ≡ true → ends_with mark text ≡ false
 no_end test mark [] isnt all = refl
@@ -84,7 +77,7 @@ no_end test mark (first ∷ next ∷ rest) isnt all =
 
 no_space_first : (text : List ℕ) → list_all is_key_byte text ≡ true → begins_spaced text ≡ false
 no_space_first [] all = refl
-no_space_first (first ∷ rest) all = not_mark 0x20 first refl (and_parts _ _ all).0
+no_space_first (first ∷ rest) all = other_byte is_key_byte 0x20 first refl (and_parts _ _ all).0
 
 key_byte_ascii : (byte : ℕ) → is_key_byte byte ≡ true → byte < 128
 key_byte_ascii byte is = omega (arith, leb-true byte 0x7E (and_parts _ _ is).1)
@@ -105,7 +98,7 @@ plain_stands text some all = record {
   front = no_space_first text all;
   back = no_end is_key_byte 0x20 text refl all;
   no_return = no_end is_key_byte 0x0D text refl all;
-  line = no_mark 0x0A text refl all;
+  line = unmarked is_key_byte 0x0A text refl all;
   readable = IsUtf8-from_ascii text (key_bytes_ascii text all);
 }
 

@@ -14,6 +14,7 @@ pub mod Reading
 pub mod ReasonNames
 pub mod Reasons
 pub mod Refusals
+pub mod Rests
 pub mod Rules
 pub mod Said
 pub mod Sayings

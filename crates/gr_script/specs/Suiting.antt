@@ -1,6 +1,5 @@
 -- Which items suit the fields of a line.
-use Rattle.std.specs.Prelude.{ℕ, ◌≤◌, ◌<◌, ◌^◌, List, [], ◌∷◌, Bool, false, ◌==◌, ◌&&◌, not, IsTrue, ⊤}
-use Rattle.std.specs.List.{list_any}
+use Rattle.std.specs.Prelude.{ℕ, ◌≤◌, ◌<◌, ◌^◌, List, [], ◌∷◌, IsTrue, ⊤}
 use Rattle.std.specs.Str.{is_utf8}
 use Rattle.gr_value.specs.KeyBytes.{IsKey}
 use Rattle.gr_value.specs.Values.{IsValue}
@@ -11,10 +10,9 @@ use Rattle.gr_script.specs.declared.forms.FieldKind.TheVariants as field
 use Rattle.gr_script.specs.declared.items.Item.{Item}
 use Rattle.gr_script.specs.declared.items.Item.TheVariants.{Word, Number, Member, Client, Ordinal, Step, Key, Value, Query}
 use Rattle.gr_script.specs.declared.items.Setting.{Setting}
-use Rattle.gr_script.specs.Cuts.{is_space, ends_with}
 use Rattle.gr_script.specs.Items.{most_clients, is_own}
 use Rattle.gr_script.specs.Rules.{is_region, IsWithin}
-use Rattle.gr_script.specs.Texts.{IsLine}
+use Rattle.gr_script.specs.Rests.{IsRest}
 
 -- A number has at most 20 digits.
 abbrev pub IsShort : ℕ → Type 0
@@ -23,16 +21,6 @@ IsShort number = number < 10 ^ 20
 -- a client that is stated
 abbrev pub IsClient : Setting → ℕ → Type 0
 IsClient setting client = IsWithin 1 most_clients client × (client ≤ setting.clients)
-
-abbrev pub begins_spaced : List ℕ → Bool
-begins_spaced [] = false
-begins_spaced (first ∷ _) = is_space first
-
--- A query's text is the rest of a line: it stands on one line, with no space at its ends.
-pub record IsRest (text : List ℕ) : Type 0 where
-  pub line : IsLine text
-  pub front : IsTrue (not (begins_spaced text))
-  pub back : IsTrue (not (ends_with 0x20 text))
 
 pub record IsOwnQuery (setting : Setting) (query : Question) : Type 0 where
   pub spelled : Spells query.text query
@@ -60,3 +48,12 @@ abbrev pub AllSuit : Setting → List FieldKind → List Item → Type 0
 AllSuit setting [] [] = ⊤
 AllSuit setting (field ∷ fields) (item ∷ items) = Suits setting field item × AllSuit setting fields items
 AllSuit setting _ _ = ⊥
+
+-- A query's text is the rest of its line.
+abbrev pub IsRestItem : Item → Type 0
+IsRestItem (Query query) = IsRest query.text
+IsRestItem _ = Unit {0}
+
+abbrev pub AreRests : List Item → Type 0
+AreRests [] = Unit {0}
+AreRests (item ∷ items) = IsRestItem item × AreRests items
