@@ -8,6 +8,7 @@ pub mod Narrow
 pub mod Numerals
 pub mod Past
 pub mod Pieces
+pub mod Printed
 pub mod Printing
 pub mod ReadBack
 pub mod Reading

@@ -18,7 +18,8 @@ mod numeral;
 mod parts;
 mod past;
 mod piece;
-mod print;
+mod print_line;
+mod print_script;
 mod reading;
 mod reason;
 mod refusal;
@@ -34,6 +35,7 @@ mod word;
 pub use fault::{Reason, ScriptEnd, ScriptFault};
 pub use form::Form;
 pub use line::{Act, Line, LineList, Step, StepList};
+pub use print_script::print;
 pub use reading::read;
 pub use script::{MemberNumberList, Script};
 
