@@ -15,7 +15,7 @@ use Rattle.gr_oql.specs.Terminals.{terminals_of}
 use Rattle.gr_script.specs.Halts.{Halts, query_halt}
 use Rattle.gr_script.specs.Items.{question_of, query_from}
 
-question_spelled : (text : List ℕ) (q : Question) → Spells text q → question_of text ≡ Ok q
+pub question_spelled : (text : List ℕ) (q : Question) → Spells text q → question_of text ≡ Ok q
 question_spelled text q is =
     let read = query_complete most_depth (terminals_of text is.0) q.asked is.3 in
     let there : answer text is.0 (query_at (terminals_of text is.0)) ≡ Ok q =

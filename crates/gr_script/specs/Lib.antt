@@ -9,12 +9,17 @@ pub mod Narrow
 pub mod Numerals
 pub mod Past
 pub mod Pieces
+pub mod Printed
+pub mod Printing
+pub mod ReadBack
 pub mod Reasons
 pub mod Refusals
+pub mod Rests
 pub mod Rules
 pub mod Said
 pub mod Sayings
 pub mod Scripts
 pub mod Steps
+pub mod Suiting
 pub mod Tallies
 pub mod Texts

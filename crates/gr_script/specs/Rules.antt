@@ -10,6 +10,7 @@ use Rattle.gr_script.specs.declared.line.Act.{Act}
 use Rattle.gr_script.specs.declared.line.Act.TheVariants.{Call, Query, Peek}
 use Rattle.gr_script.specs.declared.line.Line.{Line}
 use Rattle.gr_script.specs.declared.line.Line.TheVariants.{Step, Deliver, Report, Hear, Sweep, Join}
+use Rattle.gr_script.specs.Rests.{IsRest, IsRest-prop}
 use Rattle.gr_script.specs.Steps.{step_count, reports_of, joins_of, opens, queries, reports, hears, sweeps}
 
 -- what stands before the lines
@@ -87,9 +88,9 @@ home_of h client = slice_index h.clients (client - 1)
 abbrev pub Differ : ℕ → ℕ → Type 0
 Differ one other = IsTrue (not (one == other))
 
--- whether a client may ask this of a query, behind the earlier lines
+-- Whether a client may ask this of a query, behind the earlier lines. The query's text is the rest of its line.
 abbrev pub QuerySuits : Heading → List Line → QueryAsk → Type 0
-QuerySuits h past (query.Enrol name query) = (query.asked.region ≡ h.region) × (opens past < 16) × (queries past < 10000)
+QuerySuits h past (query.Enrol name query) = (query.asked.region ≡ h.region) × (opens past < 16) × (queries past < 10000) × IsRest query.text
 QuerySuits h past (query.Stop name) = queries past < 10000
 QuerySuits h past (query.Close name) = queries past < 10000
 QuerySuits h past (query.Fetch name) = queries past < 10000
@@ -128,7 +129,7 @@ IsHeading-prop : (h : Heading) → IsProp (IsHeading h)
 IsHeading-prop h = hlevel (le_prop, Coded-set, codes, AreWithin-prop 1 h.members h.clients)
 
 QuerySuits-prop : (h : Heading) (past : List Line) (ask : QueryAsk) → IsProp (QuerySuits h past ask)
-QuerySuits-prop h past (query.Enrol name query) = hlevel (le_prop, Coded-set, codes)
+QuerySuits-prop h past (query.Enrol name query) = hlevel (le_prop, Coded-set, codes, IsRest-prop query.text)
 QuerySuits-prop h past (query.Stop name) = hlevel (le_prop, Coded-set, codes)
 QuerySuits-prop h past (query.Close name) = hlevel (le_prop, Coded-set, codes)
 QuerySuits-prop h past (query.Fetch name) = hlevel (le_prop, Coded-set, codes)

@@ -2,11 +2,11 @@ mod FieldsRead
 mod FieldsTaken
 mod Lexing
 mod NumberLengths
-mod OneLine
+pub mod OneLine
 mod PlainBytes
 mod Punctuating
 mod Quoting
-mod RoundTrip
+pub mod RoundTrip
 mod Shorter
 mod Texts
 mod Utf8

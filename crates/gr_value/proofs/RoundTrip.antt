@@ -52,7 +52,7 @@ utf8_rest [] h = IsUtf8-are_ascii [] refl
 utf8_rest (field ∷ fields) h = IsUtf8-append (44 ∷ field_text field) _
     (IsUtf8-append (44 ∷ []) _ (IsUtf8-are_ascii _ refl) (utf8_field field h.0)) (utf8_rest fields h.1)
 
-utf8_text : (fields : List Field) → AllByRecursion IsField fields → IsUtf8 (value_text fields)
+pub utf8_text : (fields : List Field) → AllByRecursion IsField fields → IsUtf8 (value_text fields)
 unfolding value_text
 utf8_text [] h = IsUtf8-are_ascii _ refl
 utf8_text (field ∷ fields) h =

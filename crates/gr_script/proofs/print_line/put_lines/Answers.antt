@@ -1,0 +1,14 @@
+use Rattle.gr_script.specs.Printed.{line_text, IsLineKept}
+use Rattle.gr_script.proofs.PrintLemmas.{printed_more, each_more}
+use Rattle.gr_script.proofs.print_line.put_lines.Goals as goal
+
+pub loop-line-preserved : goal.loop-line-preserved
+loop-line-preserved c =
+    let item = c.line-item.result in
+    let kept : IsLineKept item = c.in_ok-put_line.ensures.kept in
+    record {
+      printed =
+          printed_more c.args.lines.now c.loop-line.line-index item item c.loop-line-test.true c.line-item.is line_text c.args.out.now.items
+          c.loop-line.out.items c.put_line.new.out.items c.loop-line.invariant.printed c.in_ok-put_line.ensures.printed;
+      kept = each_more c.args.lines.now c.loop-line.line-index item item c.loop-line-test.true c.line-item.is IsLineKept c.loop-line.invariant.kept kept;
+    }
