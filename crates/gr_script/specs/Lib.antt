@@ -4,6 +4,7 @@ pub mod Forms
 pub mod Halts
 pub mod Index
 pub mod Items
+pub mod LineNumbers
 pub mod Narrow
 pub mod Numerals
 pub mod Past
@@ -11,8 +12,6 @@ pub mod Pieces
 pub mod Printed
 pub mod Printing
 pub mod ReadBack
-pub mod Reading
-pub mod ReasonNames
 pub mod Reasons
 pub mod Refusals
 pub mod Rests
@@ -21,8 +20,6 @@ pub mod Said
 pub mod Sayings
 pub mod Scripts
 pub mod Steps
-pub mod Stops
 pub mod Suiting
 pub mod Tallies
 pub mod Texts
-pub mod Words

@@ -1,14 +1,15 @@
-ghost use Rattle.std.specs.Prelude.{◌≡◌, ◌<◌, [], ◌∷◌, List, length, IfOk};
+ghost use Rattle.std.specs.Prelude.{◌≡◌, ◌<◌, ℕ, [], ◌∷◌, List, length, reverse, IfOk};
+ghost use Rattle.gr_script.specs.Tallies.{count_in};
 ghost use Rattle.gr_script.specs.Index.{most_lines, counted};
 ghost use Rattle.gr_script.specs.declared.saying.Saying.{Saying};
-ghost use Rattle.gr_script.specs.Past.{stage, founders, clients, steps, reports, joins, homes as homes_of, home, setting, sizes};
+ghost use Rattle.gr_script.specs.Past.{stage, region, members, founders, clients, steps, reports, joins, homes as homes_of, home, setting, sizes};
 
 use crate::forms::{LineKind, is_kind, is_step};
 use crate::items::Setting;
 use crate::note::{counted, homes_with, is_query, next_rank, region_with, stated_with};
 use crate::saying::{Saying, number};
-use crate::tally::{count_in, counts_with};
-use gr_value::{ItemList, Memory};
+use crate::tally::{count_in as count_of, counts_with};
+use gr_value::{ItemList, Key, Memory};
 use std::alloc::Global;
 use std::collections::BTreeMap;
 use std::marker::Model;
@@ -49,6 +50,19 @@ pub(crate) struct Past {
     reports: BTreeMap<u128, u32>,
     joins: BTreeMap<u128, u32>,
     counted: Counted,
+}
+
+/// What a script is made of, once all its lines are read.
+#[derive(Drop)]
+pub(crate) struct Told {
+    pub(crate) sayings: ItemList<Saying>,
+    pub(crate) region: Option<Key>,
+    pub(crate) members: u128,
+    pub(crate) founders: u128,
+    pub(crate) sizes: Sizes,
+    pub(crate) homes: ItemList<u128>,
+    /// How many steps each client has.
+    pub(crate) steps: BTreeMap<u128, u32>,
 }
 
 impl Model for Past {
@@ -149,25 +163,47 @@ impl Past {
     pub(crate) fn steps(&self, client: u128) -> u32
         ensures { result ≡ steps client self.now }
     {
-        count_in(&self.steps, client)
+        count_of(&self.steps, client)
     }
 
     pub(crate) fn reports(&self, member: u128) -> u32
         ensures { result ≡ reports member self.now }
     {
-        count_in(&self.reports, member)
+        count_of(&self.reports, member)
     }
 
     pub(crate) fn joins(&self, member: u128) -> u32
         ensures { result ≡ joins member self.now }
     {
-        count_in(&self.joins, member)
+        count_of(&self.joins, member)
     }
 
     pub(crate) fn counted(&self) -> Counted
         ensures { result ≡ counted self.now }
     {
         self.counted
+    }
+
+    /// The lines and what is kept of them, taken apart.
+    pub(crate) fn into_told(self) -> Told
+        ensures sayings { reverse result.sayings ≡ self }
+        ensures region { result.region ≡ region self }
+        ensures members { result.members ≡ members self }
+        ensures founders { result.founders ≡ founders self }
+        ensures sizes { result.sizes ≡ sizes self }
+        ensures homes { result.homes ≡ homes_of self }
+        ensures steps { (client : ℕ) → count_in result.steps client ≡ steps client self }
+    {
+        let setting = self.setting;
+        Told {
+            sayings: self.sayings,
+            region: setting.region,
+            members: setting.members,
+            founders: self.founders,
+            sizes: self.sizes,
+            homes: self.homes,
+            steps: self.steps,
+        }
     }
 
     /// These lines and one more.
