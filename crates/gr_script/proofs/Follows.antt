@@ -1,7 +1,7 @@
 -- What every line that was read is behind the earlier ones.
-use Rattle.std.proofs.Common.{◌≡◌, ℕ, zero, suc, ◌+◌, ◌≤◌, ◌<◌, List, [], ◌∷◌, length, Bool, true, false, cond, ltb, not, ◌&&◌, Option}
-use Rattle.std.proofs.Common.{Some, None, Result, Ok, Err, refl, sym, ap, ◌∙◌, subst, arith, bytes_eq}
-use Rattle.std.specs.List.{list_all}
+use Rattle.std.proofs.Common.{◌≡◌, ℕ, zero, suc, ◌+◌, ◌≤◌, ◌<◌, List, [], ◌∷◌, length, Bool, true, false, cond, ltb, not, ◌&&◌, Option, Some, None, Result, Ok, Err, refl, sym, ap, ◌∙◌, subst, arith, codes, bytes_eq}
+use Rattle.std.specs.List.{list_all, AllByRecursion}
+use Rattle.std.specs.Str.{is_utf8}
 use Rattle.std.specs.Char.{is_ascii_digit}
 use Rattle.std.proofs.lemmas.Bool.{and_parts, ltb-false, not-false}
 use Rattle.std.proofs.lemmas.Slice.Eq.{bytes_eq-Decides}
@@ -11,7 +11,7 @@ use Rattle.gr_script.specs.declared.forms.LineKind.{LineKind}
 use Rattle.gr_script.specs.declared.forms.LineKind.TheVariants as kind
 use Rattle.gr_script.specs.declared.items.Item.{Item}
 use Rattle.gr_script.specs.declared.reason.Reason.{Reason}
-use Rattle.gr_script.specs.declared.reason.Reason.TheVariants.{Header, Word, Fields, Order, NotInRun}
+use Rattle.gr_script.specs.declared.reason.Reason.TheVariants.{Header, Word, Fields, Order, NotInRun, Utf8}
 use Rattle.gr_script.specs.declared.saying.Saying.{Saying}
 use Rattle.gr_script.specs.Cuts.{text_said, is_skipped, line_count}
 use Rattle.gr_script.specs.Fields.{first, second, fits, form_of}
@@ -21,10 +21,13 @@ use Rattle.gr_script.specs.Index.{most_lines}
 use Rattle.gr_script.specs.Items.{text_at, items_at}
 use Rattle.gr_script.specs.Past.{setting, stage}
 use Rattle.gr_script.specs.Refusals.{lacks, is_replayed, tests, refusal, unless_refused, form_at, saying_at, past_with}
-use Rattle.gr_script.specs.Sayings.{go_on, sayings_from, end_of, sayings_of}
-use Rattle.gr_script.specs.Texts.{lines_of}
+use Rattle.gr_script.specs.Sayings.{ended, go_on, sayings_from, end_of, sayings_of}
+use Rattle.gr_script.specs.Rests.{IsRest}
+use Rattle.gr_script.specs.Suiting.{AreRests}
+use Rattle.gr_script.specs.Texts.{lines_of, IsLine}
 use Rattle.gr_script.proofs.Contents.{Contents, items_of, items_held}
 use Rattle.gr_script.proofs.LineCounts.{lines_counted}
+use Rattle.gr_script.proofs.RestsRead.{rests_read, said_rest, lines_are_lines}
 use Rattle.gr_script.proofs.Passes.{done_is, bind_ok, unless_ok, some_ok}
 
 pub record Follows (past : List Saying) (kind : LineKind) (items : List Item) : Type 0 where
@@ -33,6 +36,7 @@ pub record Follows (past : List Saying) (kind : LineKind) (items : List Item) : 
   pub order : stage past ≤ rank kind
   pub due : stage past < 4 → rank kind ≡ stage past
   pub passes : refusal (tests past kind items) ≡ None
+  pub rests : AreRests items
 
 abbrev pub AllFollow : List Saying → Type 0
 AllFollow [] = Unit {0}
@@ -78,10 +82,9 @@ form_follows runs stage text form e =
     let o = bind_ok _ _ form r.2 in
     let ordered = unless_ok (ltb (rank r.0) stage) Order r.0 o.0 o.1 in
     let fitted = unless_ok (not (fits (fields o.0) t.0)) Fields o.0 form o.2 in
-    let same : r.0 ≡ form = ordered.1 ∙ fitted.1 in (
-      subst (λ (k : LineKind). stage ≤ rank k) same (ltb-false (rank r.0) stage ordered.0),
-      λ early. ap rank (sym (ran.1 ∙ same)) ∙ due_form stage t.0 f.0 (ap (lacks stage) (sym tested.1) ∙ tested.0) named early,
-    )
+    let same : r.0 ≡ form = ordered.1 ∙ fitted.1 in
+    (subst (λ (k : LineKind). stage ≤ rank k) same (ltb-false (rank r.0) stage ordered.0),
+    λ early. ap rank (sym (ran.1 ∙ same)) ∙ due_form stage t.0 f.0 (ap (lacks stage) (sym tested.1) ∙ tested.0) named early)
 
 -- ---- a line
 
@@ -89,16 +92,23 @@ saying_is : (test : Option Reason) (one two : Saying) → unless_refused test on
 saying_is None one two e = (refl, done_is one two e)
 saying_is (Some why) one two e = absurd cc
 
-saying_follows : (runs : Bool) (past : List Saying) (text : List ℕ) (saying : Saying) → saying_at runs past text ≡ Ok saying
+saying_follows : (runs : Bool) (past : List Saying) (text : List ℕ) (saying : Saying) → IsRest text → saying_at runs past text ≡ Ok saying
     → Follows past saying.kind saying.items
-saying_follows runs past text saying e =
+saying_follows runs past text saying rest e =
     let f = bind_ok (form_at runs (stage past) text) _ saying e in
     let i = bind_ok (items_at (setting past) (fields f.0) text) _ saying f.2 in
     let s = saying_is (refusal (tests past f.0 i.0)) (record { kind = f.0; items = i.0 }) saying i.2 in
     let form = form_follows runs (stage past) text f.0 f.1 in
     let c = items_held (setting past) (fields f.0) text i.0 i.1 in
     subst (λ (s : Saying). Follows past s.kind s.items) s.1
-    (record { held = c.0; items_are = c.1; order = form.0; due = form.1; passes = s.0 })
+    (record {
+      held = c.0;
+      items_are = c.1;
+      order = form.0;
+      due = form.1;
+      passes = s.0;
+      rests = rests_read (setting past) (fields f.0) text i.0 rest i.1;
+    })
 
 -- the earlier lines with one more, which may be skipped
 abbrev with : Bool → List Saying → Result Saying Reason → Result (List Saying) Reason
@@ -112,12 +122,13 @@ with_follows false past read longer e next all =
     let b = bind_ok read _ longer e in
     subst AllFollow (done_is (b.0 ∷ past) longer b.2) (next b.0 b.1, all)
 
-past_follows : (runs : Bool) (past : List Saying) (line : List ℕ) (longer : List Saying) → past_with runs past line ≡ Ok longer
-    → AllFollow past → AllFollow longer
-past_follows runs past line longer e all =
+past_follows : (runs : Bool) (past : List Saying) (line : List ℕ) (longer : List Saying) → IsLine line
+    → past_with runs past line ≡ Ok longer → AllFollow past → AllFollow longer
+past_follows runs past line longer alone e all =
     let t = bind_ok (text_at line) _ longer e in
+    let same = (unless_ok (not (is_utf8 line)) Utf8 line t.0 t.1).1 in
     with_follows (is_skipped (text_said t.0)) past (saying_at runs past (text_said t.0)) longer t.2
-    (saying_follows runs past (text_said t.0)) all
+    (λ saying. saying_follows runs past (text_said t.0) saying (said_rest t.0 (subst IsLine same alone))) all
 
 -- ---- all lines
 
@@ -138,13 +149,13 @@ go_on_ok number (Ok longer) rest all e = (longer, refl, e)
 go_on_ok number (Err why) rest all e = absurd cc
 
 from_follows : (runs : Bool) (number : ℕ) (past : List Saying) (lines : List (List ℕ)) (all : List Saying)
-    → sayings_from runs number past lines ≡ Ok all → AllFollow past → AllFollow all × (4 ≤ stage all)
-from_follows runs number past [] all e so_far =
+    → AllByRecursion IsLine lines → sayings_from runs number past lines ≡ Ok all → AllFollow past → AllFollow all × (4 ≤ stage all)
+from_follows runs number past [] all alone e so_far =
     let p = ended_follows (ltb (stage past) 4) past all _ e in
     subst (λ (s : List Saying). AllFollow s × (4 ≤ stage s)) p.1 (so_far, ltb-false (stage past) 4 p.0)
-from_follows runs number past (line ∷ lines) all e so_far =
+from_follows runs number past (line ∷ lines) all alone e so_far =
     let g = go_on_ok number (past_with runs past line) _ all e in
-    from_follows runs (number + 1) g.0 lines all g.2 (past_follows runs past line g.0 g.1 so_far)
+    from_follows runs (number + 1) g.0 lines all alone.1 g.2 (past_follows runs past line g.0 alone.0 g.1 so_far)
 
 end_ok : (many : Bool) (end : ScriptEnd) (found : Result (List Saying) ScriptFault) (all : List Saying)
     → cond many (Err end) (end_of found) ≡ Ok all → (many ≡ false) × (found ≡ Ok all)
@@ -155,8 +166,7 @@ end_ok false end (Err fault) all e = absurd cc
 -- Each line that was read suits the earlier ones, and the heading is whole.
 pub all_follow : (runs : Bool) (text : List ℕ) (all : List Saying) → sayings_of runs text ≡ Ok all → AllFollow all × (4 ≤ stage all)
 all_follow runs text all e =
-    from_follows runs 1 [] (lines_of text) all
-    (end_ok (ltb most_lines (line_count text)) _ (sayings_from runs 1 [] (lines_of text)) all e).1 tt
+    from_follows runs 1 [] (lines_of text) all (lines_are_lines text) (end_ok (ltb most_lines (line_count text)) _ (sayings_from runs 1 [] (lines_of text)) all e).1 tt
 
 -- ---- how many there are
 

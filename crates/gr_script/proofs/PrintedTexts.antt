@@ -42,7 +42,7 @@ pub ends_back : (mark : ℕ) (front rest : List ℕ) → 0 < length rest → end
 ends_back mark front [] some = absurd (omega (arith, some))
 ends_back mark front (next ∷ rest) some = ends_append mark front next rest
 
-last_is : (mark first : ℕ) (rest : List ℕ) → ends_with mark (first ∷ rest) ≡ eqb (get_or (first ∷ rest) (length rest) 0) mark
+pub last_is : (mark first : ℕ) (rest : List ℕ) → ends_with mark (first ∷ rest) ≡ eqb (get_or (first ∷ rest) (length rest) 0) mark
 last_is mark first [] = refl
 last_is mark first (next ∷ rest) = ends_skip mark first next rest ∙ last_is mark next rest
 

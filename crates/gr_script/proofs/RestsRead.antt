@@ -1,11 +1,12 @@
 -- A query's text that is read from a line is the rest of that line.
-use Rattle.std.proofs.Common.{◌≡◌, ℕ, ◌+◌, ◌<◌, ◌≤◌, suc, List, [], ◌∷◌, ◌++◌, length, take, drop, Bool, true, false, cond, eqb, Result, Ok, Err}
-use Rattle.std.proofs.Common.{refl, sym, ap, ◌∙◌, subst, arith, inl, inr}
-use Rattle.std.specs.List.{prefix_len, list_any}
+use Rattle.std.proofs.Common.{◌≡◌, ℕ, ◌+◌, ◌<◌, ◌≤◌, ◌-◌, suc, List, [], ◌∷◌, ◌++◌, length, take, drop, Bool, true, false, cond, eqb, Result, Ok, Err}
+use Rattle.std.proofs.Common.{reverse, get_or, refl, sym, ap, ◌∙◌, subst, arith, inl, inr}
+use Rattle.std.specs.List.{prefix_len, suffix_len, list_any, onto_first, AllByRecursion}
 use Rattle.std.specs.Prelude.{⊤}
-use Rattle.std.proofs.lemmas.Bool.{cases_Bool, or_parts}
+use Rattle.std.proofs.lemmas.Bool.{cases_Bool, or_parts, or_from}
 use Rattle.std.proofs.Math.Seq.{take-length}
-use Rattle.std.proofs.lemmas.List.{take-append-drop}
+use Rattle.std.proofs.lemmas.List.{take-append-drop, length-take-le, get_or-take, get_or-reverse, length-reverse}
+use Rattle.std.proofs.lemmas.List.Sums.{prefix_len_stops}
 use Rattle.std.proofs.lemmas.List.Folds.{list_any-append}
 use Rattle.gr_oql.specs.declared.fault.OqlFault.{OqlFault}
 use Rattle.gr_lex.specs.Reader.Reading.{tokens_of}
@@ -22,14 +23,15 @@ use Rattle.gr_script.specs.declared.items.Item.TheVariants as item
 use Rattle.gr_script.specs.declared.items.Setting.{Setting}
 use Rattle.gr_script.specs.declared.reason.Reason.{Reason}
 use Rattle.gr_script.specs.declared.reason.Reason.TheVariants as reason
-use Rattle.gr_script.specs.Cuts.{is_space, ends_with, after_spaces}
+use Rattle.gr_script.specs.Cuts.{is_space, ends_with, without_return, after_spaces, before_spaces, text_said}
 use Rattle.gr_script.specs.Fields.{len_of, piece, left}
 use Rattle.gr_script.specs.Halts.{◌>>=◌, unless}
 use Rattle.gr_script.specs.Items.{dotted_numbers, stated_client, item_at, items_at, question_of, query_from, own_query, query_at, text_at}
 use Rattle.gr_script.specs.Rests.{begins_spaced, IsRest}
 use Rattle.gr_script.specs.Suiting.{IsRestItem, AreRests}
-use Rattle.gr_script.specs.Texts.{IsLine, cut}
-use Rattle.gr_script.proofs.PrintedTexts.{ends_back}
+use Rattle.gr_script.specs.Texts.{IsLine, cut, lines_of}
+use Rattle.gr_script.proofs.PrintedTexts.{ends_back, last_is}
+use Rattle.gr_script.proofs.Texts.{lines_here, lines_there}
 
 -- ---- what is left of a rest is one
 
@@ -142,3 +144,60 @@ rests_read setting (kind ∷ kinds) text items is e = then (AreRests items) _ _ 
     then (AreRests items) _ _ items (λ rest others this. subst AreRests (same (found ∷ rest) items this)
     (item_rest setting kind (piece kind text) found (piece_rest kind text is) read,
     rests_read setting kinds (left kind text) rest (rest_dropped (len_of kind text) text is) others)) more) e
+
+-- ---- lines
+
+front_line : (n : ℕ) (text : List ℕ) → IsLine text → IsLine (take n text)
+front_line n text line =
+    (or_parts (list_any (λ byte. eqb byte 0x0A) (take n text)) (list_any (λ byte. eqb byte 0x0A) (drop n text))
+    (sym (list_any-append (λ byte. eqb byte 0x0A) (take n text) (drop n text)) ∙ ap (list_any (λ byte. eqb byte 0x0A)) (take-append-drop n text)
+    ∙ line)).0
+
+kept_line : (test : Bool) (line : List ℕ) → IsLine line → IsLine (cond test (take (length line - 1) line) line)
+kept_line true line alone = front_line (length line - 1) line alone
+kept_line false line alone = alone
+
+-- where the spaces behind a text are taken off, it ends with none
+no_space_behind : (text : List ℕ) → ends_with 0x20 (before_spaces text) ≡ false
+no_space_behind text = go (take (length text - suffix_len is_space text) text) refl
+  where
+    go : (front : List ℕ) → before_spaces text ≡ front → ends_with 0x20 front ≡ false
+    go [] is = refl
+    go (first ∷ rest) is =
+        let spaces = suffix_len is_space text in
+        let n = length text - spaces in
+        let len : length (first ∷ rest) ≡ n = ap (length {A = ℕ}) (sym is) ∙ length-take-le n text (omega arith) in
+        let last : length rest ≡ n - 1 = omega (arith, len) in
+        let some : spaces < length text = omega (arith, len) in
+        let there : n - 1 ≡ length text - 1 - spaces = omega (arith, some) in
+        let within : spaces < length (reverse text) = omega (arith, some, length-reverse text) in
+        last_is 0x20 first rest ∙ ap (λ xs. is_space (get_or xs (length rest) 0)) (sym is)
+        ∙ ap (λ i. is_space (get_or (take n text) i 0)) last
+        ∙ ap is_space (get_or-take n text (n - 1) 0 (omega (arith, some)))
+        ∙ ap (λ i. is_space (get_or text i 0)) there ∙ ap is_space (sym (get_or-reverse text spaces 0 some))
+        ∙ prefix_len_stops is_space (reverse text) 0 within
+
+-- what is said on a line is a rest
+pub said_rest : (line : List ℕ) → IsLine line → IsRest (text_said line)
+said_rest line alone =
+    let kept = without_return line in
+    let short = before_spaces kept in
+    let spaces = prefix_len is_space short in
+    record {
+      line = rest_line spaces short (front_line (length kept - suffix_len is_space kept) kept (kept_line (ends_with 0x0D line) line alone));
+      front = after_front short;
+      back = rest_end 0x20 (take spaces short) (drop spaces short) short (take-append-drop spaces short) (no_space_behind kept);
+    }
+
+first_is_line : (byte : ℕ) (lines : List (List ℕ)) → eqb byte 10 ≡ false → AllByRecursion IsLine lines
+    → AllByRecursion IsLine (onto_first byte lines)
+first_is_line byte [] isnt all = (or_from (eqb byte 10) false isnt refl, tt)
+first_is_line byte (line ∷ lines) isnt all = (or_from (eqb byte 10) (list_any (λ b. eqb b 10) line) isnt all.0, all.1)
+
+pub lines_are_lines : (bytes : List ℕ) → AllByRecursion IsLine (lines_of bytes)
+lines_are_lines [] = tt
+lines_are_lines (byte ∷ bytes) =
+    elim (cases_Bool (eqb byte 10)) [
+      | inl is ↦ rw (lines_here byte bytes is) (refl, lines_are_lines bytes)
+      | inr isnt ↦ rw (lines_there byte bytes isnt) (first_is_line byte (lines_of bytes) isnt (lines_are_lines bytes))
+    ]
