@@ -1,8 +1,9 @@
 ghost use Rattle.std.specs.Prelude.{◌≡◌};
 ghost use Rattle.gr_io.specs.declared.end.ReadEnd.TheVariants.{Fault, Memory as OutOfMemory};
 
-use gr_value::Memory;
 use std::alloc::AllocError;
+use std::error::Error;
+use std::fmt;
 
 /// One call on a source or a sink failed. It moved nothing, and the fault was counted.
 #[derive(Clone, Copy, Debug, PartialEq, Eq)]
@@ -29,14 +30,6 @@ impl From<Failed> for ReadEnd {
     }
 }
 
-impl From<Memory> for ReadEnd {
-    ghost from_gives = { λ _ end. end ≡ OutOfMemory };
-
-    fn from(_: Memory) -> ReadEnd {
-        ReadEnd::Memory
-    }
-}
-
 impl From<AllocError> for ReadEnd {
     ghost from_gives = { λ _ end. end ≡ OutOfMemory };
 
@@ -50,3 +43,31 @@ impl From<Failed> for WriteFault {
         WriteFault
     }
 }
+
+impl fmt::Display for Failed {
+    fn fmt<W: fmt::Write>(&self, f: &mut fmt::Formatter<W>) -> fmt::Result {
+        write!(f, "a call failed")
+    }
+}
+
+impl Error for Failed {}
+
+impl fmt::Display for ReadEnd {
+    fn fmt<W: fmt::Write>(&self, f: &mut fmt::Formatter<W>) -> fmt::Result {
+        match self {
+            ReadEnd::Fault => write!(f, "the input can't be read"),
+            ReadEnd::TooLarge(_) => write!(f, "the input is too large"),
+            ReadEnd::Memory => write!(f, "no memory"),
+        }
+    }
+}
+
+impl Error for ReadEnd {}
+
+impl fmt::Display for WriteFault {
+    fn fmt<W: fmt::Write>(&self, f: &mut fmt::Formatter<W>) -> fmt::Result {
+        write!(f, "the output can't be written")
+    }
+}
+
+impl Error for WriteFault {}

@@ -90,9 +90,7 @@ impl Sink for MemorySink {
             return Err(Failed);
         }
         let count = self.piece.min(buf.len().min(room));
-        match self.held.extend_from_slice(&buf[..count]) {
-            Ok(()) => Ok(count),
-            Err(_) => unreachable!(),
-        }
+        self.held.extend_from_slice(&buf[..count]).unwrap();
+        Ok(count)
     }
 }

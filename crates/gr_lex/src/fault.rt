@@ -1,4 +1,6 @@
-use std::alloc::{AllocError, AllocFailed};
+use std::alloc::AllocFailed;
+use std::error::Error;
+use std::fmt;
 
 /// Why a text has no tokens. A place is counted in bytes from 0.
 #[derive(Clone, Copy, Debug, PartialEq, Eq)]
@@ -12,17 +14,6 @@ pub enum LexFault {
     Memory,
 }
 
-impl From<AllocError> for LexFault {
-    ghost use Rattle.std.specs.Prelude.{◌≡◌};
-    ghost use Rattle.gr_lex.specs.declared.fault.LexFault.TheVariants as lex_fault;
-
-    ghost from_gives = { λ _ fault. fault ≡ lex_fault.Memory };
-
-    fn from(_: AllocError) -> LexFault {
-        LexFault::Memory
-    }
-}
-
 impl<T: Drop> From<AllocFailed<T>> for LexFault {
     ghost use Rattle.std.specs.Prelude.{◌≡◌};
     ghost use Rattle.gr_lex.specs.declared.fault.LexFault.TheVariants as lex_fault;
@@ -33,3 +24,16 @@ impl<T: Drop> From<AllocFailed<T>> for LexFault {
         LexFault::Memory
     }
 }
+
+impl fmt::Display for LexFault {
+    fn fmt<W: fmt::Write>(&self, f: &mut fmt::Formatter<W>) -> fmt::Result {
+        match self {
+            LexFault::BadCharacter(place) => write!(f, "no token begins at {place}"),
+            LexFault::OpenText(place) => write!(f, "a text doesn't end, from {place}"),
+            LexFault::NumberTooLarge(place) => write!(f, "a number is too large, at {place}"),
+            LexFault::Memory => write!(f, "no memory"),
+        }
+    }
+}
+
+impl Error for LexFault {}

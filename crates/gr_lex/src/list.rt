@@ -72,7 +72,7 @@ impl TokenList {
         ensures err { IfErr result (λ fault. fault ≡ Memory) }
     {
         Ok(TokenList {
-            entries: Vec::from_slice(alloc, self.entries.as_slice())?,
+            entries: Vec::from_slice(alloc, self.entries.as_slice()).map_err(|_| LexFault::Memory)?,
         })
     }
 }

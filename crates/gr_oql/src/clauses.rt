@@ -1,6 +1,6 @@
 //! The clauses of a query, from SELECT to its end.
 
-ghost use Rattle.std.specs.Prelude.{◌≡◌, ◌≤◌, length, option_map, Option, List, ℕ, IfOk, IfErr, ◌∷◌};
+ghost use Rattle.std.specs.Prelude.{◌≡◌, ◌≤◌, length, option_map, Option, List, ℕ, IfOk, ◌∷◌};
 ghost use Rattle.gr_value.specs.KeyBytes.{IsKey};
 ghost use Rattle.gr_oql.specs.Grammar.{most_depth};
 ghost use Rattle.gr_oql.specs.Question.{Asked};
@@ -9,7 +9,6 @@ ghost use Rattle.gr_oql.specs.Reader.Reading.{star_at, region_at, alias_at, end_
 ghost use Rattle.gr_oql.specs.View.{tree_of};
 ghost use Rattle.gr_oql.specs.Reader.Asking.{asked};
 ghost use Rattle.gr_oql.specs.Terminals.{begins, is_tail};
-ghost use Rattle.gr_oql.specs.declared.halt.Halt.TheVariants as stops;
 
 use crate::Part;
 use crate::condition::Condition;
@@ -19,7 +18,7 @@ use crate::halt::{Halt, Wrong};
 use crate::keyword::Keyword;
 use crate::terms::{keyword_due, name_due, symbol_due};
 use gr_lex::Symbol;
-use gr_value::{Key, KeyFault, Text};
+use gr_value::{Key, KeyFault, Memory, Text};
 use std::alloc::Global;
 
 /// The most bytes of a region's name, which is a key behind a slash.
@@ -49,17 +48,16 @@ fn star(cursor: &mut TokenCursor) -> Result<(), Halt>
 }
 
 // A region's name, with a slash before it.
-fn region_key(alloc: Global, name: &str) -> Result<Key, Halt>
+fn region_key(alloc: Global, name: &str) -> Result<Key, Memory>
     requires { IsKey (0x2F ∷ name.now) }
-    ensures ok { IfOk result (λ key. key ≡ 0x2F ∷ name.now) }
-    ensures err { IfErr result (λ stop. stop ≡ stops.Memory) }
+    ensures { IfOk result (λ key. key ≡ 0x2F ∷ name.now) }
 {
     let mut bytes = Vec::with_capacity(alloc, name.len() + 1)?;
     bytes.push(b'/')?;
     bytes.extend_from_slice(name.as_bytes())?;
     match Key::read(alloc, &bytes) {
         Ok(key) => Ok(key),
-        Err(KeyFault::Memory) => Err(Halt::Memory),
+        Err(KeyFault::Memory) => Err(Memory),
         Err(_) => unreachable!(),
     }
 }
@@ -147,9 +145,8 @@ fn condition_to_end(
     }
 }
 
-fn owned(alloc: Global, alias: Option<&str>) -> Result<Option<Text>, Halt>
-    ensures ok { IfOk result (λ text. text ≡ alias_of alias.entry) }
-    ensures err { IfErr result (λ stop. stop ≡ stops.Memory) }
+fn owned(alloc: Global, alias: Option<&str>) -> Result<Option<Text>, Memory>
+    ensures { IfOk result (λ text. text ≡ alias_of alias.entry) }
 {
     match alias {
         Some(alias) => Ok(Some(Text::new(alloc, alias)?)),

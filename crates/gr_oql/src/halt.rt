@@ -1,6 +1,6 @@
 use crate::Part;
 use gr_value::Memory;
-use std::alloc::{AllocError, AllocFailed};
+use std::alloc::AllocFailed;
 
 /// Why tokens cease to begin a query.
 #[derive(Clone, Copy, Debug, PartialEq, Eq)]
@@ -17,17 +17,6 @@ pub(crate) enum Halt {
     Memory,
 }
 
-impl From<Wrong> for Halt {
-    ghost use Rattle.std.specs.Prelude.{◌≡◌};
-    ghost use Rattle.gr_oql.specs.declared.halt.Halt.TheVariants as halts;
-
-    ghost from_gives = { λ wrong halt. halt ≡ halts.Wrong wrong };
-
-    fn from(wrong: Wrong) -> Halt {
-        Halt::Wrong(wrong)
-    }
-}
-
 impl From<Memory> for Halt {
     ghost use Rattle.std.specs.Prelude.{◌≡◌};
     ghost use Rattle.gr_oql.specs.declared.halt.Halt.TheVariants as halts;
@@ -35,17 +24,6 @@ impl From<Memory> for Halt {
     ghost from_gives = { λ _ halt. halt ≡ halts.Memory };
 
     fn from(_: Memory) -> Halt {
-        Halt::Memory
-    }
-}
-
-impl From<AllocError> for Halt {
-    ghost use Rattle.std.specs.Prelude.{◌≡◌};
-    ghost use Rattle.gr_oql.specs.declared.halt.Halt.TheVariants as halts;
-
-    ghost from_gives = { λ _ halt. halt ≡ halts.Memory };
-
-    fn from(_: AllocError) -> Halt {
         Halt::Memory
     }
 }

@@ -90,10 +90,9 @@ fn fault_of(text: &str, tokens: &[Token], left: &TokenCursor, wrong: Wrong) -> O
     }
 }
 
-fn query_of(alloc: Global, text: &str, clauses: Clauses) -> Result<Query, OqlFault>
+fn query_of(alloc: Global, text: &str, clauses: Clauses) -> Result<Query, Memory>
     requires { Spells text.now (question text.now clauses) }
-    ensures ok { IfOk result (λ q. q ≡ question text.now clauses) }
-    ensures err { IfErr result (λ fault. fault ≡ oql_fault.Memory) }
+    ensures { IfOk result (λ q. q ≡ question text.now clauses) }
 {
     let parts = Parts {
         text: Text::new(alloc, text)?,
@@ -113,7 +112,7 @@ fn asked_by(alloc: Global, text: &str, tokens: &[Token]) -> Result<Query, OqlFau
     let lexemes = lexemes(alloc, text, tokens)?;
     let mut cursor = TokenCursor::new(&lexemes);
     match query(&mut cursor, alloc) {
-        Ok(clauses) => query_of(alloc, text, clauses),
+        Ok(clauses) => Ok(query_of(alloc, text, clauses)?),
         Err(Halt::Memory) => Err(OqlFault::Memory),
         Err(Halt::Wrong(wrong)) => Err(fault_of(text, tokens, &cursor, wrong)),
     }
