@@ -1,4 +1,4 @@
-ghost use Rattle.std.specs.Prelude.{◌≡◌, map, string_bytes, Some, None, MatchResult, IfErr};
+ghost use Rattle.std.specs.Prelude.{◌≡◌, map, string_bytes, Some, None, MatchResult, Bool};
 ghost use Rattle.gr_top.specs.Causes.{status_of};
 ghost use Rattle.gr_top.specs.Outcomes.{Answers, Explains, IsPrinted, IsReplayOf, IsWritten, Prints, Stops, Stream, stream};
 ghost use Rattle.gr_top.specs.Words.{mode_of};

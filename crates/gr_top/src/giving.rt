@@ -1,4 +1,4 @@
-ghost use Rattle.std.specs.Prelude.{◌≡◌, ◌×◌, MatchResult, IfOk, Bool, true, List, ℕ};
+ghost use Rattle.std.specs.Prelude.{◌≡◌, MatchResult, IfOk, Bool, true};
 ghost use Rattle.gr_world.specs.Built.{is_built};
 ghost use Rattle.gr_top.specs.Outcomes.{IsGiven, IsWhole, Stops, stream};
 ghost use Rattle.gr_top.specs.declared.words.Mode.{Mode as AMode};

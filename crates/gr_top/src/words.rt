@@ -13,7 +13,11 @@ pub(crate) enum Mode {
 fn alone(place: u32, mode: Mode, words: &[String]) -> Result<Mode, u32>
     ensures { result ≡ alone place mode (map (λ word. string_bytes word) words.now) }
 {
-    if words.is_empty() { Ok(mode) } else { Err(place) }
+    if words.is_empty() {
+        Ok(mode)
+    } else {
+        Err(place)
+    }
 }
 
 fn behind_replay(words: &[String]) -> Result<Mode, u32>
