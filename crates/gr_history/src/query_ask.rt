@@ -6,20 +6,11 @@ use std::alloc::Global;
 #[derive(Drop)]
 pub enum QueryAsk {
     /// Opens the query.
-    Enrol {
-        name: Key,
-        query: Query,
-    },
-    Stop {
-        name: Key,
-    },
-    Close {
-        name: Key,
-    },
+    Enrol { name: Key, query: Query },
+    Stop { name: Key },
+    Close { name: Key },
     /// Asks for the events that wait.
-    Fetch {
-        name: Key,
-    },
+    Fetch { name: Key },
 }
 
 impl Copied for QueryAsk {

@@ -66,7 +66,7 @@ key_kept key other (first ∷ keys) a = at_order (slice_cmp nat_cmp other first)
     at_order Greater (inl is) next = inl is
     at_order Greater (inr a) next = inr (next a)
 
-key_of_change : (change : Change) (all : List Change) → Among change all → Among change.key (keys_of all)
+pub key_of_change : (change : Change) (all : List Change) → Among change all → Among change.key (keys_of all)
 key_of_change change [] a = absurd a
 key_of_change change (first ∷ rest) (inl is) =
     subst (λ c. Among c.key (keys_of (first ∷ rest))) (sym is) (key_added first.key (keys_of rest))

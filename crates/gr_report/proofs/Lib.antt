@@ -1,1 +1,3 @@
+pub mod Commas
+pub mod Gathered
 pub mod Lines

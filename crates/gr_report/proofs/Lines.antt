@@ -1,13 +1,12 @@
--- The lines of answers, one after another.
+-- Numbered texts, one after another.
 use Rattle.std.proofs.Common.{◌≡◌, ◌∙◌, ap, sym, ℕ, ◌+◌, List, [], ◌∷◌, ◌++◌, length, append_assoc, append-nil, add-zero, arith}
-use Rattle.gr_history.specs.declared.record.Answer.{Answer}
-use Rattle.gr_report.specs.Answers.{answer_line, answers_from}
+use Rattle.gr_report.specs.Texts.{texts_from}
 
-pub answers_from-push : (client seq : ℕ) (before : List Answer) (told : Answer)
-    → answers_from client seq (before ++ told ∷ []) ≡ answers_from client seq before ++ answer_line client (seq + length before) told
-answers_from-push client seq [] told = append-nil _ ∙ ap (λ n. answer_line client n told) (sym (add-zero seq))
-answers_from-push client seq (first ∷ before) told =
-    let later : seq + 1 + length before ≡ seq + length (first ∷ before) = omega arith in
-    ap (λ rest. answer_line client seq first ++ rest) (answers_from-push client (seq + 1) before told
-    ∙ ap (λ n. answers_from client (seq + 1) before ++ answer_line client n told) later)
-    ∙ sym (append_assoc (answer_line client seq first) (answers_from client (seq + 1) before) _)
+pub texts_from-push : {A : Type 0} → (text : ℕ → A → List ℕ) (number : ℕ) (before : List A) (item : A)
+    → texts_from text number (before ++ item ∷ []) ≡ texts_from text number before ++ text (number + length before) item
+texts_from-push text number [] item = append-nil _ ∙ ap (λ n. text n item) (sym (add-zero number))
+texts_from-push text number (first ∷ before) item =
+    let later : number + 1 + length before ≡ number + length (first ∷ before) = omega arith in
+    ap (λ rest. text number first ++ rest) (texts_from-push text (number + 1) before item
+    ∙ ap (λ n. texts_from text (number + 1) before ++ text n item) later)
+    ∙ sym (append_assoc (text number first) (texts_from text (number + 1) before) _)

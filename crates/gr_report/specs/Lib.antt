@@ -1,4 +1,9 @@
 pub mod Answers
 pub mod Counts
+pub mod Deeds
+pub mod Histories
 pub mod Regions
 pub mod Report
+pub mod Rows
+pub mod Shown
+pub mod Texts

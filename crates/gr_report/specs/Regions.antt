@@ -6,9 +6,9 @@ use Rattle.gr_stamp.specs.declared.change.Kind.{Kind}
 use Rattle.gr_stamp.specs.declared.change.Kind.TheVariants.{Put, Remove}
 use Rattle.gr_stamp.specs.Version.{Version}
 use Rattle.gr_history.specs.declared.record.MemberRecord.{MemberRecord}
-use Rattle.gr_history.specs.declared.record.ShardRecord.{ShardRecord}
 use Rattle.gr_report.specs.declared.counts.Counts.{Counts}
 use Rattle.gr_report.specs.Counts.{counts_of}
+use Rattle.gr_report.specs.Rows.{rows_of}
 
 abbrev pub stamp_text : Version → List ℕ
 stamp_text stamp = decimal stamp.ver ++ codes "." ++ decimal stamp.member ++ codes "." ++ decimal stamp.rv
@@ -30,10 +30,6 @@ member_line member counts =
     counted (codes "member ") member ++ counted (codes " entries ") counts.entries ++ counted (codes " tombstones ") counts.tombstones
     ++ counted (codes " conflated ") counts.conflated ++ counted (codes " repeats ") counts.repeats ++ codes "\n"
 
--- the rows of a shard
-abbrev pub shard_text : ShardRecord → List ℕ
-shard_text shard = flat_map row_line shard.region.rows
-
 abbrev pub member_text : MemberRecord → List ℕ
 member_text member_record =
-    member_line member_record.member (counts_of member_record.shards) ++ flat_map shard_text member_record.shards
+    member_line member_record.member (counts_of member_record.shards) ++ flat_map row_line (rows_of member_record.shards)

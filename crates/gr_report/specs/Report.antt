@@ -1,10 +1,17 @@
 -- The text of a record.
-use Rattle.std.specs.Prelude.{ℕ, List, ◌++◌, codes, flat_map}
+use Rattle.std.specs.Prelude.{ℕ, List, [], ◌++◌, codes, flat_map, Bool, true, false}
 use Rattle.gr_history.specs.declared.record.Record.{Record}
 use Rattle.gr_report.specs.Answers.{client_text}
+use Rattle.gr_report.specs.Histories.{histories_of}
 use Rattle.gr_report.specs.Regions.{member_text}
 
-abbrev pub record_text : Record → List ℕ
-record_text record_of =
+-- the histories, where they are asked for
+abbrev pub histories_text : Bool → Record → List ℕ
+histories_text false record_of = []
+histories_text true record_of = codes "histories\n" ++ flat_map histories_of record_of.members
+
+-- with or without the histories
+abbrev pub record_text : Bool → Record → List ℕ
+record_text histories record_of =
     codes "replies\n" ++ flat_map client_text record_of.clients ++ codes "regions\n" ++ flat_map member_text record_of.members
-    ++ codes "end\n"
+    ++ histories_text histories record_of ++ codes "end\n"

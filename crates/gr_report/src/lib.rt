@@ -3,9 +3,13 @@
 
 mod answers;
 mod counts;
+mod deeds;
+mod histories;
+mod lists;
 mod put;
 mod regions;
 mod reporting;
+mod rows;
 mod written;
 
 pub use put::{put_number, put_text};

@@ -1,4 +1,5 @@
 ghost use Rattle.std.specs.Prelude.{◌≡◌, ◌++◌, decimal, OnOk};
+ghost use Rattle.gr_report.specs.Regions.{counted};
 
 use gr_value::Memory;
 use itoa::{Buffer, Integer};
@@ -16,4 +17,12 @@ pub fn put_number(out: &mut Vec<u8>, number: u128) -> Result<(), Memory>
     ensures { OnOk result (out.new.items ≡ out.old.items ++ decimal number) }
 {
     put_text(out, Buffer::new().format(number))
+}
+
+/// Puts a word and a number behind it last.
+pub fn put_counted(out: &mut Vec<u8>, word: &str, number: u128) -> Result<(), Memory>
+    ensures { OnOk result (out.new.items ≡ out.old.items ++ counted word.now number) }
+{
+    put_text(out, word)?;
+    put_number(out, number)
 }

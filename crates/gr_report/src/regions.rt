@@ -1,15 +1,17 @@
-ghost use Rattle.std.specs.Prelude.{◌≡◌, ◌++◌, OnOk, flat_map};
-ghost use Rattle.gr_report.specs.Regions.{stamp_text, put_text as text_of_put, row_line, shard_text, counted, member_line, member_text};
+ghost use Rattle.std.specs.Prelude.{◌≡◌, ◌++◌, OnOk};
+ghost use Rattle.gr_report.specs.Regions.{stamp_text, put_text as text_of_put, row_line, member_line, member_text};
 
 use crate::counts::{Counts, count_all};
-use crate::put::{put_number, put_text};
-use crate::written::{Written, put_all};
-use gr_history::{MemberRecord, ShardRecord};
+use crate::put::{put_counted, put_number, put_text};
+use crate::rows::put_rows;
+use crate::written::Written;
+use gr_history::MemberRecord;
 use gr_stamp::{Change, Kind, Stamp};
 use gr_value::Memory;
 use std::alloc::Global;
 
-fn put_stamp(out: &mut Vec<u8>, stamp: &Stamp) -> Result<(), Memory>
+/// Puts a stamp last.
+pub fn put_stamp(out: &mut Vec<u8>, stamp: &Stamp) -> Result<(), Memory>
     ensures { OnOk result (out.new.items ≡ out.old.items ++ stamp_text stamp.now) }
 {
     put_number(out, u128::from(stamp.ver()))?;
@@ -42,21 +44,6 @@ impl Written for Change {
     }
 }
 
-impl Written for ShardRecord {
-    ghost text = { shard_text };
-
-    fn put(&self, alloc: Global, out: &mut Vec<u8>) -> Result<(), Memory> {
-        put_all(alloc, out, self.region.rows.as_slice())
-    }
-}
-
-fn put_counted(out: &mut Vec<u8>, word: &str, number: u128) -> Result<(), Memory>
-    ensures { OnOk result (out.new.items ≡ out.old.items ++ counted word.now number) }
-{
-    put_text(out, word)?;
-    put_number(out, number)
-}
-
 #[tactic(auto, unfolding(crate::specs::Regions::member_line))]
 fn put_member_line(out: &mut Vec<u8>, member: u8, counts: Counts) -> Result<(), Memory>
     ensures { OnOk result (out.new.items ≡ out.old.items ++ member_line member counts) }
@@ -74,6 +61,6 @@ impl Written for MemberRecord {
 
     fn put(&self, alloc: Global, out: &mut Vec<u8>) -> Result<(), Memory> {
         put_member_line(out, self.member, count_all(self.shards.as_slice()))?;
-        put_all(alloc, out, self.shards.as_slice())
+        put_rows(alloc, out, self.shards.as_slice())
     }
 }

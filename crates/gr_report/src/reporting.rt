@@ -1,21 +1,27 @@
 ghost use Rattle.std.specs.Prelude.{◌≡◌, IfOk};
 ghost use Rattle.gr_report.specs.Report.{record_text};
 
+use crate::histories::put_histories;
 use crate::put::put_text;
 use crate::written::put_all;
 use gr_history::Record;
 use gr_value::Memory;
 use std::alloc::Global;
 
-/// The text of a record: what each client was told, and what stands at each member.
-pub fn report(alloc: Global, record_of: &Record) -> Result<Vec<u8>, Memory>
-    ensures { IfOk result (λ text. text.items ≡ record_text record_of.now) }
+/// The text of a record: what each client was told, what stands at each member, and on demand all
+/// that happened at each shard.
+pub fn report(alloc: Global, record_of: &Record, histories: bool) -> Result<Vec<u8>, Memory>
+    ensures { IfOk result (λ text. text.items ≡ record_text histories record_of.now) }
 {
     let mut out = Vec::new(alloc);
     put_text(&mut out, "replies\n")?;
     put_all(alloc, &mut out, record_of.clients.as_slice())?;
     put_text(&mut out, "regions\n")?;
     put_all(alloc, &mut out, record_of.members.as_slice())?;
+    if histories {
+        put_text(&mut out, "histories\n")?;
+        put_histories(alloc, &mut out, record_of.members.as_slice())?;
+    }
     put_text(&mut out, "end\n")?;
     Ok(out)
 }

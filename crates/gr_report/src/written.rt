@@ -1,4 +1,5 @@
-ghost use Rattle.std.specs.Prelude.{◌≡◌, ◌++◌, ℕ, List, OnOk, flat_map};
+ghost use Rattle.std.specs.Prelude.{◌≡◌, ◌≤◌, ◌++◌, ℕ, List, OnOk, flat_map};
+ghost use Rattle.gr_report.specs.Texts.{texts_from};
 
 use gr_value::Memory;
 use std::alloc::Global;
@@ -19,6 +20,33 @@ pub fn put_all<T: Written>(alloc: Global, out: &mut Vec<u8>, items: &[T]) -> Res
 {
     for item in items {
         item.put(alloc, out)?;
+    }
+    Ok(())
+}
+
+/// What has a text that names its owner and its number among the owner's.
+pub trait Numbered {
+    // Its text, of this owner and number.
+    ghost text: { ℕ → ℕ → Self → List ℕ };
+
+    /// Puts its text last.
+    fn put_as(&self, alloc: Global, out: &mut Vec<u8>, owner: u8, number: u64) -> Result<(), Memory>
+        ensures { OnOk result (out.new.items ≡ out.old.items ++ text owner number self.now) };
+}
+
+/// Puts the texts of all that an owner has last, in order, numbered from this number.
+pub fn put_numbered<T: Numbered>(
+    alloc: Global,
+    out: &mut Vec<u8>,
+    owner: u8,
+    first: u64,
+    items: &[T],
+) -> Result<(), Memory>
+    requires { first ≤ 1 }
+    ensures { OnOk result (out.new.items ≡ out.old.items ++ texts_from (T.text owner) first items.now) }
+{
+    for (place, item) in items.iter().enumerate() {
+        item.put_as(alloc, out, owner, place as u64 + first)?;
     }
     Ok(())
 }

@@ -3,8 +3,9 @@ use Rattle.std.specs.Prelude.{◌≡◌, ℕ, ◌≤◌, List, length}
 use Rattle.gr_script.specs.declared.forms.LineKind.TheVariants as kind
 use Rattle.gr_script.specs.declared.items.Setting.{Setting}
 use Rattle.gr_script.specs.declared.past.Counted.{Counted}
+use Rattle.gr_script.specs.declared.past.Sizes.{Sizes}
 use Rattle.gr_script.specs.declared.saying.Saying.{Saying}
-use Rattle.gr_script.specs.Past.{setting, founders, homes, stage, count_of, queries, steps, reports, joins}
+use Rattle.gr_script.specs.Past.{setting, founders, sizes, homes, stage, count_of, queries, steps, reports, joins}
 use Rattle.gr_script.specs.Tallies.{count_in, Counts}
 
 -- the most lines of a script
@@ -22,11 +23,12 @@ counted past = record {
 }
 
 -- What is kept is what the earlier lines say.
-pub record IsIndex (stage_now : ℕ) (held : Setting) (founders_now : ℕ) (homes_now : List ℕ)
+pub record IsIndex (stage_now : ℕ) (held : Setting) (founders_now : ℕ) (sizes_now : Sizes) (homes_now : List ℕ)
     (step_counts report_counts join_counts : Counts) (lines : Counted) (past : List Saying) : Type 0 where
   pub staged : stage_now ≡ stage past
   pub set : held ≡ setting past
   pub founded : founders_now ≡ founders past
+  pub sized : sizes_now ≡ sizes past
   pub homed : homes_now ≡ homes past
   pub stepped : (client : ℕ) → count_in step_counts client ≡ steps client past
   pub reported : (member : ℕ) → count_in report_counts member ≡ reports member past

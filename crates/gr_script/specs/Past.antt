@@ -7,6 +7,7 @@ use Rattle.gr_script.specs.declared.forms.LineKind.TheVariants as kind
 use Rattle.gr_script.specs.declared.items.Item.{Item}
 use Rattle.gr_script.specs.declared.items.Item.TheVariants.{Number, Member, Client, Ordinal, Step, Key}
 use Rattle.gr_script.specs.declared.items.Setting.{Setting}
+use Rattle.gr_script.specs.declared.past.Sizes.{Sizes}
 use Rattle.gr_script.specs.declared.saying.Saying.{Saying}
 use Rattle.gr_script.specs.Forms.{rank, is_step, is_kind}
 
@@ -47,6 +48,22 @@ members past = stated kind.Members 0 past
 
 abbrev pub founders : List Saying → ℕ
 founders past = stated kind.Members 1 past
+
+abbrev pub shards : List Saying → ℕ
+shards past = stated kind.Shards 0 past
+
+abbrev pub inbox : List Saying → ℕ
+inbox [] = 16
+inbox (line ∷ past) = if is_kind kind.Inbox line.kind then number 0 line.items else inbox past
+
+abbrev pub trouble : List Saying → ℕ
+trouble past = stated kind.Trouble 0 past
+
+abbrev pub floor : List Saying → ℕ
+floor past = stated kind.Floor 0 past
+
+abbrev pub sizes : List Saying → Sizes
+sizes past = record { shards = shards past; inbox = inbox past; trouble = trouble past; floor = floor past }
 
 -- the member of each client
 abbrev pub homes : List Saying → List ℕ

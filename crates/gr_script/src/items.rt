@@ -5,9 +5,9 @@ ghost use Rattle.gr_script.specs.Texts.{cut};
 
 use crate::forms::FieldKind;
 use crate::halt::Halt;
-use crate::heading::is_region;
 use crate::numeral::number_of;
 use crate::reason::Reason;
+use crate::region::is_region;
 use crate::{layout, text};
 use gr_oql::Query;
 use gr_value::{ItemList, Key, Value};

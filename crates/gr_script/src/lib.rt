@@ -1,38 +1,38 @@
 //! Scripts: what a run is asked to do, read from a text.
 #![tactic(auto)]
 
-mod act;
 mod cuts;
 mod ending;
-mod fault;
-mod field;
 mod form;
 mod forms;
 mod halt;
-mod heading;
 mod items;
 mod layout;
 mod line;
+
 mod note;
+mod numbering;
 mod numeral;
+mod parts;
 mod past;
 mod piece;
 mod reading;
 mod reason;
 mod refusal;
+mod region;
+mod said;
 mod saying;
 mod sayings;
 mod script;
-mod stop;
 mod tally;
+mod telling;
 mod text;
-mod word;
 
-pub use fault::{Reason, ScriptEnd, ScriptFault};
+pub use ending::{ScriptEnd, ScriptFault};
 pub use form::Form;
 pub use line::{Act, Line, LineList, Step, StepList};
+pub use numbering::line_number;
 pub use reading::read;
+pub use reason::Reason;
 pub use script::{MemberNumberList, Script};
 
-#[cfg(test)]
-mod tests;

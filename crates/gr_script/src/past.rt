@@ -1,17 +1,21 @@
-ghost use Rattle.std.specs.Prelude.{◌≡◌, ◌<◌, [], ◌∷◌, List, length, IfOk};
+ghost use Rattle.std.specs.Prelude.{◌≡◌, ◌<◌, ℕ, [], ◌∷◌, List, length, reverse, IfOk};
+ghost use Rattle.gr_script.specs.Tallies.{count_in};
 ghost use Rattle.gr_script.specs.Index.{most_lines, counted};
 ghost use Rattle.gr_script.specs.declared.saying.Saying.{Saying};
-ghost use Rattle.gr_script.specs.Past.{stage, founders, clients, steps, reports, joins, homes as homes_of, home, setting};
+ghost use Rattle.gr_script.specs.Past.{stage, region, members, founders, clients, steps, reports, joins, homes as homes_of, home, setting, sizes};
 
 use crate::forms::{LineKind, is_kind, is_step};
 use crate::items::Setting;
 use crate::note::{counted, homes_with, is_query, next_rank, region_with, stated_with};
 use crate::saying::{Saying, number};
-use crate::tally::{count_in, counts_with};
-use gr_value::{ItemList, Memory};
+use crate::tally::{count_in as count_of, counts_with};
+use gr_value::{ItemList, Key, Memory};
 use std::alloc::Global;
 use std::collections::BTreeMap;
 use std::marker::Model;
+
+/// How many mails an inbox has room for, where no line states it.
+const DEFAULT_INBOX: u128 = 16;
 
 /// How many lines of some kinds there are.
 #[derive(Clone, Copy)]
@@ -23,6 +27,15 @@ pub(crate) struct Counted {
     pub(crate) queries: u32,
 }
 
+/// Numbers of the heading that no line is compared with.
+#[derive(Clone, Copy)]
+pub(crate) struct Sizes {
+    pub(crate) shards: u128,
+    pub(crate) inbox: u128,
+    pub(crate) trouble: u128,
+    pub(crate) floor: u128,
+}
+
 /// What the earlier lines of a script say, which contracts see as these, the last one first. The
 /// rest is kept so that none of them is looked at again.
 #[derive(Drop)]
@@ -31,11 +44,25 @@ pub(crate) struct Past {
     stage: u8,
     setting: Setting,
     founders: u128,
+    sizes: Sizes,
     homes: ItemList<u128>,
     steps: BTreeMap<u128, u32>,
     reports: BTreeMap<u128, u32>,
     joins: BTreeMap<u128, u32>,
     counted: Counted,
+}
+
+/// What a script is made of, once all its lines are read.
+#[derive(Drop)]
+pub(crate) struct Told {
+    pub(crate) sayings: ItemList<Saying>,
+    pub(crate) region: Option<Key>,
+    pub(crate) members: u128,
+    pub(crate) founders: u128,
+    pub(crate) sizes: Sizes,
+    pub(crate) homes: ItemList<u128>,
+    /// How many steps each client has.
+    pub(crate) steps: BTreeMap<u128, u32>,
 }
 
 impl Model for Past {
@@ -51,7 +78,8 @@ impl Model for Past {
 
     ghost view = { λ past. reverse past.sayings };
 
-    ghost invariant = { λ past. IsIndex past.stage past.setting past.founders past.homes past.steps past.reports past.joins past.counted (reverse past.sayings) };
+    ghost invariant = { λ past. IsIndex past.stage past.setting past.founders past.sizes past.homes past.steps past.reports past.joins past.counted
+        (reverse past.sayings) };
 }
 
 impl Past {
@@ -71,11 +99,18 @@ impl Past {
             opens: 0,
             queries: 0,
         };
+        let sizes = Sizes {
+            shards: 0,
+            inbox: DEFAULT_INBOX,
+            trouble: 0,
+            floor: 0,
+        };
         Ok(Past {
             sayings: ItemList::new(alloc)?,
             stage: 0,
             setting,
             founders: 0,
+            sizes,
             homes: ItemList::new(alloc)?,
             steps: BTreeMap::new(alloc),
             reports: BTreeMap::new(alloc),
@@ -128,25 +163,47 @@ impl Past {
     pub(crate) fn steps(&self, client: u128) -> u32
         ensures { result ≡ steps client self.now }
     {
-        count_in(&self.steps, client)
+        count_of(&self.steps, client)
     }
 
     pub(crate) fn reports(&self, member: u128) -> u32
         ensures { result ≡ reports member self.now }
     {
-        count_in(&self.reports, member)
+        count_of(&self.reports, member)
     }
 
     pub(crate) fn joins(&self, member: u128) -> u32
         ensures { result ≡ joins member self.now }
     {
-        count_in(&self.joins, member)
+        count_of(&self.joins, member)
     }
 
     pub(crate) fn counted(&self) -> Counted
         ensures { result ≡ counted self.now }
     {
         self.counted
+    }
+
+    /// The lines and what is kept of them, taken apart.
+    pub(crate) fn into_told(self) -> Told
+        ensures sayings { reverse result.sayings ≡ self }
+        ensures region { result.region ≡ region self }
+        ensures members { result.members ≡ members self }
+        ensures founders { result.founders ≡ founders self }
+        ensures sizes { result.sizes ≡ sizes self }
+        ensures homes { result.homes ≡ homes_of self }
+        ensures steps { (client : ℕ) → count_in result.steps client ≡ steps client self }
+    {
+        let setting = self.setting;
+        Told {
+            sayings: self.sayings,
+            region: setting.region,
+            members: setting.members,
+            founders: self.founders,
+            sizes: self.sizes,
+            homes: self.homes,
+            steps: self.steps,
+        }
     }
 
     /// These lines and one more.
@@ -159,6 +216,7 @@ impl Past {
         let homes = homes_with(&line, self.homes)?;
         let setting = setting_with(alloc, &line, self.setting, &homes)?;
         let founders = stated_with(LineKind::Members, 1, &line, self.founders);
+        let sizes = sizes_with(&line, self.sizes);
         let steps = counts_with(self.steps, is_step(kind), first)?;
         let reports = counts_with(self.reports, is_kind(LineKind::Report, kind), first)?;
         let joins = counts_with(self.joins, is_kind(LineKind::Join, kind), first)?;
@@ -170,6 +228,7 @@ impl Past {
             stage: next_rank(kind),
             setting,
             founders,
+            sizes,
             homes,
             steps,
             reports,
@@ -206,5 +265,16 @@ fn counted_with(line: &Saying, counts: Counted) -> Counted
         sweeps: counted(is_kind(LineKind::Sweep, kind), counts.sweeps),
         opens: counted(is_kind(LineKind::Open, kind), counts.opens),
         queries: counted(is_query(kind), counts.queries),
+    }
+}
+
+fn sizes_with(line: &Saying, before: Sizes) -> Sizes
+    ensures { (past : List Saying) → before ≡ sizes past → result ≡ sizes (line.now ∷ past) }
+{
+    Sizes {
+        shards: stated_with(LineKind::Shards, 0, line, before.shards),
+        inbox: stated_with(LineKind::Inbox, 0, line, before.inbox),
+        trouble: stated_with(LineKind::Trouble, 0, line, before.trouble),
+        floor: stated_with(LineKind::Floor, 0, line, before.floor),
     }
 }

@@ -1,5 +1,5 @@
 ghost use Rattle.std.specs.Prelude.{◌≡◌};
-ghost use Rattle.gr_script.specs.ReasonNames.{number_of, name_of};
+ghost use Rattle.gr_script.specs.Reasons.{number_of, name_of};
 
 /// Why a line is refused, in the order of the reasons' numbers. A number beside a reason says which
 /// header line was due, or which fault a key, a value or a query has, counted from 1.
@@ -27,6 +27,8 @@ pub enum Reason {
     Itself,
     Count,
     NotInRun,
+    /// What the line says isn't built yet. Reading never gives it.
+    NotBuilt,
 }
 
 impl Reason {
@@ -52,6 +54,7 @@ impl Reason {
             Reason::Itself => 16,
             Reason::Count => 17,
             Reason::NotInRun => 18,
+            Reason::NotBuilt => 99,
         }
     }
 
@@ -77,6 +80,7 @@ impl Reason {
             Reason::Itself => "Self",
             Reason::Count => "Count",
             Reason::NotInRun => "NotInRun",
+            Reason::NotBuilt => "NotBuilt",
         }
     }
 }

@@ -1,4 +1,4 @@
-ghost use Rattle.std.specs.Prelude.{◌≡◌, ℕ, ◌+◌, ◌<◌, ◌^◌, ◌&&◌, ◌==◌, if◌then◌else◌, IfOk};
+ghost use Rattle.std.specs.Prelude.{◌≡◌, ℕ, ◌+◌, ◌≤◌, ◌<◌, ◌^◌, true, ◌&&◌, ◌==◌, if◌then◌else◌, IfOk};
 ghost use Rattle.gr_script.specs.Tallies.{count_in};
 
 use gr_value::Memory;
@@ -28,6 +28,24 @@ pub(crate) fn counts_with(
     }
     let mut counts = counts;
     let count = count_in(&counts, number) + 1;
+    counts.insert(number, count)?;
+    Ok(counts)
+}
+
+/// The counts with one line of this number less, where the test holds.
+pub(crate) fn counts_without(
+    counts: BTreeMap<u128, u32>,
+    test: bool,
+    number: u128,
+) -> Result<BTreeMap<u128, u32>, Memory>
+    requires { test ≡ true → 1 ≤ count_in counts number }
+    ensures { IfOk result (λ fewer. (n : ℕ) → (if test && number == n then 1 else 0) + count_in fewer n ≡ count_in counts n) }
+{
+    if !test {
+        return Ok(counts);
+    }
+    let mut counts = counts;
+    let count = count_in(&counts, number) - 1;
     counts.insert(number, count)?;
     Ok(counts)
 }

@@ -1,6 +1,6 @@
 -- What a call makes, and whom it goes to.
 use Rattle.std.proofs.Common.{◌≡◌, ◌∙◌, ap, sym, refl, ℕ, ◌+◌, ◌^◌, ◌<◌, ◌≤◌, List, Bool, true, false, if◌then◌else◌, nat_le, max, Option}
-use Rattle.std.proofs.Common.{Some, None, option_map, option_and_then, add-one, add-zero, arith, add_comm}
+use Rattle.std.proofs.Common.{Some, None, option_and_then, add-one, add-zero, arith, add_comm}
 use Rattle.std.proofs.lemmas.Bool.Decides.{nat_tests}
 use Rattle.gr_stamp.specs.declared.change.Change.{Change}
 use Rattle.gr_stamp.specs.declared.change.Kind.{Kind}
@@ -9,18 +9,21 @@ use Rattle.gr_stamp.specs.Version.{Version, IsInRange}
 use Rattle.gr_stamp.specs.Winner.{put_value}
 use Rattle.gr_history.specs.declared.identity.Identity.{Identity}
 use Rattle.gr_history.specs.declared.reply.Reply.{Reply}
-use Rattle.gr_history.specs.declared.reply.Reply.TheVariants.{Limit}
+use Rattle.gr_history.specs.declared.reply.Reply.TheVariants.{Limit, NotReady}
 use Rattle.gr_history.specs.declared.deed.Deed.{Deed}
 use Rattle.gr_history.specs.declared.done.Done.{Done}
 use Rattle.gr_vector.specs.Ids.{top}
 use Rattle.gr_history.specs.declared.ask.Ask.{Ask}
-use Rattle.gr_history.specs.Ids.{ids}
-use Rattle.gr_history.specs.Standing.{standing}
+use Rattle.gr_history.specs.Ids.{ids, known}
+use Rattle.gr_law.proofs.Lists.{known_ids}
+use Rattle.gr_vector.proofs.Same.{same_top}
+use Rattle.gr_history.specs.Asks.{key_of, told}
+use Rattle.gr_history.specs.Verdicts.{verdict_over}
+use Rattle.gr_history.specs.Standing.{standing, present}
 use Rattle.gr_history.specs.Floor.{floor}
 use Rattle.gr_history.specs.Recipients.{member_bits, recipients, is_ready}
-use Rattle.gr_history.specs.Calls.{ver_of, reach, last_rv, made_change, given, ready_gives, call_gives}
-use Rattle.gr_shard.specs.Entries.{held_of, held_ver}
-use Rattle.gr_shard.specs.View.{IsPlace}
+use Rattle.gr_history.specs.Calls.{ver_of, reach, last_rv, made_change, given, ready_gives, call_gives, nothing_made}
+use Rattle.gr_shard.specs.Entries.{slot_of, slot_ver, verdict_at}
 
 -- The bits of one member more: its own bit is there where the member passes the test.
 bits_at : (test : ℕ → Bool) (n bit : ℕ) → bit ≡ 2 ^ n → member_bits test (n + 1) ≡ member_bits test n + (if test (n + 1) then bit else 0)
@@ -39,14 +42,24 @@ member_bits-unset test n to bit so_far is unset = so_far
 pub power-one_more : (n : ℕ) → 2 ^ (n + 1) ≡ 2 ^ n + 2 ^ n
 power-one_more n = rw add-one (omega arith)
 
-pub held_ver-held_of : (held : Option Change) → held_ver (option_map held_of held) ≡ ver_of held
-held_ver-held_of None = refl
-held_ver-held_of (Some change) = refl
+pub slot_ver-slot_of : (stands : Option Change) (since : ℕ) → slot_ver (slot_of stands since) ≡ ver_of stands
+slot_ver-slot_of None since = refl
+slot_ver-slot_of (Some change) since = refl
 
-pub value-held_of : (held : Option Change)
-    → option_and_then (λ h. put_value h.kind) (option_map held_of held) ≡ option_and_then (λ change. put_value change.kind) held
-value-held_of None = refl
-value-held_of (Some change) = refl
+pub value-slot_of : (stands : Option Change) (since : ℕ)
+    → option_and_then (λ slot. put_value slot.kind) (slot_of stands since) ≡ option_and_then (λ change. put_value change.kind) stands
+value-slot_of None since = refl
+value-slot_of (Some change) since = refl
+
+pub verdict-slot_of : (known : Bool) (stands : Option Change) (since : ℕ) (change : Change)
+    → verdict_at known (slot_of stands since) change.stamp ≡ verdict_over known stands change
+verdict-slot_of true stands since change = refl
+verdict-slot_of false None since change = refl
+verdict-slot_of false (Some before) since change = refl
+
+-- a member's last region version, told by the vector
+pub top_known : (member : ℕ) (past : List Deed) → top member (known past) ≡ top member (ids past)
+top_known member past = same_top member (known past) (ids past) (known_ids (known past) past refl)
 
 -- Where no number would pass its limit, this is made.
 pub given-made : (id : Identity) (opening : ℕ) (past : List Deed) (key : List ℕ) (reply : Reply) (kind : Kind) (version : Version)
@@ -145,13 +158,20 @@ pub spent_here : (id : Identity) (opening : ℕ) (past : List Deed) (key : List 
 spent_here id opening past key reply kind base made base_is made_is from to out =
     given-spent id opening past key reply kind (not_in_range id opening past key base made _ base_is made_is from to out refl)
 
--- All members are founders, so each is ready.
-pub ready_here : (id : Identity) (opening : ℕ) (past : List Deed) → IsPlace id opening → is_ready id past ≡ true
-ready_here id opening past place =
-    let within : id.member ≤ id.founders = omega (arith, place.stated, place.founded) in
-    let founder : nat_le id.member id.founders ≡ true = grind (arith, nat_tests) in
-    rw founder refl
+-- What a call made, where one made something.
+pub made_by_call : (id : Identity) (opening : ℕ) (past : List Deed) (ask : Ask) (reply : Reply) (change : Change) (to : ℕ)
+    → record { reply = reply; made = Some change; to = to } ≡ call_gives id opening past ask → IsMade id opening past (key_of ask) change
+made_by_call id opening past ask reply change to gives = at_ready (is_ready id past) refl
+  where
+    done : Done
+    done = record { reply = reply; made = Some change; to = to }
 
-pub ready_call : (id : Identity) (opening : ℕ) (past : List Deed) (ask : Ask) → is_ready id past ≡ true
-    → call_gives id opening past ask ≡ ready_gives id opening past ask
-ready_call id opening past ask ready = rw ready refl
+    at_ready : (b : Bool) → is_ready id past ≡ b → IsMade id opening past (key_of ask) change
+    at_ready true ready =
+        let answer = told ask (present (key_of ask) past) in
+        let is : done ≡ ready_gives id opening past ask =
+        gives ∙ ap (λ b. if b then ready_gives id opening past ask else nothing_made NotReady) ready in
+        made_by_given id opening past (key_of ask) answer.reply answer.change change (ap (λ d. d.made) (sym is))
+    at_ready false ready =
+        absurd (let is : Some change ≡ None =
+        ap (λ d. d.made) (gives ∙ ap (λ b. if b then ready_gives id opening past ask else nothing_made NotReady) ready) in cc)

@@ -6,17 +6,17 @@ use Rattle.std.proofs.lemmas.List.Filters.{length-filter_both}
 use Rattle.std.proofs.lemmas.List.Sums.{length-filter}
 use Rattle.gr_stamp.specs.declared.change.Change.{Change}
 use Rattle.gr_history.specs.Floor.{is_removal}
-use Rattle.gr_shard.specs.declared.entries.Held.{Held}
+use Rattle.gr_slots.specs.declared.slot.Slot.{Slot}
 use Rattle.gr_shard.specs.Entries.{change_of, changes_in, puts_of, removals_of}
 
 pub puts_of-push : (changes : List Change) (change : Change) → puts_of (changes ++ change ∷ []) ≡ puts_of changes ++ puts_of (change ∷ [])
 puts_of-push changes change = filter-append (λ c. not (is_removal c.kind)) changes (change ∷ [])
 
-pub changes_in-push : (entries : List (List ℕ × Held)) (key : List ℕ) (held : Held)
-    → changes_in (entries ++ (key, held) ∷ []) ≡ changes_in entries ++ change_of key held ∷ []
-changes_in-push entries key held = map-append _ entries ((key, held) ∷ [])
+pub changes_in-push : (entries : List (List ℕ × Slot)) (key : List ℕ) (slot : Slot)
+    → changes_in (entries ++ (key, slot) ∷ []) ≡ changes_in entries ++ change_of key slot ∷ []
+changes_in-push entries key slot = map-append _ entries ((key, slot) ∷ [])
 
-pub length-changes_in : (entries : List (List ℕ × Held)) → length (changes_in entries) ≡ length entries
+pub length-changes_in : (entries : List (List ℕ × Slot)) → length (changes_in entries) ≡ length entries
 length-changes_in entries = length-map entries _
 
 not_not : (b : Bool) → not (not b) ≡ b

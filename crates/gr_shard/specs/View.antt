@@ -1,19 +1,17 @@
 -- A shard as contracts see it, and how what it keeps is tied to its history.
-use Rattle.std.specs.Prelude.{◌≡◌, ℕ, ◌≤◌, ◌<◌, List, false, option_map}
-use Rattle.std.specs.Ordering.{nat_cmp}
-use Rattle.std.specs.Cmp.Lexicographic.{slice_cmp}
-use Rattle.std.specs.BTreeMap.{get, keys}
+use Rattle.std.specs.Prelude.{◌≡◌, ℕ, ◌≤◌, ◌<◌, List, Bool}
 use Rattle.gr_stamp.specs.declared.stamp.TheConstants.{LIMIT}
 use Rattle.gr_history.specs.declared.identity.Identity.{Identity}
 use Rattle.gr_history.specs.declared.deed.Deed.{Deed}
 use Rattle.gr_vector.specs.Ids.{Id, top}
 use Rattle.gr_history.specs.Ids.{ids, known}
-use Rattle.gr_history.specs.Standing.{standing, changes}
+use Rattle.gr_history.specs.Standing.{standing}
 use Rattle.gr_history.specs.Floor.{floor as floor_of}
-use Rattle.gr_history.specs.Recipients.{has_image, gave_to}
+use Rattle.gr_history.specs.Clock.{clock as clock_of, since}
+use Rattle.gr_history.specs.Recipients.{has_image, recipients}
 use Rattle.gr_history.specs.Lawful.{IsLawful, IsOfShard}
-use Rattle.gr_history.specs.Regions.{keys_of}
-use Rattle.gr_shard.specs.Entries.{Entries, held_of}
+use Rattle.gr_slots.specs.Slots.{Entries, slot_at}
+use Rattle.gr_shard.specs.Entries.{slot_of}
 
 -- whose shard it is, the floor that it began with, and its deeds, the oldest first
 pub record Account : Type 0 where
@@ -21,31 +19,47 @@ pub record Account : Type 0 where
   pub opening : ℕ
   pub deeds : List Deed
 
--- What an identity and an opening floor may be. All members are founders.
+-- What an identity and an opening floor may be.
 pub record IsPlace (id : Identity) (opening : ℕ) : Type 0 where
   pub some_member : 1 ≤ id.member
   pub stated : id.member ≤ id.members
   pub few : id.members ≤ 8
-  pub founded : id.founders ≡ id.members
+  pub founded : id.founders ≤ id.members
   pub shard : id.shard < id.shards
   pub shards : id.shards ≤ 32
   pub opening_floor : opening ≤ LIMIT
 
--- no image was merged, and nobody was given anything
-pub record IsQuiet (past : List Deed) : Type 0 where
-  pub no_image : has_image past ≡ false
-  pub no_gift : (member : ℕ) → gave_to member past ≡ false
+-- what a shard keeps beside its history
+pub record Kept : Type 0 where
+  pub slots : Entries
+  pub vector : List Id
+  pub floor : ℕ
+  pub clock : ℕ
+  -- an image was merged
+  pub joined : Bool
+  -- the members that a change goes to
+  pub to : ℕ
 
--- What is kept is what stands after the past, which is lawful and of this shard's keys, and the ids that are known.
-pub record IsKept (id : Identity) (opening floor : ℕ) (entries : Entries) (made : ℕ) (vector : List Id) (past : List Deed) : Type 0 where
-  pub quiet : IsQuiet past
+abbrev pub kept : Entries → List Id → ℕ → ℕ → Bool → ℕ → Kept
+kept slots vector floor clock joined to = record {
+  slots = slots;
+  vector = vector;
+  floor = floor;
+  clock = clock;
+  joined = joined;
+  to = to;
+}
+
+-- What is kept is what the history says, which is lawful and of this shard's keys.
+pub record IsKept (id : Identity) (opening : ℕ) (now : Kept) (past : List Deed) : Type 0 where
   pub place : IsPlace id opening
   pub lawful : IsLawful id opening past
   pub of_shard : IsOfShard id past
-  pub stands : (key : List ℕ) → get (slice_cmp nat_cmp) entries key ≡ option_map held_of (standing key past)
-  pub in_order : keys entries ≡ keys_of (changes past)
-  pub counted : made ≡ top id.member (ids past)
-  pub noted : vector ≡ known past
-  pub within : made ≤ LIMIT
-  pub floored : floor ≡ floor_of opening past
-  pub low : floor ≤ LIMIT
+  pub stands : (key : List ℕ) → slot_at key now.slots ≡ slot_of (standing key past) (since key past)
+  pub noted : now.vector ≡ known past
+  pub within : top id.member (ids past) ≤ LIMIT
+  pub floored : now.floor ≡ floor_of opening past
+  pub low : now.floor ≤ LIMIT
+  pub clocked : now.clock ≡ clock_of past
+  pub imaged : now.joined ≡ has_image past
+  pub aimed : now.to ≡ recipients id past

@@ -1,7 +1,7 @@
 //! One shard of one member: its history, and what stands after it.
 #![tactic(auto)]
 
-mod entries;
+mod entering;
 mod making;
 mod regions;
 mod shard;

@@ -1,26 +1,26 @@
-ghost use Rattle.std.specs.Prelude.{◌≡◌, ◌<◌, ◌≤◌, ◌+◌, ◌^◌, List, false, IfOk, length};
-ghost use Rattle.std.specs.Option.{option_to_list};
-ghost use Rattle.gr_history.specs.declared.deed.Deed.{Deed as DeedOf};
+ghost use Rattle.std.specs.Prelude.{◌≡◌, ◌≤◌, [], Some, IfOk, option_copied};
 ghost use Rattle.gr_history.specs.declared.deed.Deed.TheVariants as deed;
-ghost use Rattle.gr_history.specs.Recipients.{gave_to, is_recipient, recipients};
+ghost use Rattle.gr_history.specs.Recipients.{is_recipient, recipients};
+ghost use Rattle.gr_history.specs.Calls.{nothing_made};
+ghost use Rattle.gr_stamp.specs.declared.change.Change.{Change as ChangeOf};
+ghost use Rattle.gr_stamp.specs.declared.stamp.TheConstants.{LIMIT};
 ghost use Rattle.gr_shard.specs.Entries.{with_made};
-ghost use Rattle.gr_shard.specs.View.{IsQuiet};
 
-use gr_history::{Ask, Deed, Done, Identity};
+use gr_history::{Ask, Deed, Done, Identity, Reply};
 use gr_stamp::Change;
 use gr_value::{Copied, Memory};
 use gr_vector::Vector;
 use std::alloc::Global;
 
 fn is_recipient(id: Identity, member: u8) -> bool
-    ensures { (past : List DeedOf) → gave_to member past ≡ false → result ≡ is_recipient id past member }
+    ensures { result ≡ is_recipient id [] member }
 {
     member <= id.founders && member != id.member
 }
 
-/// The members that a change of this shard goes to, with bit m - 1 for member m.
+/// The members that a change goes to while nobody was given anything, with bit m - 1 for member m.
 pub fn recipients(id: Identity) -> u8
-    ensures { (past : List DeedOf) → IsQuiet past → result ≡ recipients id past }
+    ensures { result ≡ recipients id [] }
 {
     let (mut to, mut bit) = (0u16, 1u16);
     for below in 0..8u8 {
@@ -32,24 +32,25 @@ pub fn recipients(id: Identity) -> u8
     to as u8
 }
 
-/// How many changes were made, with this one.
-pub fn count_with(count: u64, made: &Option<Change>) -> u64
-    requires { count < 2 ^ 63 }
-    ensures { result ≡ count + length (option_to_list made.now) }
-{
-    match made {
-        None => count,
-        Some(_) => count + 1,
-    }
-}
-
-/// Notes what was made, for which there is room.
-pub fn note_made(vector: &mut Vector, made: &Option<Change>)
+/// Notes what was made or taken in, for which there is room.
+pub fn note(vector: &mut Vector, made: Option<&Change>)
     requires { 1 ≤ vector.old.spare }
-    ensures { vector.new.ids ≡ with_made made.now vector.old.ids }
+    ensures ids { vector.new.ids ≡ with_made (option_copied made.entry) vector.old.ids }
+    ensures within { (change : ChangeOf) → option_copied made.entry ≡ Some change → change.stamp.rv ≤ LIMIT }
 {
     if let Some(change) = made {
         let _ = vector.note(change.stamp.member(), change.stamp.rv());
+    }
+}
+
+/// A reply beside which nothing is made.
+pub fn nothing_made(reply: Reply) -> Done
+    ensures { result ≡ nothing_made reply }
+{
+    Done {
+        reply,
+        made: None,
+        to: 0,
     }
 }
 

@@ -1,27 +1,32 @@
-ghost use Rattle.std.specs.Prelude.{◌≡◌, ◌≤◌, ◌<◌, ◌==◌, [], ◌∷◌, ◌++◌, reverse, max, Some, IfOk, OnOk, OnErr, option_copied, option_and_then, nat_le};
+ghost use Rattle.std.specs.Prelude.{◌≡◌, ◌≤◌, ◌<◌, ◌==◌, [], ◌∷◌, ◌++◌, reverse, max, Some, IfOk, OnOk, OnErr, option_copied};
+ghost use Rattle.std.specs.Prelude.{option_and_then, nat_le, List, ℕ};
 ghost use Rattle.gr_value.specs.Shard.{shard_of};
 ghost use Rattle.gr_history.specs.declared.deed.Deed.TheVariants as deed;
+ghost use Rattle.gr_slots.specs.Slots.{slot_at};
+ghost use Rattle.gr_history.specs.Ids.{known};
 ghost use Rattle.gr_history.specs.Asks.{key_of};
-ghost use Rattle.gr_history.specs.Calls.{call_gives, ready_gives, given, ver_of};
+ghost use Rattle.gr_history.specs.Calls.{call_gives, given, ver_of};
 ghost use Rattle.gr_history.specs.Lawful.{IsLawful, IsOfShard};
 ghost use Rattle.gr_history.specs.Standing.{standing, present};
 ghost use Rattle.gr_history.specs.Floor.{floor};
+ghost use Rattle.gr_history.specs.Clock.{since};
+ghost use Rattle.gr_history.specs.Verdicts.{verdict};
 ghost use Rattle.gr_history.specs.Recipients.{is_ready};
 ghost use Rattle.gr_stamp.specs.Winner.{put_value};
-ghost use Rattle.gr_shard.specs.Entries.{held_ver};
+ghost use Rattle.gr_shard.specs.Entries.{slot_of, slot_ver};
 ghost use Rattle.gr_shard.specs.Records.{IsRecordOf};
 ghost use Rattle.gr_shard.specs.View.{IsPlace};
 
-use crate::entries::{Held, enter, value_of, ver_of};
-use crate::making::{count_with, deed_of, note_made, recipients};
+use crate::entering::{applied, enter, value_of, ver_of, verdict_at};
+use crate::making::{deed_of, note, nothing_made, recipients};
 use crate::regions::region;
 use crate::told::tells;
-use gr_history::{Ask, Done, History, Identity, Reply, ShardRecord, Told};
+use gr_history::{Ask, Deed, Done, History, Identity, Reply, ShardRecord, Told, Verdict};
+use gr_slots::{Slot, Slots};
 use gr_stamp::{Change, Kind, LIMIT, Stamp};
 use gr_value::{Copied, Key, Memory, Value};
 use gr_vector::Vector;
 use std::alloc::Global;
-use std::collections::BTreeMap;
 use std::marker::Model;
 
 /// One shard of one member. Contracts see its identity, the floor that it began with, and its deeds.
@@ -30,21 +35,24 @@ pub struct Shard {
     id: Identity,
     opening: u64,
     floor: u64,
-    entries: BTreeMap<Key, Held>,
-    made: u64,
+    clock: u64,
+    joined: bool,
+    to: u8,
+    slots: Slots,
     vector: Vector,
     history: History,
 }
 
 impl Model for Shard {
     ghost use Rattle.std.specs.Prelude.{reverse};
-    ghost use Rattle.gr_shard.specs.View.{Account, IsKept};
+    ghost use Rattle.gr_shard.specs.View.{Account, IsKept, kept};
 
     ghost Value = { Account };
 
     ghost view = { λ shard. record { id = shard.id; opening = shard.opening; deeds = shard.history.deeds } };
 
-    ghost invariant = { λ shard. IsKept shard.id shard.opening shard.floor shard.entries shard.made shard.vector.ids (reverse shard.history.deeds) };
+    ghost invariant = { λ shard. IsKept shard.id shard.opening (kept shard.slots shard.vector.ids shard.floor shard.clock shard.joined shard.to)
+        (reverse shard.history.deeds) };
 }
 
 impl Shard {
@@ -57,8 +65,10 @@ impl Shard {
             id,
             opening: floor,
             floor,
-            entries: BTreeMap::new(alloc),
-            made: 0,
+            clock: 0,
+            joined: false,
+            to: recipients(id),
+            slots: Slots::new(alloc),
             vector: Vector::new(alloc)?,
             history: History::new(alloc)?,
         })
@@ -68,25 +78,50 @@ impl Shard {
     pub fn call(&mut self, alloc: Global, client: u8, seq: u32, ask: &Ask) -> Result<Done, Memory>
         requires { shard_of (key_of ask.now) self.old.id.shards ≡ self.old.id.shard }
         ensures given { IfOk result (λ done. done ≡ call_gives self.old.id self.old.opening (reverse self.old.deeds) ask.now) }
-        ensures added { IfOk result (λ done. self.new ≡ record self.old { deeds = self.old.deeds ++ deed.Call client seq ask.now done.reply done.made done.to ∷ [] }) }
+        ensures added { IfOk result
+            (λ done. self.new ≡ record self.old {
+              deeds = self.old.deeds
+                  ++ deed.Call client seq ask.now done.reply done.made done.to ∷ [];
+            }) }
         ensures err { OnErr result (self.new ≡ self.old) }
     {
         let done = self.gives(alloc, ask)?;
         let deed = deed_of(alloc, client, seq, ask, &done)?;
         self.history.reserve(1)?;
         self.vector.reserve()?;
-        enter(alloc, &mut self.entries, &done.made)?;
-        self.made = count_with(self.made, &done.made);
-        note_made(&mut self.vector, &done.made);
+        let made = done.made.as_ref();
+        enter(alloc, &mut self.slots, self.clock, made)?;
+        note(&mut self.vector, made);
         let _ = self.history.push(deed);
         Ok(done)
+    }
+
+    /// Takes in a change that another member made, in whatever order and however often it comes, and
+    /// adds that to the history.
+    pub fn take_in(&mut self, alloc: Global, change: &Change) -> Result<Verdict, Memory>
+        requires { shard_of change.now.key self.old.id.shards ≡ self.old.id.shard }
+        ensures verdict { IfOk result (λ told. told ≡ verdict (reverse self.old.deeds) change.now) }
+        ensures added { IfOk result (λ told. self.new ≡ record self.old { deeds = self.old.deeds ++ deed.Taken change.now told ∷ [] }) }
+        ensures err { OnErr result (self.new ≡ self.old) }
+    {
+        let verdict = self.verdict(change);
+        let deed = Deed::Taken {
+            change: change.copy(alloc)?,
+            verdict,
+        };
+        self.history.reserve(1)?;
+        self.vector.reserve()?;
+        enter(alloc, &mut self.slots, self.clock, applied(verdict, change))?;
+        note(&mut self.vector, Some(change));
+        let _ = self.history.push(deed);
+        Ok(verdict)
     }
 
     /// Whether calls are answered here.
     pub fn ready(&self) -> bool
         ensures { result ≡ is_ready self.now.id (reverse self.now.deeds) }
     {
-        self.id.member <= self.id.founders
+        self.id.member <= self.id.founders || self.joined
     }
 
     pub fn present(&self, key: &Key) -> Option<&Value>
@@ -99,6 +134,21 @@ impl Shard {
         ensures { result ≡ floor self.now.opening (reverse self.now.deeds) }
     {
         self.floor
+    }
+
+    /// What stands at the keys, with the clock when it came in.
+    pub fn slots(&self) -> &Slots
+        ensures { (key : List ℕ)
+            → slot_at key result.now ≡ slot_of (standing key (reverse self.now.deeds)) (since key (reverse self.now.deeds)) }
+    {
+        &self.slots
+    }
+
+    /// All ids that are known.
+    pub fn vector(&self) -> &Vector
+        ensures { result.now.ids ≡ known (reverse self.now.deeds) }
+    {
+        &self.vector
     }
 
     pub fn history(&self) -> &History
@@ -115,7 +165,7 @@ impl Shard {
     {
         Ok(ShardRecord {
             history: self.history.copy(alloc)?,
-            region: region(alloc, &self.entries, self.floor, self.vector.copy(alloc)?)?,
+            region: region(alloc, &self.slots, self.floor, self.vector.copy(alloc)?)?,
         })
     }
 
@@ -125,38 +175,48 @@ impl Shard {
         ensures lawful { OnOk result (IsLawful self.id self.opening (reverse self.deeds)) }
     {
         let Shard {
-            entries,
+            slots,
             floor,
             vector,
             history,
             ..
         } = self;
-        let region = region(alloc, &entries, floor, vector)?;
+        let region = region(alloc, &slots, floor, vector)?;
         Ok(ShardRecord { history, region })
     }
 
     // What the call gives now.
     fn gives(&self, alloc: Global, ask: &Ask) -> Result<Done, Memory>
-        ensures { IfOk result (λ done. done ≡ ready_gives self.now.id self.now.opening (reverse self.now.deeds) ask.now) }
+        ensures { IfOk result (λ done. done ≡ call_gives self.now.id self.now.opening (reverse self.now.deeds) ask.now) }
     {
+        if !self.ready() {
+            return Ok(nothing_made(Reply::NotReady));
+        }
         let held = self.find(ask.key());
         let Told { reply, change } = tells(alloc, ask, value_of(held))?;
         match change {
-            None => Ok(Done {
-                reply,
-                made: None,
-                to: 0,
-            }),
+            None => Ok(nothing_made(reply)),
             Some(kind) => self.makes(alloc, ask.key(), ver_of(held), reply, kind),
         }
     }
 
-    // What stands at the key.
-    fn find(&self, key: &Key) -> Option<&Held>
-        ensures ver { held_ver (option_copied result) ≡ ver_of (standing key.now (reverse self.now.deeds)) }
-        ensures value { option_and_then (λ h. put_value h.kind) (option_copied result) ≡ present key.now (reverse self.now.deeds) }
+    // What becomes of a change that is taken in now.
+    fn verdict(&self, change: &Change) -> Verdict
+        ensures { result ≡ verdict (reverse self.now.deeds) change.now }
     {
-        self.entries.get(key)
+        let stamp = &change.stamp;
+        let known = self.vector.holds(stamp.member(), stamp.rv());
+        verdict_at(known, self.find(&change.key), stamp)
+    }
+
+    // What stands at the key.
+    fn find(&self, key: &Key) -> Option<&Slot>
+        ensures slot { option_copied result ≡ slot_of (standing key.now (reverse self.now.deeds))
+            (since key.now (reverse self.now.deeds)) }
+        ensures ver { slot_ver (option_copied result) ≡ ver_of (standing key.now (reverse self.now.deeds)) }
+        ensures value { option_and_then (λ s. put_value s.kind) (option_copied result) ≡ present key.now (reverse self.now.deeds) }
+    {
+        self.slots.find(key)
     }
 
     // What the call gives where something is to change, and this version stands.
@@ -173,18 +233,15 @@ impl Shard {
         ensures { IfOk result (λ done. done ≡ given self.now.id self.now.opening (reverse self.now.deeds) key.now reply (Some kind)) }
     {
         let base = ver.max(self.floor);
-        let Some(stamp) = Stamp::new(base + 1, self.id.member, self.made + 1) else {
-            return Ok(Done {
-                reply: Reply::Limit,
-                made: None,
-                to: 0,
-            });
+        let last = self.vector.top(self.id.member);
+        let Some(stamp) = Stamp::new(base + 1, self.id.member, last + 1) else {
+            return Ok(nothing_made(Reply::Limit));
         };
         let key = key.copy(alloc)?;
         Ok(Done {
             reply,
             made: Some(Change { key, kind, stamp }),
-            to: recipients(self.id),
+            to: self.to,
         })
     }
 }

@@ -63,13 +63,13 @@ pub record IsScriptOf (source : Stream) (script : TheScript) : Type 0 where
 
 -- It can be replayed.
 abbrev pub IsBuilt : TheScript → Type 0
-IsBuilt script = is_built (heading_of script) script.lines ≡ true
+IsBuilt script = is_built script.lines ≡ true
 
 -- The text is a script that can't be replayed yet.
 pub record IsNotBuilt (text : List ℕ) (fault : ScriptFault) : Type 0 where
   pub script : TheScript
   pub read : IsRead text script
-  pub unbuilt : is_built (heading_of script) script.lines ≡ false
+  pub unbuilt : is_built script.lines ≡ false
   pub fault_is : fault ≡ record { line = 0; reason = NotBuilt }
 
 -- What the source had is no script, which this fault tells, or one that can't be replayed yet.

@@ -41,7 +41,7 @@ fn script_from<S: Source>(alloc: Global, source: &mut S) -> Result<Script, Cause
 }
 
 fn is_built(script: &Script) -> bool
-    ensures { result ≡ is_built (heading_of script.now) script.now.lines }
+    ensures { result ≡ is_built script.now.lines }
 {
     unbuilt(script).is_none()
 }

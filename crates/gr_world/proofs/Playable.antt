@@ -59,9 +59,8 @@ no_position p xs i d none less = at_test (nat_lt (position_or_len p xs) (length 
     at_test false e none = none_passes p xs i d (subst (λ n. length xs ≤ n) (sym same) (behind _ _ e)) less
 
 -- each line of a script that is built is built
-lines_built : (heading : Heading) (lines : List Line) (i : ℕ) (d : Line) → is_built heading lines ≡ true → i < length lines
-    → is_built_line (get_or lines i d) ≡ true
-lines_built heading lines i d built less = at_test (heading.founders == heading.members) built
+lines_built : (lines : List Line) (i : ℕ) (d : Line) → is_built lines ≡ true → i < length lines → is_built_line (get_or lines i d) ≡ true
+lines_built lines i d built less = turned _ (no_position test lines i d built less)
   where
     test : Line → Bool
     test line = not (is_built_line line)
@@ -69,13 +68,6 @@ lines_built heading lines i d built less = at_test (heading.founders == heading.
     turned : (b : Bool) → not b ≡ false → b ≡ true
     turned true h = refl
     turned false h = sym h
-
-    at_test : (b : Bool) → is_none (if b then position test lines else Some 0) ≡ true → is_built_line (get_or lines i d) ≡ true
-    at_test true none = turned _ (no_position test lines i d none less)
-    at_test false none = absurd (no none)
-      where
-        no : false ≡ true → ⊥
-        no h = cc
 
 -- ---- clients are stated
 
@@ -122,8 +114,8 @@ playable heading (Hear by of number) stated built = absurd (cc)
 playable heading (Sweep member moment) stated built = absurd (cc)
 playable heading (Join joiner provider) stated built = absurd (cc)
 
-pub can_play : (heading : Heading) (lines : List Line) → IsScript heading lines → is_built heading lines ≡ true
+pub can_play : (heading : Heading) (lines : List Line) → IsScript heading lines → is_built lines ≡ true
     → (i : ℕ) (line : Line) → i < length lines → line ≡ get_or lines i line → CanPlay heading line
 can_play heading lines is built i line less at =
     playable heading line (subst (HasStated heading) (sym at) (lines_stated heading lines is i line less))
-    (ap is_built_line at ∙ lines_built heading lines i line built less)
+    (ap is_built_line at ∙ lines_built lines i line built less)

@@ -1,12 +1,11 @@
 -- Which scripts can be replayed.
-use Rattle.std.specs.Prelude.{ℕ, ◌==◌, List, Bool, true, false, not, Option, Some, if◌then◌else◌}
+use Rattle.std.specs.Prelude.{ℕ, List, Bool, true, false, not, Option}
 use Rattle.std.specs.List.{position}
 use Rattle.std.specs.Option.{is_none}
 use Rattle.gr_script.specs.declared.line.Act.TheVariants as act
 use Rattle.gr_script.specs.declared.line.Line.{Line}
 use Rattle.gr_script.specs.declared.line.Line.TheVariants.{Step, Deliver, Hear, Sweep, Join}
 use Rattle.gr_script.specs.declared.line.Line.TheVariants as line
-use Rattle.gr_script.specs.Rules.{Heading}
 
 -- Calls and peeks.
 abbrev pub is_built_line : Line → Bool
@@ -19,10 +18,9 @@ is_built_line (Hear by of number) = false
 is_built_line (Sweep member moment) = false
 is_built_line (Join joiner provider) = false
 
--- The place of the first line that isn't built, counted from 0. Members that join aren't built either, which is
--- told of the first line.
-abbrev pub unbuilt : Heading → List Line → Option ℕ
-unbuilt heading lines = if heading.founders == heading.members then position (λ line. not (is_built_line line)) lines else Some 0
+-- the place of the first line that isn't built, counted from 0
+abbrev pub unbuilt : List Line → Option ℕ
+unbuilt lines = position (λ line. not (is_built_line line)) lines
 
-abbrev pub is_built : Heading → List Line → Bool
-is_built heading lines = is_none (unbuilt heading lines)
+abbrev pub is_built : List Line → Bool
+is_built lines = is_none (unbuilt lines)

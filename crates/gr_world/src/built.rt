@@ -1,6 +1,4 @@
-ghost use Rattle.std.specs.Prelude.{◌≡◌, not};
-ghost use Rattle.std.specs.List.{position};
-ghost use Rattle.gr_script.specs.Scripts.{heading_of};
+ghost use Rattle.std.specs.Prelude.{◌≡◌};
 ghost use Rattle.gr_world.specs.Built.{is_built_line, unbuilt};
 
 use gr_script::{Act, Line, Script};
@@ -17,19 +15,10 @@ fn is_built(line: &Line) -> bool
     )
 }
 
-fn first_unbuilt(lines: &[Line]) -> Option<usize>
-    ensures { result ≡ position (λ line. not (is_built_line line)) lines.now }
-{
-    lines.iter().position(|line| !is_built(line))
-}
-
 /// The place of the first line that can't be replayed yet, counted from 0.
 pub fn unbuilt(script: &Script) -> Option<usize>
-    ensures { result ≡ unbuilt (heading_of script.now) script.now.lines }
+    ensures { result ≡ unbuilt script.now.lines }
 {
-    if script.founders == script.members {
-        first_unbuilt(script.lines.as_slice())
-    } else {
-        Some(0)
-    }
+    let lines = script.lines.as_slice();
+    lines.iter().position(|line| !is_built(line))
 }

@@ -12,7 +12,7 @@ use std::alloc::Global;
 
 /// Plays a script line by line, in its one schedule. What it leaves is all that its course says.
 pub fn replay(alloc: Global, script: &Script) -> Result<Record, Memory>
-    requires { is_built (heading_of script.now) script.now.lines ≡ true }
+    requires { is_built script.now.lines ≡ true }
     ensures replayed { IfOk result (IsReplayed (heading_of script.now) script.now.lines) }
 
     // Members that took in the same changes have the same values, and no removed value is back.

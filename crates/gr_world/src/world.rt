@@ -49,7 +49,6 @@ fn seen(alloc: Global, shard: &Shard, key: &Key) -> Result<Answer, Memory>
 impl World {
     /// The world before the first line.
     pub fn new(alloc: Global, script: &Script) -> Result<World, Memory>
-        requires { script.now.founders ≡ script.now.members }
         ensures { IfOk result (λ world. world ≡ world_left (heading_of script.now) []) }
     {
         let id = Identity {

@@ -1,4 +1,4 @@
-use Rattle.std.proofs.Common.{◌≡◌, ◌≤◌, ◌+◌, ◌*◌, ◌^◌, arith, ap, sym, ◌∙◌, lit<}
+use Rattle.std.proofs.Common.{◌≡◌, ◌≤◌, ◌+◌, ◌*◌, ◌^◌, [], arith, ap, sym, ◌∙◌, lit<}
 use Rattle.gr_history.specs.Recipients.{is_recipient, recipients, member_bits}
 use Rattle.gr_shard.proofs.Made.{member_bits-set, member_bits-unset, power-one_more}
 use Rattle.std.proofs.Math.Nat.{pow-le-pow_right}
@@ -16,21 +16,21 @@ loop-below-preserved c =
         least = omega arith;
         most = most;
         small = omega arith;
-        bits = λ past quiet. w.to-is ∙ member_bits-set (is_recipient c.args.id past) c.loop-below.below c.loop-below.to c.loop-below.bit
-            (now.bits past quiet) now.bit (sym (w.if-is_recipient.ensures past (quiet.no_gift _)));
+        bits = w.to-is ∙ member_bits-set (is_recipient c.args.id []) c.loop-below.below c.loop-below.to c.loop-below.bit
+            now.bits now.bit (sym w.if-is_recipient.ensures);
       }
       | else-is_recipient w ↦ record {
         bit = twice;
         least = omega arith;
         most = most;
         small = omega arith;
-        bits = λ past quiet. w.to-is ∙ member_bits-unset (is_recipient c.args.id past) c.loop-below.below c.loop-below.to c.loop-below.bit
-            (now.bits past quiet) now.bit (sym (w.if-is_recipient.ensures past (quiet.no_gift _)));
+        bits = w.to-is ∙ member_bits-unset (is_recipient c.args.id []) c.loop-below.below c.loop-below.to c.loop-below.bit
+            now.bits now.bit (sym w.if-is_recipient.ensures);
       }
     ]
 
 pub returns : goal.returns
 unfolding recipients
-returns c past quiet =
+returns c =
     let eight : c.loop-below.below ≡ 8 = omega arith in
-    c.loop-below.invariant.bits past quiet ∙ ap (λ n. member_bits (is_recipient c.args.id past) n) eight
+    c.loop-below.invariant.bits ∙ ap (λ n. member_bits (is_recipient c.args.id []) n) eight

@@ -1,7 +1,5 @@
-use Rattle.std.proofs.Common.{◌≡◌, ◌^◌, ◌<◌, ◌≤◌, List}
-use Rattle.gr_history.specs.declared.deed.Deed.{Deed}
+use Rattle.std.proofs.Common.{◌≡◌, ◌^◌, ◌<◌, ◌≤◌, []}
 use Rattle.gr_history.specs.Recipients.{member_bits, is_recipient}
-use Rattle.gr_shard.specs.View.{IsQuiet}
 use Rattle.gr_shard.proofs.making.recipients.Given as goal
 
 abbrev pub invariant-loop-below : goal.invariant-loop-below
@@ -10,5 +8,5 @@ invariant-loop-below l = record {
   least : 1 ≤ l.bit;
   most : l.bit ≤ 256;
   small : l.to < l.bit;
-  bits : (past : List Deed) → IsQuiet past → l.to ≡ member_bits (is_recipient l.id past) l.below;
+  bits : l.to ≡ member_bits (is_recipient l.id []) l.below;
 }

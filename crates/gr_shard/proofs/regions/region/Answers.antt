@@ -9,42 +9,44 @@ use Rattle.gr_shard.proofs.regions.region.Goals as goal
 pub loop-key-preserved : goal.loop-key-preserved
 loop-key-preserved c =
     let before = map deref_pair c.loop-key.yielded in
-    let change = change_of c.in-Some.key.now c.in-Some.held.now in
+    let change = change_of c.in-Some.key.now c.in-Some.slot.now in
     c.in_ok-push_put.ensures
     ∙ ap (λ rows. rows ++ puts_of (change ∷ [])) c.loop-key.invariant
     ∙ sym (puts_of-push (changes_in before) change)
-    ∙ ap puts_of (sym (changes_in-push before c.in-Some.key.now c.in-Some.held.now))
-    ∙ ap (λ entries. puts_of (changes_in entries)) (sym (map-append deref_pair c.loop-key.yielded ((c.in-Some.key, c.in-Some.held) ∷ [])))
+    ∙ ap puts_of (sym (changes_in-push before c.in-Some.key.now c.in-Some.slot.now))
+    ∙ ap (λ entries. puts_of (changes_in entries)) (sym (map-append deref_pair c.loop-key.yielded ((c.in-Some.key, c.in-Some.slot) ∷ [])))
 
 pub overflow_sub-tombstones : goal.overflow_sub-tombstones
 overflow_sub-tombstones c =
-    let whole : map deref_pair c.loop-key.yielded ≡ c.args.entries.now.entries = search (rules, iter_end) in
-    let rows : c.loop-key.rows ≡ puts_of (changes_in c.args.entries.now.entries) = c.loop-key.invariant
+    let whole : map deref_pair c.loop-key.yielded ≡ c.args.slots.now = search (rules, iter_end) in
+    let rows : c.loop-key.rows ≡ puts_of (changes_in c.args.slots.now) = c.loop-key.invariant
     ∙ ap (λ entries. puts_of (changes_in entries)) whole in
     omega (
       arith,
+      ap length c.rows-entries.ensures,
       c.len.ensures.len,
       c.len-2.ensures,
       ap length rows,
-      length-puts_of (changes_in c.args.entries.now.entries),
-      length-changes_in c.args.entries.now.entries,
+      length-puts_of (changes_in c.args.slots.now),
+      length-changes_in c.args.slots.now,
     )
 
 pub returns-clause-rows : goal.returns-clause-rows
 returns-clause-rows c =
-    let whole : map deref_pair c.loop-key.yielded ≡ c.args.entries.now.entries = search (rules, iter_end) in
+    let whole : map deref_pair c.loop-key.yielded ≡ c.args.slots.now = search (rules, iter_end) in
     c.loop-key.invariant ∙ ap (λ entries. puts_of (changes_in entries)) whole
 
 pub returns-clause-tombstones : goal.returns-clause-tombstones
 returns-clause-tombstones c =
-    let whole : map deref_pair c.loop-key.yielded ≡ c.args.entries.now.entries = search (rules, iter_end) in
-    let rows : c.loop-key.rows ≡ puts_of (changes_in c.args.entries.now.entries) = c.loop-key.invariant
+    let whole : map deref_pair c.loop-key.yielded ≡ c.args.slots.now = search (rules, iter_end) in
+    let rows : c.loop-key.rows ≡ puts_of (changes_in c.args.slots.now) = c.loop-key.invariant
     ∙ ap (λ entries. puts_of (changes_in entries)) whole in
     omega (
       arith,
+      ap length c.rows-entries.ensures,
       c.len.ensures.len,
       c.len-2.ensures,
       ap length rows,
-      length-puts_of (changes_in c.args.entries.now.entries),
-      length-changes_in c.args.entries.now.entries,
+      length-puts_of (changes_in c.args.slots.now),
+      length-changes_in c.args.slots.now,
     )

@@ -7,7 +7,7 @@ pub returns-then-not-is_built-clause-explained : goal.returns-then-not-is_built-
 returns-then-not-is_built-clause-explained g c sink untouched =
     let script = c.in_ok-script.script in
     let given = c.in_ok-script.ensures.explained in
-    let unbuilt : is_built (heading_of script) script.lines ≡ false = sym c.if-not-is_built.ensures in (
+    let unbuilt : is_built script.lines ≡ false = sym c.if-not-is_built.ensures in (
       refl,
       record {
         text = given.text;

@@ -1,16 +1,22 @@
 use Rattle.std.proofs.Common.{◌∙◌, ap, reverse, option_and_then}
 use Rattle.gr_stamp.specs.Winner.{put_value}
+use Rattle.gr_history.specs.Clock.{since}
 use Rattle.gr_history.specs.Standing.{standing}
-use Rattle.gr_shard.specs.Entries.{held_ver}
-use Rattle.gr_shard.proofs.Made.{held_ver-held_of, value-held_of}
+use Rattle.gr_shard.specs.Entries.{slot_ver}
+use Rattle.gr_shard.proofs.Made.{slot_ver-slot_of, value-slot_of}
 use Rattle.gr_shard.proofs.shard.Shard.find.Goals as goal
+
+pub returns-clause-slot : goal.returns-clause-slot
+returns-clause-slot c = rw (← c.self.view_is) (c.find.ensures ∙ c.self.invariant.stands c.args.key.now)
 
 pub returns-clause-ver : goal.returns-clause-ver
 returns-clause-ver c =
-    rw (← c.self.view_is) (ap held_ver (c.get.ensures.value ∙ c.self.invariant.stands c.args.key.now)
-    ∙ held_ver-held_of (standing c.args.key.now (reverse c.self.inside.history.deeds)))
+    let past = reverse c.self.inside.history.deeds in
+    rw (← c.self.view_is) (ap slot_ver (c.find.ensures ∙ c.self.invariant.stands c.args.key.now)
+    ∙ slot_ver-slot_of (standing c.args.key.now past) (since c.args.key.now past))
 
 pub returns-clause-value : goal.returns-clause-value
 returns-clause-value c =
-    rw (← c.self.view_is) (ap (option_and_then (λ h. put_value h.kind)) (c.get.ensures.value ∙ c.self.invariant.stands c.args.key.now)
-    ∙ value-held_of (standing c.args.key.now (reverse c.self.inside.history.deeds)))
+    let past = reverse c.self.inside.history.deeds in
+    rw (← c.self.view_is) (ap (option_and_then (λ s. put_value s.kind)) (c.find.ensures ∙ c.self.invariant.stands c.args.key.now)
+    ∙ value-slot_of (standing c.args.key.now past) (since c.args.key.now past))

@@ -1,0 +1,8 @@
+use Rattle.std.proofs.Common.{◌≡◌, take}
+use Rattle.std.specs.List.{fold}
+use Rattle.gr_report.specs.Rows.{with_row}
+use Rattle.gr_report.specs.Shown.{shown}
+use Rattle.gr_report.proofs.rows.gather.Given as goal
+
+abbrev pub invariant-loop-row : goal.invariant-loop-row
+invariant-loop-row l = shown l.rows.entries ≡ fold with_row (shown l.initial.rows.entries) (take l.row-index l.row-items)

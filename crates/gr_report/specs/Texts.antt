@@ -1,0 +1,7 @@
+-- Texts one after another.
+use Rattle.std.specs.Prelude.{ℕ, ◌+◌, List, [], ◌∷◌, ◌++◌}
+
+-- the texts of all, numbered from this number
+abbrev pub texts_from : {A : Type 0} → (ℕ → A → List ℕ) → ℕ → List A → List ℕ
+texts_from text number [] = []
+texts_from text number (first ∷ rest) = text number first ++ texts_from text (number + 1) rest

@@ -1,0 +1,201 @@
+-- Each line that is said stands where it may.
+use Rattle.std.proofs.Common.{◌≡◌, ℕ, ◌+◌, ◌-◌, ◌≤◌, ◌<◌, List, [], ◌∷◌, length, get_or, Bool, true, false, cond, eqb, ltb, leb, not, ◌||◌, ◌&&◌, Option, Some, None, refl, sym, ap, ◌∙◌, subst, arith, bytes_eq, inl, inr}
+use Rattle.std.specs.List.{cons_option, count_by}
+use Rattle.std.specs.Option.{option_map_or, unwrap_or}
+use Rattle.std.proofs.lemmas.Bool.{cases_lt, or_parts, leb-false, ltb-false, eqb-false, not_from_false}
+use Rattle.std.proofs.lemmas.Slice.Eq.{bytes_eq-Decides}
+use Rattle.gr_script.specs.declared.forms.LineKind.{LineKind}
+use Rattle.gr_script.specs.declared.forms.LineKind.TheVariants as kind
+use Rattle.gr_script.specs.declared.items.Item.{Item}
+use Rattle.gr_script.specs.declared.line.Line.{Line}
+use Rattle.gr_script.specs.declared.reason.Reason.{Reason}
+use Rattle.gr_script.specs.declared.saying.Saying.{Saying}
+use Rattle.gr_script.specs.Forms.{fields, rank}
+use Rattle.gr_script.specs.Past.{setting, region, members, founders, homes, home, steps, reports, joins, count_of, queries, stage, next_rank}
+use Rattle.gr_script.specs.Refusals.{tests, refusal, is_missing, is_full}
+use Rattle.gr_script.specs.Rules.{Heading, IsWithin, IsStated, StandsAfter, AllStand}
+use Rattle.gr_script.specs.Said.{heading_said, line_of, lines_said}
+use Rattle.gr_script.specs.Steps as lines
+use Rattle.gr_script.proofs.Contents.{Contents, items_of, IsClient}
+use Rattle.gr_script.proofs.Follows.{Follows, AllFollow}
+use Rattle.gr_script.proofs.Tallied.{Marks, line_by, tallied}
+
+-- ---- what no test refused
+
+abbrev pub AllPass : List (Bool × Reason) → Type 0
+AllPass [] = Unit {0}
+AllPass (test ∷ more) = (test.0 ≡ false) × AllPass more
+
+pub passed : (all : List (Bool × Reason)) → refusal all ≡ None → AllPass all
+passed [] none = tt
+passed ((true, why) ∷ more) none = absurd cc
+passed ((false, why) ∷ more) none = (refl, passed more none)
+
+pub not_missing : (number count : ℕ) → is_missing number count ≡ false → IsWithin 1 count number
+not_missing number count isnt =
+    let parts = or_parts (eqb number 0) (ltb count number) isnt in
+    let some = eqb-false number 0 parts.0 in
+    let within = ltb-false count number parts.1 in
+    (omega (arith, some), within)
+
+not_full : (most count counted : ℕ) → is_full most count ≡ false → counted ≡ count → counted < most
+not_full most count counted isnt is =
+    let less = leb-false most count isnt in
+    omega (arith, less, is)
+
+own_region : (own : Option (List ℕ)) (asked : List ℕ) → option_map_or (λ name. bytes_eq asked name) own false ≡ true
+    → asked ≡ unwrap_or own []
+own_region None asked is = absurd cc
+own_region (Some name) asked is = (bytes_eq-Decides asked name).0 is
+
+-- ---- one line
+
+abbrev Stands : Heading → List Line → Option Line → Type 0
+Stands h past None = Unit {0}
+Stands h past (Some l) = StandsAfter h past l
+
+abbrev Held : List Saying → LineKind → Type 0
+Held past form = Contents (setting past) (fields form)
+
+abbrev held_items : (past : List Saying) (form : LineKind) → Held past form → List Item
+held_items past form c = items_of (setting past) (fields form) c
+
+stated : (past : List Saying) (client : ℕ) → IsClient (setting past) client → IsStated client (heading_said past)
+stated past client is = (is.0.0, is.1)
+
+numbered : (past : List Saying) (client : ℕ) → AllFollow past → steps client past + 1 ≡ lines.step_count client (lines_said past) + 1
+numbered past client all = ap (λ (n : ℕ). n + 1) (sym (tallied (λ m. m.step) client past refl all))
+
+few_queries : (past : List Saying) → AllFollow past → is_full 10000 (queries past) ≡ false → lines.queries (lines_said past) < 10000
+few_queries past all isnt = not_full 10000 (queries past) _ isnt (tallied (λ m. m.query) 0 past refl all)
+
+few_opens : (past : List Saying) → AllFollow past → is_full 16 (count_of kind.Open past) ≡ false → lines.opens (lines_said past) < 16
+few_opens past all isnt = not_full 16 (count_of kind.Open past) _ isnt (tallied (λ m. m.opened) 0 past refl all)
+
+line_stands : (past : List Saying) (form : LineKind) (c : Held past form) → refusal (tests past form (held_items past form c)) ≡ None
+    → AllFollow past → Stands (heading_said past) (lines_said past) (line_by past form (held_items past form c))
+line_stands past kind.Get c none all = (stated past c.0.0 c.0.1, numbered past c.0.0 all, tt)
+line_stands past kind.Put c none all = (stated past c.0.0 c.0.1, numbered past c.0.0 all, tt)
+line_stands past kind.PutIfAbsent c none all = (stated past c.0.0 c.0.1, numbered past c.0.0 all, tt)
+line_stands past kind.Replace c none all = (stated past c.0.0 c.0.1, numbered past c.0.0 all, tt)
+line_stands past kind.ReplaceIf c none all = (stated past c.0.0 c.0.1, numbered past c.0.0 all, tt)
+line_stands past kind.Destroy c none all = (stated past c.0.0 c.0.1, numbered past c.0.0 all, tt)
+line_stands past kind.Remove c none all = (stated past c.0.0 c.0.1, numbered past c.0.0 all, tt)
+line_stands past kind.Peek c none all = (stated past c.0.0 c.0.1, numbered past c.0.0 all, tt)
+line_stands past kind.Open c none all =
+    let pass = passed (tests past kind.Open (held_items past kind.Open c)) none in
+    let full = or_parts (is_full 16 (count_of kind.Open past)) (is_full 10000 (queries past)) pass.0 in
+    (stated past c.0.0 c.0.1, numbered past c.0.0 all,
+    (own_region (region past) _ c.1.1.1.0.1, few_opens past all full.0, few_queries past all full.1))
+line_stands past kind.Stop c none all =
+    let pass = passed (tests past kind.Stop (held_items past kind.Stop c)) none in
+    (stated past c.0.0 c.0.1, numbered past c.0.0 all, few_queries past all pass.0)
+line_stands past kind.Close c none all =
+    let pass = passed (tests past kind.Close (held_items past kind.Close c)) none in
+    (stated past c.0.0 c.0.1, numbered past c.0.0 all, few_queries past all pass.0)
+line_stands past kind.Fetch c none all =
+    let pass = passed (tests past kind.Fetch (held_items past kind.Fetch c)) none in
+    (stated past c.0.0 c.0.1, numbered past c.0.0 all, few_queries past all pass.0)
+line_stands past kind.Deliver c none all =
+    let client = c.1.1.0.0.0 in
+    let pass = passed (tests past kind.Deliver (held_items past kind.Deliver c)) none in
+    let count = tallied (λ m. m.step) client past refl all in
+    (c.1.0.1, stated past client c.1.1.0.1,
+    subst (λ (n : ℕ). IsWithin 1 n c.1.1.0.0.1) (sym count) (not_missing c.1.1.0.0.1 (steps client past) pass.0),
+    not_from_false (eqb c.1.0.0 (home client past)) pass.1.0)
+line_stands past kind.Report c none all =
+    let pass = passed (tests past kind.Report (held_items past kind.Report c)) none in
+    (c.1.0.1, not_full 200 (count_of kind.Report past) _ pass.0 (tallied (λ m. m.report) 0 past refl all))
+line_stands past kind.Hear c none all =
+    let of = c.1.1.0.0 in
+    let pass = passed (tests past kind.Hear (held_items past kind.Hear c)) none in
+    let count = tallied (λ m. m.report_of) of past refl all in
+    (c.1.0.1, c.1.1.0.1,
+    subst (λ (n : ℕ). IsWithin 1 n c.1.1.1.0) (sym count) (not_missing c.1.1.1.0 (reports of past) pass.0),
+    not_from_false (eqb c.1.0.0 of) pass.1.0,
+    not_full 1400 (count_of kind.Hear past) _ pass.1.1.0 (tallied (λ m. m.hear) 0 past refl all))
+line_stands past kind.Sweep c none all =
+    let pass = passed (tests past kind.Sweep (held_items past kind.Sweep c)) none in
+    (c.1.0.1, c.1.1.0.1.1,
+    not_full 10000 (count_of kind.Sweep past) _ pass.0 (tallied (λ m. m.sweep) 0 past refl all))
+line_stands past kind.Join c none all =
+    let member = c.1.0.0 in
+    let provider = c.1.1.0.0 in
+    let isnt = (passed (tests past kind.Join (held_items past kind.Join c)) none).0 in
+    let p = or_parts (leb member (founders past) || not (eqb (joins member past) 0)) (ltb (founders past) provider) isnt in
+    let q = or_parts (leb member (founders past)) (not (eqb (joins member past) 0)) p.0 in
+    let within = ltb-false (founders past) provider p.1 in
+    (leb-false member (founders past) q.0, c.1.0.1.1, (c.1.1.0.1.0, within),
+    tallied (λ m. m.join_of) member past refl all ∙ none_yet (joins member past) q.1)
+  where
+    none_yet : (count : ℕ) → not (eqb count 0) ≡ false → count ≡ 0
+    none_yet count isnt = grind arith
+line_stands past _ c none all = tt
+
+pub follower_stands : (past : List Saying) (form : LineKind) (items : List Item) → Follows past form items → AllFollow past
+    → Stands (heading_said past) (lines_said past) (line_by past form items)
+follower_stands past form items f all =
+    subst (λ (is : List Item). Stands (heading_said past) (lines_said past) (line_by past form is)) f.items_are
+    (line_stands past form f.held (subst (λ (is : List Item). refusal (tests past form is) ≡ None) (sym f.items_are) f.passes) all)
+
+-- ---- lines of the heading and of clients say no line
+
+pub rank_next : (form : LineKind) → rank form ≤ next_rank form
+rank_next form =
+    elim (cases_lt (rank form) 7) [
+      | inl lt ↦ grind arith
+      | inr le ↦ grind arith
+    ]
+
+quiet : (past : List Saying) (form : LineKind) (items : List Item) → rank form < 8 → line_by past form items ≡ None
+quiet past kind.Georep items lt = refl
+quiet past kind.Region items lt = refl
+quiet past kind.Members items lt = refl
+quiet past kind.Shards items lt = refl
+quiet past kind.Inbox items lt = refl
+quiet past kind.Trouble items lt = refl
+quiet past kind.Floor items lt = refl
+quiet past kind.Client items lt = refl
+quiet past _ items lt = absurd (omega (arith, lt))
+
+quiet_lines : (past : List Saying) (saying : Saying) → rank saying.kind < 8 → lines_said past ≡ [] → lines_said (saying ∷ past) ≡ []
+quiet_lines past saying lt none =
+    ap (λ (l : Option Line). cons_option l (lines_said past)) (quiet past saying.kind saying.items lt) ∙ none
+
+pub no_lines_yet : (past : List Saying) → AllFollow past → stage past ≤ 7 → lines_said past ≡ []
+no_lines_yet [] all early = refl
+no_lines_yet (saying ∷ past) all early =
+    let low = rank_next saying.kind in
+    let order = all.0.order in
+    quiet_lines past saying (omega (arith, low, early)) (no_lines_yet past all.1 (omega (arith, low, early, order)))
+
+-- ---- all lines
+
+same_heading : (past : List Saying) (form : LineKind) (items : List Item) → 8 ≤ rank form
+    → heading_said past ≡ heading_said (record { kind = form; items = items } ∷ past)
+same_heading past kind.Georep items le = absurd (omega (arith, le))
+same_heading past kind.Region items le = absurd (omega (arith, le))
+same_heading past kind.Members items le = absurd (omega (arith, le))
+same_heading past kind.Shards items le = absurd (omega (arith, le))
+same_heading past kind.Inbox items le = absurd (omega (arith, le))
+same_heading past kind.Trouble items le = absurd (omega (arith, le))
+same_heading past kind.Floor items le = absurd (omega (arith, le))
+same_heading past kind.Client items le = absurd (omega (arith, le))
+same_heading past _ items le = refl
+
+stand_more : (h : Heading) (l : Option Line) (lines : List Line) → Stands h lines l → AllStand h lines → AllStand h (cons_option l lines)
+stand_more h None lines one all = all
+stand_more h (Some l) lines one all = (one, all)
+
+pub all_stand : (past : List Saying) → AllFollow past → AllStand (heading_said past) (lines_said past)
+all_stand [] all = tt
+all_stand (saying ∷ past) all =
+    elim (cases_lt (rank saying.kind) 8) [
+      | inl lt ↦ let order = all.0.order in
+          subst (AllStand (heading_said (saying ∷ past)))
+          (sym (quiet_lines past saying lt (no_lines_yet past all.1 (omega (arith, lt, order))))) tt
+      | inr le ↦
+          subst (λ (h : Heading). AllStand h (lines_said (saying ∷ past))) (same_heading past saying.kind saying.items le)
+          (stand_more (heading_said past) (line_of past saying) (lines_said past)
+          (follower_stands past saying.kind saying.items all.0 all.1) (all_stand past all.1))
+    ]

@@ -1,0 +1,172 @@
+ghost use Rattle.std.specs.Prelude.{◌≡◌, ◌+◌, ◌≤◌, ℕ, ◌<◌, ◌^◌, ◌++◌, List, reverse, true, IfOk};
+ghost use Rattle.std.specs.Option.{option_to_list};
+ghost use Rattle.gr_script.specs.declared.saying.Saying.{Saying as ASaying};
+ghost use Rattle.gr_script.specs.Forms.{is_step as is_step_kind};
+ghost use Rattle.gr_script.specs.Narrow.{IsNarrowStep, IsNarrow, AreNarrow};
+ghost use Rattle.gr_script.specs.Past.{number as number_in, steps as steps_in};
+ghost use Rattle.gr_script.specs.Said.{act_said, step_said, other_said, line_of, lines_said};
+ghost use Rattle.gr_script.specs.Tallies.{count_in as counted_in};
+
+use crate::forms::{LineKind, is_step};
+use crate::items::Item;
+use crate::parts::{Parts, parts_of};
+use crate::saying::{Saying, number};
+use crate::tally::{count_in, counts_without};
+use crate::{Act, Line, LineList};
+use gr_history::{Ask, QueryAsk};
+use gr_value::{ItemList, Memory};
+use std::alloc::Global;
+use std::collections::BTreeMap;
+
+// What a client does at a line of this kind.
+fn act_said(kind: LineKind, parts: Parts) -> Option<Act>
+    ensures { result ≡ act_said kind parts }
+{
+    let key = parts.key?;
+    match kind {
+        LineKind::Get => Some(Act::Call(Ask::Get { key })),
+        LineKind::Put => Some(Act::Call(Ask::Put {
+            key,
+            value: parts.value?,
+        })),
+        LineKind::PutIfAbsent => Some(Act::Call(Ask::PutIfAbsent {
+            key,
+            value: parts.value?,
+        })),
+        LineKind::Replace => Some(Act::Call(Ask::Replace {
+            key,
+            value: parts.value?,
+        })),
+        LineKind::ReplaceIf => Some(Act::Call(Ask::ReplaceIf {
+            key,
+            old: parts.value?,
+            new: parts.other?,
+        })),
+        LineKind::Destroy => Some(Act::Call(Ask::Destroy { key })),
+        LineKind::Remove => Some(Act::Call(Ask::Remove {
+            key,
+            value: parts.value?,
+        })),
+        LineKind::Peek => Some(Act::Peek(key)),
+        LineKind::Open => Some(Act::Query(QueryAsk::Enrol {
+            name: key,
+            query: parts.query?,
+        })),
+        LineKind::Stop => Some(Act::Query(QueryAsk::Stop { name: key })),
+        LineKind::Close => Some(Act::Query(QueryAsk::Close { name: key })),
+        LineKind::Fetch => Some(Act::Query(QueryAsk::Fetch { name: key })),
+        _ => None,
+    }
+}
+
+// The step of this number.
+fn step_said(seq: u32, kind: LineKind, items: ItemList<Item>) -> Option<Line>
+    requires { IsNarrowStep items }
+    ensures { result ≡ step_said seq kind items }
+{
+    let client = number(0, items.as_slice()) as u8;
+    let act = act_said(kind, parts_of(items))?;
+    Some(Line::Step { client, seq, act })
+}
+
+// A line that is no step.
+fn other_said(kind: LineKind, items: &[Item]) -> Option<Line>
+    requires { IsNarrow kind items.now }
+    ensures { result ≡ other_said kind items.now }
+{
+    match kind {
+        LineKind::Deliver => Some(Line::Deliver {
+            to: number(0, items) as u8,
+            client: number(1, items) as u8,
+            seq: number(2, items) as u32,
+        }),
+        LineKind::Report => Some(Line::Report {
+            member: number(0, items) as u8,
+        }),
+        LineKind::Hear => Some(Line::Hear {
+            by: number(0, items) as u8,
+            of: number(1, items) as u8,
+            number: number(2, items) as u32,
+        }),
+        LineKind::Sweep => Some(Line::Sweep {
+            member: number(0, items) as u8,
+            moment: number(1, items) as u64,
+        }),
+        LineKind::Join => Some(Line::Join {
+            member: number(0, items) as u8,
+            from: number(1, items) as u8,
+        }),
+        _ => None,
+    }
+}
+
+// The line that is said. Where it is a step, it has this number among its client's.
+fn line_of(seq: u32, saying: Saying) -> Option<Line>
+    requires step { is_step_kind saying.kind ≡ true → IsNarrowStep saying.items }
+    requires other { IsNarrow saying.kind saying.items }
+    ensures { (past : List ASaying) → (is_step_kind saying.kind ≡ true → seq ≡ steps_in (number_in 0 saying.items) past + 1) → result ≡ line_of past saying }
+{
+    if is_step(saying.kind) {
+        step_said(seq, saying.kind, saying.items)
+    } else {
+        other_said(saying.kind, saying.items.as_slice())
+    }
+}
+
+fn with_line(lines: LineList, line: Option<Line>) -> Result<LineList, Memory>
+    ensures { IfOk result (λ more. more ≡ lines ++ option_to_list line) }
+{
+    let mut lines = lines;
+    if let Some(line) = line {
+        lines.push(line)?;
+    }
+    Ok(lines)
+}
+
+// The lines, the last one first. How many steps each client has is known.
+fn lines_back(
+    alloc: Global,
+    steps: BTreeMap<u128, u32>,
+    sayings: ItemList<Saying>,
+) -> Result<LineList, Memory>
+    requires counted { (client : ℕ) → counted_in steps client ≡ steps_in client (reverse sayings) }
+    requires narrow { AreNarrow (reverse sayings) }
+    ensures { IfOk result (λ lines. lines ≡ lines_said (reverse sayings)) }
+{
+    let mut lines = LineList::new(alloc)?;
+    let mut counts = steps;
+    let mut left = sayings;
+    while let Some(saying) = left.pop() {
+        let client = number(0, saying.items.as_slice());
+        let seq = count_in(&counts, client);
+        counts = counts_without(counts, is_step(saying.kind), client)?;
+        lines = with_line(lines, line_of(seq, saying))?;
+    }
+    Ok(lines)
+}
+
+// The lines the other way round.
+fn turned(alloc: Global, lines: LineList) -> Result<LineList, Memory>
+    ensures { IfOk result (λ turned. turned ≡ reverse lines) }
+{
+    let mut turned = LineList::new(alloc)?;
+    let mut left = lines;
+    while let Some(line) = left.pop() {
+        turned.push(line)?;
+    }
+    Ok(turned)
+}
+
+/// The lines that are said, in order. How many steps each client has is known.
+pub(crate) fn lines_of(
+    alloc: Global,
+    steps: BTreeMap<u128, u32>,
+    sayings: ItemList<Saying>,
+) -> Result<LineList, Memory>
+    requires counted { (client : ℕ) → counted_in steps client ≡ steps_in client (reverse sayings) }
+    requires narrow { AreNarrow (reverse sayings) }
+    ensures { IfOk result (λ lines. lines ≡ reverse (lines_said (reverse sayings))) }
+{
+    let back = lines_back(alloc, steps, sayings)?;
+    Ok(turned(alloc, back)?)
+}

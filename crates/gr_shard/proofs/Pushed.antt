@@ -1,0 +1,6 @@
+-- What is so where a call went well, of one that did.
+use Rattle.std.proofs.Common.{Result, Ok, Err, IsOk, OnOk}
+
+pub on_ok : {T E P : Type 0} (r : Result T E) → IsOk r → OnOk r P → P
+on_ok (Ok x) is p = p
+on_ok (Err e) is p = cc

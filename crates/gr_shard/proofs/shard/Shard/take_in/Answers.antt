@@ -1,0 +1,34 @@
+use Rattle.std.proofs.Common.{◌≡◌, ◌≤◌, ◌∙◌, ap, [], ◌∷◌, ◌++◌, reverse, refl}
+use Rattle.std.proofs.lemmas.List.{reverse-append}
+use Rattle.gr_value.specs.Shard.{shard_of}
+use Rattle.gr_stamp.specs.declared.stamp.TheConstants.{LIMIT}
+use Rattle.gr_vector.specs.Order.{with_id}
+use Rattle.gr_history.specs.declared.deed.Deed.TheVariants.{Taken}
+use Rattle.gr_history.specs.Ids.{id_of}
+use Rattle.gr_history.specs.Verdicts.{verdict}
+use Rattle.gr_shard.specs.Entries.{with_change, applied}
+use Rattle.gr_shard.specs.View.{kept}
+use Rattle.gr_shard.proofs.Kept.{kept_taken}
+use Rattle.gr_shard.proofs.Pushed.{on_ok}
+use Rattle.gr_shard.proofs.shard.Shard.take_in.Goals as goal
+
+pub invariant_of-self-2 : goal.invariant_of-self-2
+invariant_of-self-2 c =
+    let was = c.self.inside in
+    let past = reverse was.history.deeds in
+    let change = c.args.change.now in
+    let told = c.verdict-verdict.result in
+    let is : told ≡ verdict past change = rw (← c.self.view_is) at c.verdict-verdict.ensures in
+    let here : shard_of change.key was.id.shards ≡ was.id.shard = rw (← c.self.view_is) at c.requires in
+    let pushed : c.push.new.self.deeds ≡ was.history.deeds ++ Taken change told ∷ [] =
+    on_ok c.push.result (c.push.ensures.room c.in_ok-reserve.ensures.room) c.push.ensures.ok
+    ∙ ap (λ deeds. deeds ++ Taken c.in_ok-copy.field-0 told ∷ []) c.in_ok-reserve.ensures.deeds
+    ∙ ap (λ copy. was.history.deeds ++ Taken copy told ∷ []) c.in_ok-copy.ensures in
+    let noted : c.note.new.vector.ids ≡ with_id (id_of change) was.vector.ids =
+    c.note.ensures.ids ∙ ap (λ v. with_id (id_of change) v.ids) c.in_ok-reserve-2.ensures.room in
+    let low : change.stamp.rv ≤ LIMIT = c.note.ensures.within change refl in
+    let entered : c.enter.new.slots ≡ with_change (applied told change) was.clock was.slots = c.in_ok-enter.ensures.ok
+    ∙ ap (λ m. with_change m was.clock was.slots) c.applied.ensures in
+    rw (pushed, reverse-append, noted, entered)
+    (kept_taken was.id was.opening (kept was.slots was.vector.ids was.floor was.clock was.joined was.to) past change told
+    c.self.invariant here low is)

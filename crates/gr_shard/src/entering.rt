@@ -1,0 +1,69 @@
+ghost use Rattle.std.specs.Prelude.{◌≡◌, ◌≤◌, OnOk, OnErr, option_copied, option_and_then};
+ghost use Rattle.gr_stamp.specs.Winner.{put_value};
+ghost use Rattle.gr_shard.specs.Entries.{slot_ver, with_change, applied, verdict_at};
+
+use gr_history::Verdict;
+use gr_slots::{Slot, Slots};
+use gr_stamp::{Change, LIMIT, Stamp};
+use gr_value::{Copied, Memory, Value};
+use std::alloc::Global;
+
+/// The value of what stands, where a put does.
+pub fn value_of(slot: Option<&Slot>) -> Option<&Value>
+    ensures { option_copied result ≡ option_and_then (λ s. put_value s.kind) (option_copied slot.entry) }
+{
+    slot?.value()
+}
+
+/// The version of what stands, or 0.
+pub fn ver_of(slot: Option<&Slot>) -> u64
+    ensures ver { result ≡ slot_ver (option_copied slot.entry) }
+    ensures within { result ≤ LIMIT }
+{
+    match slot {
+        None => 0,
+        Some(slot) => slot.stamp.ver(),
+    }
+}
+
+/// Sets what came in at this clock, if anything did. Where memory is refused the slots are as before.
+pub fn enter(
+    alloc: Global,
+    slots: &mut Slots,
+    clock: u64,
+    came: Option<&Change>,
+) -> Result<(), Memory>
+    ensures ok { OnOk result (slots.new ≡ with_change (option_copied came.entry) clock slots.old) }
+    ensures err { OnErr result (slots.new ≡ slots.old) }
+{
+    let Some(change) = came else {
+        return Ok(());
+    };
+    let slot = Slot {
+        kind: change.kind.copy(alloc)?,
+        stamp: change.stamp,
+        taken_at: clock,
+    };
+    slots.set(change.key.copy(alloc)?, slot)
+}
+
+/// What becomes of a change that is known or isn't, over what stands.
+pub fn verdict_at(known: bool, slot: Option<&Slot>, stamp: &Stamp) -> Verdict
+    ensures { result ≡ verdict_at known (option_copied slot.entry) stamp.now }
+{
+    match slot {
+        _ if known => Verdict::Repeat,
+        Some(slot) if !stamp.beats(&slot.stamp) => Verdict::Discarded,
+        _ => Verdict::Applied,
+    }
+}
+
+/// The change, where it was applied.
+pub fn applied(verdict: Verdict, change: &Change) -> Option<&Change>
+    ensures { option_copied result ≡ applied verdict change.now }
+{
+    match verdict {
+        Verdict::Applied => Some(change),
+        _ => None,
+    }
+}

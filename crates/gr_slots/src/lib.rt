@@ -1,0 +1,8 @@
+//! What stands at the keys of a shard: at most one slot for each key.
+#![tactic(auto)]
+
+mod slot;
+mod slots;
+
+pub use slot::Slot;
+pub use slots::Slots;

@@ -1,0 +1,26 @@
+ghost use Rattle.std.specs.Prelude.{◌≡◌, option_copied};
+ghost use Rattle.gr_stamp.specs.Winner.{put_value};
+
+use gr_stamp::{Kind, Stamp};
+use gr_value::Value;
+
+/// What stands at a key: a put, or a removal as a tombstone, with its stamp and the shard's clock when
+/// it came in, in seconds.
+#[derive(Drop)]
+pub struct Slot {
+    pub kind: Kind,
+    pub stamp: Stamp,
+    pub taken_at: u64,
+}
+
+impl Slot {
+    /// The value, where a put stands.
+    pub fn value(&self) -> Option<&Value>
+        ensures { option_copied result ≡ put_value self.now.kind }
+    {
+        match &self.kind {
+            Kind::Put(value) => Some(value),
+            Kind::Remove => None,
+        }
+    }
+}
