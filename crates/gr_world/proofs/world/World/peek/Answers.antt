@@ -26,4 +26,4 @@ returns c seq =
     (shard_within c.args.key.now shard script.shards script.ruled.heading.shards.0 c.shard-shard.ensures)
     (c.in_ok-answer.ensures
     ∙ ap (λ account. answer.Peeked (present c.args.key.now (reverse account.deeds)) (length account.deeds)) c.shard.ensures) refl
-    c.in_ok-tell.ensures
+    c.in_ok-tell.ensures refl
