@@ -59,7 +59,8 @@ pub world_leaves : (heading : Heading) (world : World) (members : List MemberRec
     → (events : List Event) → IsWorld heading events world
     → IsLeft heading events (record { members = members; clients = clients })
 world_leaves heading world members clients grid tellings events is =
-    let all = members_leave heading events 1 heading.members members (subst (λ rows. PairsFrom IsMemberOf 1 rows members) is.grid_is grid) in
+    let all = members_leave heading events 1 heading.members members
+    (subst (λ rows. PairsFrom IsMemberOf 1 rows members) is.grid_is grid) in
     record {
       members = all.0;
       regions = all.1;

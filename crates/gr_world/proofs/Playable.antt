@@ -1,7 +1,7 @@
 -- Each line of a script that is built can be played.
 use Rattle.std.proofs.Common.{zero, suc, ◌≡◌, ◌∙◌, ap, sym, subst, refl, ℕ, ◌+◌, ◌≤◌, ◌<◌, List, [], ◌∷◌, ◌++◌, length, reverse, get_or}
 use Rattle.std.proofs.Common.{arith}
-use Rattle.std.proofs.Common.{Bool, true, false, ◌==◌, not, cond, if◌then◌else◌}
+use Rattle.std.proofs.Common.{Bool, true, false, not, cond}
 use Rattle.std.specs.Prelude.{Some, None, nat_lt}
 use Rattle.std.specs.Option.{is_none}
 use Rattle.std.specs.List.{AllByRecursion, All, position, position_or_len}

@@ -13,7 +13,6 @@ use Rattle.gr_history.specs.declared.done.Done.{Done}
 use Rattle.gr_history.specs.declared.record.Answer.{Answer}
 use Rattle.gr_history.specs.declared.record.Answer.TheVariants as answer
 use Rattle.gr_history.specs.Asks.{key_of}
-use Rattle.gr_history.specs.Calls.{call_gives}
 use Rattle.gr_history.specs.Standing.{present}
 use Rattle.gr_shard.specs.View.{Account}
 use Rattle.gr_script.specs.declared.line.Act.TheVariants as act
@@ -30,7 +29,7 @@ use Rattle.gr_world.specs.Courses.{identity_at, does, delivers, after}
 use Rattle.gr_world.specs.Worlds.{HasMade, IsAtWork, IsCell, IsDone, IsWorld, Notes, Plays, account_at, account_in, account_left, deed_at}
 use Rattle.gr_world.specs.Worlds.{grid_left, grid_with, longer, no_account, number_of, row_with, tellings_left, told_also}
 use Rattle.std.specs.Ordering.{nat_cmp}
-use Rattle.std.specs.BTreeMap.{BTreeMap, get}
+use Rattle.std.specs.BTreeMap.{get}
 use Rattle.gr_stamp.specs.declared.change.Change.{Change}
 use Rattle.gr_history.specs.declared.deed.Deed.TheVariants.{Taken}
 use Rattle.gr_history.specs.declared.verdict.Verdict.{Verdict}
@@ -182,7 +181,8 @@ pub call_plays : (heading : Heading) (old new : World) (member shard client seq 
     → Plays heading (after heading (Step client seq (act.Call ask))) old new
 call_plays heading old new member shard client seq ask done is stated at_home at_shard within called notes tells events world =
     let doing = Calls client seq ask in
-    let made = done_left heading events old.grid new.grid member shard doing (call_with client seq ask done) is within world.grid_is called in
+    let made =
+    done_left heading events old.grid new.grid member shard doing (call_with client seq ask done) is within world.grid_is called in
     let did : List Event = Did member shard (call_with client seq ask done) ∷ events in
     let same : did ≡ does heading member shard doing events = ap (λ deed. Did member shard deed ∷ events) made.0 in
     let tellings : new.tellings ≡ tellings_left heading did =
@@ -226,12 +226,14 @@ nothing_plays heading world to client seq low found events is =
 pub peek_plays : (heading : Heading) (old new : World) (member shard client seq : ℕ) (key : List ℕ) (seen : Answer)
     → IsMember heading member → IsStated client heading
     → member ≡ home_of heading client → shard ≡ shard_of key heading.shards → shard < heading.shards
-    → seen ≡ answer.Peeked (present key (reverse (account_at old.grid member shard).deeds)) (length (account_at old.grid member shard).deeds)
+    → seen ≡ answer.Peeked (present key (reverse (account_at old.grid member shard).deeds))
+    (length (account_at old.grid member shard).deeds)
     → new.grid ≡ old.grid → new.tellings ≡ told_also old.tellings client seen → new.made ≡ old.made
     → Plays heading (after heading (Step client seq (act.Peek key))) old new
-peek_plays heading old new member shard client seq key seen is stated at_home at_shard within is_seen grid_is tells made_same events world =
+peek_plays heading old new member shard client seq key seen is stated at_home at_shard within is_seen grid_is tells made_is events world =
     let past = history member shard events in
-    let looked : ℕ → ℕ → List Event = λ m s. Peeked client seq key (present key (history m s events)) (length (history m s events)) ∷ events in
+    let looked : ℕ → ℕ → List Event =
+    λ m s. Peeked client seq key (present key (history m s events)) (length (history m s events)) ∷ events in
     let deeds : (account_at old.grid member shard).deeds ≡ reverse past =
     ap (λ grid. (account_at grid member shard).deeds) world.grid_is
     ∙ ap (λ account. account.deeds) (cell_left heading events member shard is within) in
@@ -245,7 +247,7 @@ peek_plays heading old new member shard client seq key seen is stated at_home at
     let here : IsWorld heading (looked member shard) new = record {
       grid_is = grid_is ∙ world.grid_is;
       tellings_are = tellings;
-      made_are = subst (HasMade (looked member shard)) (sym made_same) world.made_are;
+      made_are = subst (HasMade (looked member shard)) (sym made_is) world.made_are;
     } in
     subst (λ s. IsWorld heading (looked (home_of heading client) s) new) at_shard
     (subst (λ m. IsWorld heading (looked m shard) new) at_home here)

@@ -64,7 +64,8 @@ impl Grid {
         requires cell { IsCell self.old member shard }
         requires here { shard_of (key_of ask.now) (account_at self.old member shard).id.shards ≡
             (account_at self.old member shard).id.shard }
-        ensures { IfOk result (λ done. IsDone self.old self.new member shard (Calls client seq ask.now) (call_with client seq ask.now done)) }
+        ensures { IfOk result
+            (λ done. IsDone self.old self.new member shard (Calls client seq ask.now) (call_with client seq ask.now done)) }
     {
         let row = &mut self.rows[usize::from(member) - 1];
         row.call(alloc, shard, client, seq, ask)
@@ -78,7 +79,8 @@ impl Grid {
         change: &Change,
     ) -> Result<Verdict, Memory>
         requires cell { IsCell self.old member shard }
-        requires here { shard_of change.now.key (account_at self.old member shard).id.shards ≡ (account_at self.old member shard).id.shard }
+        requires here { shard_of change.now.key (account_at self.old member shard).id.shards ≡
+            (account_at self.old member shard).id.shard }
         ensures { IfOk result (λ told. IsDone self.old self.new member shard (Takes change.now) (deed.Taken change.now told)) }
     {
         let row = &mut self.rows[usize::from(member) - 1];

@@ -60,7 +60,8 @@ impl Row {
     ) -> Result<Done, Memory>
         requires within { shard < length self.old }
         requires here { shard_of (key_of ask.now) (account_in self.old shard).id.shards ≡ (account_in self.old shard).id.shard }
-        ensures given { IfOk result (λ done. call_with client seq ask.now done ≡ deed_at (account_in self.old shard) (Calls client seq ask.now)) }
+        ensures given { IfOk result
+            (λ done. call_with client seq ask.now done ≡ deed_at (account_in self.old shard) (Calls client seq ask.now)) }
         ensures added { IfOk result (λ done. self.new ≡ row_with self.old shard (call_with client seq ask.now done)) }
     {
         let shard = &mut self.shards[usize::from(shard)];

@@ -155,7 +155,8 @@ impl World {
     ) -> Result<(), Memory>
         requires work { IsAtWork (heading_of script.now) self.old }
         requires member { IsMember (heading_of script.now) to }
-        ensures { IfOk result (λ _. Plays (heading_of script.now) (after (heading_of script.now) (line.Deliver to client seq)) self.old self.new) }
+        ensures { IfOk result
+            (λ _. Plays (heading_of script.now) (after (heading_of script.now) (line.Deliver to client seq)) self.old self.new) }
     {
         if let Some(change) = self.made.get(&number_of(client, seq)) {
             let shard = change.key.shard(script.shards);

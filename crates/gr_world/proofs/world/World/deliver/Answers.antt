@@ -1,5 +1,5 @@
-use Rattle.std.proofs.Common.{◌≡◌, ◌∙◌, ap, sym, refl, nat_cmp}
-use Rattle.std.specs.BTreeMap.{get, get_by}
+use Rattle.std.proofs.Common.{◌∙◌, ap, sym, refl, nat_cmp}
+use Rattle.std.specs.BTreeMap.{get_by}
 use Rattle.gr_script.specs.Scripts.{heading_of}
 use Rattle.gr_world.proofs.Worlds.{deliver_plays, shard_within, work_cell, work_shard}
 use Rattle.gr_world.proofs.world.World.deliver.Goals as goal

@@ -1,4 +1,4 @@
-use Rattle.std.proofs.Common.{◌≡◌, ◌∙◌, ap, arith, length, refl, reverse}
+use Rattle.std.proofs.Common.{◌∙◌, ap, arith, length, refl, reverse}
 use Rattle.gr_history.specs.declared.record.Answer.TheVariants as answer
 use Rattle.gr_history.specs.Standing.{present}
 use Rattle.gr_script.specs.Scripts.{heading_of}
