@@ -11,7 +11,7 @@ use Rattle.gr_world.specs.declared.world.World.{World}
 use Rattle.gr_world.specs.Events.{Event, history}
 use Rattle.gr_world.specs.Numbered.{numbers_from, PairsFrom}
 use Rattle.gr_world.specs.Records.{HasRegion, HasRegions, IsLeft, MemberHistories, answers, client_left, histories_of, member_left}
-use Rattle.gr_world.specs.Worlds.{IsClientOf, IsMemberOf, account_left, world_left}
+use Rattle.gr_world.specs.Worlds.{IsClientOf, IsMemberOf, IsWorld, account_left}
 use Rattle.gr_world.proofs.Worlds.{row_left}
 
 shards_leave : (heading : Heading) (events : List Event) (member at from n : ℕ) (left : List ShardRecord)
@@ -56,13 +56,14 @@ clients_leave heading events from (suc n) (first ∷ rest) pairs =
 
 pub world_leaves : (heading : Heading) (world : World) (members : List MemberRecord) (clients : List ClientRecord)
     → PairsFrom IsMemberOf 1 world.grid members → PairsFrom (IsClientOf heading.clients) 1 world.tellings clients
-    → (events : List Event) → world ≡ world_left heading events
+    → (events : List Event) → IsWorld heading events world
     → IsLeft heading events (record { members = members; clients = clients })
-world_leaves heading world members clients grid tellings events same =
-    let all = members_leave heading events 1 heading.members members (subst (λ w. PairsFrom IsMemberOf 1 w.grid members) same grid) in
+world_leaves heading world members clients grid tellings events is =
+    let all = members_leave heading events 1 heading.members members
+    (subst (λ rows. PairsFrom IsMemberOf 1 rows members) is.grid_is grid) in
     record {
       members = all.0;
       regions = all.1;
       clients = clients_leave heading events 1 (length heading.clients) clients
-          (subst (λ w. PairsFrom (IsClientOf heading.clients) 1 w.tellings clients) same tellings);
+          (subst (λ lists. PairsFrom (IsClientOf heading.clients) 1 lists clients) is.tellings_are tellings);
     }

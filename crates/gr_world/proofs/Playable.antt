@@ -1,7 +1,7 @@
 -- Each line of a script that is built can be played.
 use Rattle.std.proofs.Common.{zero, suc, ◌≡◌, ◌∙◌, ap, sym, subst, refl, ℕ, ◌+◌, ◌≤◌, ◌<◌, List, [], ◌∷◌, ◌++◌, length, reverse, get_or}
 use Rattle.std.proofs.Common.{arith}
-use Rattle.std.proofs.Common.{Bool, true, false, ◌==◌, not, cond, if◌then◌else◌}
+use Rattle.std.proofs.Common.{Bool, true, false, not, cond}
 use Rattle.std.specs.Prelude.{Some, None, nat_lt}
 use Rattle.std.specs.Option.{is_none}
 use Rattle.std.specs.List.{AllByRecursion, All, position, position_or_len}
@@ -13,7 +13,7 @@ use Rattle.std.proofs.lemmas.List.Recursion.{is_position_or_len}
 use Rattle.gr_script.specs.declared.line.Line.{Line}
 use Rattle.gr_script.specs.declared.line.Line.TheVariants.{Step, Deliver, Hear, Sweep, Join}
 use Rattle.gr_script.specs.declared.line.Line.TheVariants as line
-use Rattle.gr_script.specs.Rules.{Heading, IsScript, IsStated, StandsAfter, AllStand}
+use Rattle.gr_script.specs.Rules.{Heading, IsMember, IsScript, IsStated, StandsAfter, AllStand}
 use Rattle.gr_world.specs.Built.{is_built_line, is_built}
 use Rattle.gr_world.specs.Worlds.{CanPlay}
 
@@ -69,11 +69,11 @@ lines_built lines i d built less = turned _ (no_position test lines i d built le
     turned true h = refl
     turned false h = sym h
 
--- ---- clients are stated
+-- ---- clients and members are stated
 
 abbrev HasStated : Heading → Line → Type 0
 HasStated heading (Step client seq act) = IsStated client heading
-HasStated heading (Deliver to client seq) = Unit {0}
+HasStated heading (Deliver to client seq) = IsMember heading to
 HasStated heading (line.Report member) = Unit {0}
 HasStated heading (Hear by of number) = Unit {0}
 HasStated heading (Sweep member moment) = Unit {0}
@@ -81,7 +81,7 @@ HasStated heading (Join joiner provider) = Unit {0}
 
 line_stated : (heading : Heading) (line : Line) (past : List Line) → StandsAfter heading past line → HasStated heading line
 line_stated heading (Step client seq act) past stands = stands.0
-line_stated heading (Deliver to client seq) past stands = tt
+line_stated heading (Deliver to client seq) past stands = stands.0
 line_stated heading (line.Report member) past stands = tt
 line_stated heading (Hear by of number) past stands = tt
 line_stated heading (Sweep member moment) past stands = tt
@@ -108,7 +108,7 @@ lines_stated heading lines is =
 
 playable : (heading : Heading) (line : Line) → HasStated heading line → is_built_line line ≡ true → CanPlay heading line
 playable heading (Step client seq act) stated built = (stated, built)
-playable heading (Deliver to client seq) stated built = absurd (cc)
+playable heading (Deliver to client seq) stated built = stated
 playable heading (line.Report member) stated built = absurd (cc)
 playable heading (Hear by of number) stated built = absurd (cc)
 playable heading (Sweep member moment) stated built = absurd (cc)

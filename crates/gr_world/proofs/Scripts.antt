@@ -1,5 +1,5 @@
 -- The rows are scripts.
-use Rattle.std.proofs.Common.{◌≡◌, ℕ, ◌≤◌, refl, arith, reverse}
+use Rattle.std.proofs.Common.{refl, arith, reverse}
 use Rattle.gr_script.specs.Rules.{IsHeading, IsScript, AllStand}
 use Rattle.gr_world.specs.Rows.{two_members, three_members, concurrent, repeated, joining}
 

@@ -5,7 +5,7 @@ use Rattle.std.specs.Prelude.{Some, None}
 use Rattle.std.proofs.lemmas.Bool.Decides.{nat_tests}
 use Rattle.std.proofs.lemmas.Grind.{reverse_onto}
 use Rattle.std.proofs.lemmas.List.{reverse-reverse, length-reverse}
-use Rattle.std.specs.Prelude.{◌%◌}
+use Rattle.std.specs.Prelude.{◌%◌, ◌^◌}
 use Rattle.gr_value.specs.Shard.{key_hash, shard_of}
 use Rattle.gr_history.specs.declared.ask.Ask.{Ask}
 use Rattle.gr_history.specs.declared.deed.Deed.{Deed}
@@ -13,22 +13,26 @@ use Rattle.gr_history.specs.declared.done.Done.{Done}
 use Rattle.gr_history.specs.declared.record.Answer.{Answer}
 use Rattle.gr_history.specs.declared.record.Answer.TheVariants as answer
 use Rattle.gr_history.specs.Asks.{key_of}
-use Rattle.gr_history.specs.Calls.{call_gives}
 use Rattle.gr_history.specs.Standing.{present}
 use Rattle.gr_shard.specs.View.{Account}
 use Rattle.gr_script.specs.declared.line.Act.TheVariants as act
-use Rattle.gr_script.specs.declared.line.Line.TheVariants.{Step}
+use Rattle.gr_script.specs.declared.line.Line.TheVariants.{Step, Deliver}
 use Rattle.gr_script.specs.Rules.{Heading, IsMember, IsStated, home_of}
 use Rattle.gr_world.specs.declared.world.World.{World}
 use Rattle.gr_world.specs.Events.{Event, Did, Peeked, put_if, history}
-use Rattle.gr_world.specs.Doings.{Calls, call_with, deed_of}
-use Rattle.gr_world.specs.Courses.{identity_at, does, after}
 use Rattle.gr_world.specs.Clients.{Numbered, add_some, told, told_by}
 use Rattle.gr_world.specs.Numbered.{numbers_from}
 use Rattle.gr_world.specs.Records.{answers}
-use Rattle.gr_world.specs.Worlds.{IsAtWork, IsCalled, IsCell, Plays, account_at, account_in, account_left, gives_at, grid_left, grid_with}
-use Rattle.gr_world.specs.Worlds.{longer, no_account}
-use Rattle.gr_world.specs.Worlds.{row_with, tellings_left, told_also, world_left}
+use Rattle.gr_world.specs.Doings.{Doing, Calls, Takes, call_with, deed_of}
+use Rattle.gr_world.specs.Named.{or_else}
+use Rattle.gr_world.specs.Courses.{identity_at, does, delivers, after}
+use Rattle.gr_world.specs.Worlds.{HasMade, IsAtWork, IsCell, IsDone, IsWorld, Notes, Plays, account_at, account_in, account_left, deed_at}
+use Rattle.gr_world.specs.Worlds.{grid_left, grid_with, longer, no_account, number_of, row_with, tellings_left, told_also}
+use Rattle.std.specs.Ordering.{nat_cmp}
+use Rattle.std.specs.BTreeMap.{get}
+use Rattle.gr_stamp.specs.declared.change.Change.{Change}
+use Rattle.gr_history.specs.declared.deed.Deed.TheVariants.{Taken}
+use Rattle.gr_history.specs.declared.verdict.Verdict.{Verdict}
 use Rattle.gr_world.proofs.Events.{history_here, same_number}
 use Rattle.gr_world.proofs.Lists.{numbers_get, numbers_length, numbers_same, numbers_set}
 
@@ -151,38 +155,72 @@ tellings_next heading events event client number told_now is tells =
     if_other : {b : Bool} → b ≡ false → (one : Numbered) → (if b then Some one else None) ≡ None
     if_other h one = rw h refl
 
-world_of : List (List Account) → List (List Answer) → World
-world_of grid tellings = record { grid = grid; tellings = tellings }
+-- What is done at a shard of the grid is done to its course.
+pub done_left : (heading : Heading) (events : List Event) (old new : List (List Account)) (member shard : ℕ) (doing : Doing) (deed : Deed)
+    → IsMember heading member → shard < heading.shards → old ≡ grid_left heading events → IsDone old new member shard doing deed
+    → (deed ≡ deed_of (identity_at heading member shard) heading.floor (history member shard events) doing)
+    × (new ≡ grid_left heading (does heading member shard doing events))
+done_left heading events old new member shard doing deed is within same done =
+    let past = history member shard events in
+    let deed_is : deed ≡ deed_of (identity_at heading member shard) heading.floor past doing =
+    done.deed_is ∙ ap (λ grid. deed_at (account_at grid member shard) doing) same
+    ∙ ap (λ account. deed_at account doing) (cell_left heading events member shard is within)
+    ∙ ap (λ p. deed_of (identity_at heading member shard) heading.floor p doing) (reverse-reverse past) in (
+      deed_is,
+      done.added ∙ ap (λ grid. grid_with grid member shard deed) same ∙ ap (grid_with (grid_left heading events) member shard) deed_is
+          ∙ grid_next heading events member shard _ is within,
+    )
 
--- A call adds its deed and tells its reply.
+-- A call adds its deed and tells its reply, and what it made is noted.
 pub call_plays : (heading : Heading) (old new : World) (member shard client seq : ℕ) (ask : Ask) (done : Done)
     → IsMember heading member → IsStated client heading
     → member ≡ home_of heading client → shard ≡ shard_of (key_of ask) heading.shards → shard < heading.shards
-    → IsCalled old.grid new.grid member shard client seq ask done
+    → IsDone old.grid new.grid member shard (Calls client seq ask) (call_with client seq ask done)
+    → Notes client seq done.made old.made new.made
     → new.tellings ≡ told_also old.tellings client (answer.Reply done.reply)
     → Plays heading (after heading (Step client seq (act.Call ask))) old new
-unfolding world_of
-call_plays heading old new member shard client seq ask done is stated at_home at_shard within called tells events same =
-    let past = history member shard events in
+call_plays heading old new member shard client seq ask done is stated at_home at_shard within called notes tells events world =
     let doing = Calls client seq ask in
-    let deed = deed_of (identity_at heading member shard) heading.floor past doing in
-    let gives : done ≡ call_gives (identity_at heading member shard) heading.floor past ask =
-    called.given ∙ ap (λ w. gives_at (account_at w.grid member shard) ask) same
-    ∙ ap (λ account. gives_at account ask) (cell_left heading events member shard is within)
-    ∙ ap (λ p. call_gives (identity_at heading member shard) heading.floor p ask) (reverse-reverse past) in
-    let deed_is : call_with client seq ask done ≡ deed = ap (call_with client seq ask) gives in
-    let grid : new.grid ≡ grid_left heading (does heading member shard doing events) =
-    called.added ∙ ap (λ w. grid_with w.grid member shard (call_with client seq ask done)) same
-    ∙ ap (grid_with (grid_left heading events) member shard) deed_is
-    ∙ grid_next heading events member shard deed is within in
-    let tellings : new.tellings ≡ tellings_left heading (does heading member shard doing events) =
-    tells ∙ ap (λ w. told_also w.tellings client (answer.Reply done.reply)) same
-    ∙ ap (λ d. told_also (tellings_left heading events) client (answer.Reply d.reply)) gives
-    ∙ tellings_next heading events (Did member shard deed) client seq _ stated (λ c. refl) in
-    let played : new ≡ world_left heading (does heading member shard doing events) =
-    ap (λ g. world_of g new.tellings) grid ∙ ap (world_of (grid_left heading (does heading member shard doing events))) tellings in
-    played ∙ ap (λ m. world_left heading (does heading m shard doing events)) at_home
-    ∙ ap (λ s. world_left heading (does heading (home_of heading client) s doing events)) at_shard
+    let made =
+    done_left heading events old.grid new.grid member shard doing (call_with client seq ask done) is within world.grid_is called in
+    let did : List Event = Did member shard (call_with client seq ask done) ∷ events in
+    let same : did ≡ does heading member shard doing events = ap (λ deed. Did member shard deed ∷ events) made.0 in
+    let tellings : new.tellings ≡ tellings_left heading did =
+    tells ∙ ap (λ lists. told_also lists client (answer.Reply done.reply)) world.tellings_are
+    ∙ tellings_next heading events (Did member shard (call_with client seq ask done)) client seq _ stated (λ c. refl) in
+    let here : IsWorld heading (does heading member shard doing events) new = record {
+      grid_is = made.1;
+      tellings_are = tellings ∙ ap (tellings_left heading) same;
+      made_are = subst (λ all. HasMade all new.made) same
+          (λ own number low. notes own number low
+          ∙ ap (or_else (if client == own && seq == number then done.made else None)) (world.made_are own number low));
+    } in
+    subst (λ s. IsWorld heading (does heading (home_of heading client) s doing events) new) at_shard
+    (subst (λ m. IsWorld heading (does heading m shard doing events) new) at_home here)
+
+-- What was made is taken in, in the shard of its key.
+pub deliver_plays : (heading : Heading) (old new : World) (to client seq shard : ℕ) (change : Change) (told_now : Verdict) → seq < 2 ^ 32
+    → get nat_cmp old.made (number_of client seq) ≡ Some change
+    → IsMember heading to → shard ≡ shard_of change.key heading.shards → shard < heading.shards
+    → IsDone old.grid new.grid to shard (Takes change) (Taken change told_now)
+    → new.tellings ≡ old.tellings → new.made ≡ old.made
+    → Plays heading (after heading (Deliver to client seq)) old new
+deliver_plays heading old new to client seq shard change told_now low found is at_shard within taken tells made_same events world =
+    let done = done_left heading events old.grid new.grid to shard (Takes change) (Taken change told_now) is within world.grid_is taken in
+    let here : IsWorld heading (does heading to shard (Takes change) events) new = record {
+      grid_is = done.1;
+      tellings_are = tells ∙ world.tellings_are;
+      made_are = subst (HasMade (does heading to shard (Takes change) events)) (sym made_same) world.made_are;
+    } in
+    subst (λ o. IsWorld heading (delivers heading to o events) new) (sym found ∙ world.made_are client seq low)
+    (subst (λ s. IsWorld heading (does heading to s (Takes change) events) new) at_shard here)
+
+-- A step that made nothing delivers nothing.
+pub nothing_plays : (heading : Heading) (world : World) (to client seq : ℕ) → seq < 2 ^ 32
+    → get nat_cmp world.made (number_of client seq) ≡ None
+    → Plays heading (after heading (Deliver to client seq)) world world
+nothing_plays heading world to client seq low found events is =
+    subst (λ o. IsWorld heading (delivers heading to o events) world) (sym found ∙ is.made_are client seq low) is
 
 -- A peek tells what is present.
 pub peek_plays : (heading : Heading) (old new : World) (member shard client seq : ℕ) (key : List ℕ) (seen : Answer)
@@ -190,28 +228,29 @@ pub peek_plays : (heading : Heading) (old new : World) (member shard client seq 
     → member ≡ home_of heading client → shard ≡ shard_of key heading.shards → shard < heading.shards
     → seen ≡ answer.Peeked (present key (reverse (account_at old.grid member shard).deeds))
     (length (account_at old.grid member shard).deeds)
-    → new.grid ≡ old.grid → new.tellings ≡ told_also old.tellings client seen
+    → new.grid ≡ old.grid → new.tellings ≡ told_also old.tellings client seen → new.made ≡ old.made
     → Plays heading (after heading (Step client seq (act.Peek key))) old new
-unfolding world_of
-peek_plays heading old new member shard client seq key seen is stated at_home at_shard within is_seen grid_is tells events same =
+peek_plays heading old new member shard client seq key seen is stated at_home at_shard within is_seen grid_is tells made_is events world =
     let past = history member shard events in
-    let looked : ℕ → ℕ
-    → List Event = λ m s. Peeked client seq key (present key (history m s events)) (length (history m s events)) ∷ events in
-    let cell = cell_left heading events member shard is within in
+    let looked : ℕ → ℕ → List Event =
+    λ m s. Peeked client seq key (present key (history m s events)) (length (history m s events)) ∷ events in
     let deeds : (account_at old.grid member shard).deeds ≡ reverse past =
-    ap (λ w. (account_at w.grid member shard).deeds) same ∙ ap (λ account. account.deeds) cell in
+    ap (λ grid. (account_at grid member shard).deeds) world.grid_is
+    ∙ ap (λ account. account.deeds) (cell_left heading events member shard is within) in
     let seen_is : seen ≡ answer.Peeked (present key past) (length past) =
     is_seen ∙ ap (λ ds. answer.Peeked (present key (reverse ds)) (length ds)) deeds
     ∙ ap (λ ds. answer.Peeked (present key ds) (length (reverse past))) (reverse-reverse past)
     ∙ ap (answer.Peeked (present key past)) (length-reverse past) in
-    let grid : new.grid ≡ grid_left heading (looked member shard) = grid_is ∙ ap (λ w. w.grid) same in
     let tellings : new.tellings ≡ tellings_left heading (looked member shard) =
-    tells ∙ ap (λ w. told_also w.tellings client seen) same ∙ ap (told_also (tellings_left heading events) client) seen_is
+    tells ∙ ap (λ lists. told_also lists client seen) world.tellings_are ∙ ap (told_also (tellings_left heading events) client) seen_is
     ∙ tellings_next heading events (Peeked client seq key (present key past) (length past)) client seq _ stated (λ c. refl) in
-    let played : new ≡ world_left heading (looked member shard) =
-    ap (λ g. world_of g new.tellings) grid ∙ ap (world_of (grid_left heading (looked member shard))) tellings in
-    played ∙ ap (λ m. world_left heading (looked m shard)) at_home
-    ∙ ap (λ s. world_left heading (looked (home_of heading client) s)) at_shard
+    let here : IsWorld heading (looked member shard) new = record {
+      grid_is = grid_is ∙ world.grid_is;
+      tellings_are = tellings;
+      made_are = subst (HasMade (looked member shard)) (sym made_is) world.made_are;
+    } in
+    subst (λ s. IsWorld heading (looked (home_of heading client) s) new) at_shard
+    (subst (λ m. IsWorld heading (looked m shard) new) at_home here)
 
 -- ---- what a world that is at work has
 
@@ -225,22 +264,22 @@ shard_within key shard shards some is = mod_within (key_hash key) shards some is
 pub work_cell : (heading : Heading) (world : World) (member shard : ℕ) → IsAtWork heading world → IsMember heading member
     → shard < heading.shards
     → IsCell world.grid member shard
-work_cell heading world member shard (events, same) is within =
-    subst (λ w. IsCell w.grid member shard) (sym same) (is_cell heading events member shard is within)
+work_cell heading world member shard (events, left) is within =
+    subst (λ grid. IsCell grid member shard) (sym left.grid_is) (is_cell heading events member shard is within)
 
 -- and its identity is that of the place
 pub work_shard : (heading : Heading) (world : World) (member shard : ℕ) (key : List ℕ) → IsAtWork heading world → IsMember heading member
     → shard < heading.shards → shard ≡ shard_of key heading.shards
     → shard_of key (account_at world.grid member shard).id.shards ≡ (account_at world.grid member shard).id.shard
-work_shard heading world member shard key (events, same) is within at_shard =
+work_shard heading world member shard key (events, left) is within at_shard =
     let cell : account_at world.grid member shard ≡ account_left heading events member shard =
-    ap (λ w. account_at w.grid member shard) same ∙ cell_left heading events member shard is within in
+    ap (λ grid. account_at grid member shard) left.grid_is ∙ cell_left heading events member shard is within in
     ap (λ account. shard_of key account.id.shards) cell ∙ sym at_shard ∙ sym (ap (λ account. account.id.shard) cell)
 
 pub work_clients : (heading : Heading) (world : World) → IsAtWork heading world → length world.tellings ≡ length heading.clients
-work_clients heading world (events, same) =
-    ap (λ w. length w.tellings) same ∙ numbers_length 1 (length heading.clients) (λ client. answers client events)
+work_clients heading world (events, left) =
+    ap (λ lists. length lists) left.tellings_are ∙ numbers_length 1 (length heading.clients) (λ client. answers client events)
 
 pub work_members : (heading : Heading) (world : World) → IsAtWork heading world → length world.grid ≡ heading.members
-work_members heading world (events, same) =
-    ap (λ w. length w.grid) same ∙ numbers_length 1 heading.members (row_left heading events)
+work_members heading world (events, left) =
+    ap (λ rows. length rows) left.grid_is ∙ numbers_length 1 heading.members (row_left heading events)

@@ -7,12 +7,12 @@ use Rattle.gr_script.specs.declared.line.Line.{Line}
 use Rattle.gr_script.specs.declared.line.Line.TheVariants.{Step, Deliver, Hear, Sweep, Join}
 use Rattle.gr_script.specs.declared.line.Line.TheVariants as line
 
--- Calls and peeks.
+-- Calls, peeks and deliveries.
 abbrev pub is_built_line : Line → Bool
 is_built_line (Step client seq (act.Call ask)) = true
 is_built_line (Step client seq (act.Query ask)) = false
 is_built_line (Step client seq (act.Peek key)) = true
-is_built_line (Deliver to client seq) = false
+is_built_line (Deliver to client seq) = true
 is_built_line (line.Report member) = false
 is_built_line (Hear by of number) = false
 is_built_line (Sweep member moment) = false

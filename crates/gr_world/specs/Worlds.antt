@@ -1,11 +1,12 @@
--- The shards of all members and what each client was told, as a course leaves them.
-use Rattle.std.specs.Prelude.{◌≡◌, ℕ, true, ◌-◌, ◌≤◌, ◌<◌, List, [], ◌∷◌, ◌++◌, length, reverse, get_or, set, slice_index}
-use Rattle.gr_history.specs.declared.ask.Ask.{Ask}
+-- The shards of all members, what each client was told, and what each step made, as a course leaves them.
+use Rattle.std.specs.Prelude.{◌≡◌, ℕ, ◌+◌, ◌-◌, ◌*◌, ◌^◌, ◌≤◌, ◌<◌, true, ◌&&◌, ◌==◌, List, [], ◌∷◌, ◌++◌, length, reverse, get_or, set}
+use Rattle.std.specs.Prelude.{slice_index, Option, None, if◌then◌else◌}
+use Rattle.std.specs.Ordering.{nat_cmp}
+use Rattle.std.specs.BTreeMap.{BTreeMap, get}
+use Rattle.gr_stamp.specs.declared.change.Change.{Change}
 use Rattle.gr_history.specs.declared.deed.Deed.{Deed}
-use Rattle.gr_history.specs.declared.done.Done.{Done}
 use Rattle.gr_history.specs.declared.identity.Identity.{Identity}
 use Rattle.gr_history.specs.declared.record.Answer.{Answer}
-use Rattle.gr_history.specs.Calls.{call_gives}
 use Rattle.gr_history.specs.declared.record.ClientRecord.{ClientRecord}
 use Rattle.gr_history.specs.declared.record.MemberRecord.{MemberRecord}
 use Rattle.gr_shard.specs.Records.{IsRecordOf}
@@ -13,10 +14,11 @@ use Rattle.gr_shard.specs.View.{Account}
 use Rattle.gr_script.specs.declared.line.Line.{Line}
 use Rattle.gr_script.specs.declared.line.Line.TheVariants.{Step, Deliver, Hear, Sweep, Join}
 use Rattle.gr_script.specs.declared.line.Line.TheVariants as line
-use Rattle.gr_script.specs.Rules.{Heading, IsStated}
+use Rattle.gr_script.specs.Rules.{Heading, IsMember, IsStated}
 use Rattle.gr_world.specs.Built.{is_built_line}
 use Rattle.gr_world.specs.Events.{Event, history}
-use Rattle.gr_world.specs.Doings.{call_with}
+use Rattle.gr_world.specs.Doings.{Doing, deed_of}
+use Rattle.gr_world.specs.Named.{made_by, or_else}
 use Rattle.gr_world.specs.Courses.{identity_at}
 use Rattle.gr_world.specs.Records.{answers}
 use Rattle.gr_world.specs.Numbered.{numbers_from, PairsFrom}
@@ -38,6 +40,10 @@ pub record IsCell (grid : List (List Account)) (member shard : ℕ) : Type 0 whe
   pub stated : member ≤ length grid
   pub within : shard < length (get_or grid (member - 1) [])
 
+-- the deed of what is done at a shard
+abbrev pub deed_at : Account → Doing → Deed
+deed_at account doing = deed_of account.id account.opening (reverse account.deeds) doing
+
 -- with one more deed
 abbrev pub longer : Account → Deed → Account
 longer account deed = record account { deeds = account.deeds ++ deed ∷ [] }
@@ -48,14 +54,10 @@ row_with row shard deed = set row shard (longer (account_in row shard) deed)
 abbrev pub grid_with : List (List Account) → ℕ → ℕ → Deed → List (List Account)
 grid_with grid member shard deed = set grid (member - 1) (row_with (get_or grid (member - 1) []) shard deed)
 
--- what a call gives at a shard
-abbrev pub gives_at : Account → Ask → Done
-gives_at account ask = call_gives account.id account.opening (reverse account.deeds) ask
-
--- The one shard has the one deed more.
-pub record IsCalled (old new : List (List Account)) (member shard client seq : ℕ) (ask : Ask) (done : Done) : Type 0 where
-  pub given : done ≡ gives_at (account_at old member shard) ask
-  pub added : new ≡ grid_with old member shard (call_with client seq ask done)
+-- The one shard has the one deed more that its history tells.
+pub record IsDone (old new : List (List Account)) (member shard : ℕ) (doing : Doing) (deed : Deed) : Type 0 where
+  pub deed_is : deed ≡ deed_at (account_at old member shard) doing
+  pub added : new ≡ grid_with old member shard deed
 
 abbrev pub new_account : Identity → ℕ → ℕ → Account
 new_account id floor shard = record { id = record id { shard = shard }; opening = floor; deeds = [] }
@@ -87,8 +89,24 @@ grid_left heading events = numbers_from 1 heading.members (λ member. numbers_fr
 abbrev pub tellings_left : Heading → List Event → List (List Answer)
 tellings_left heading events = numbers_from 1 (length heading.clients) (λ client. answers client events)
 
-abbrev pub world_left : Heading → List Event → World
-world_left heading events = record { grid = grid_left heading events; tellings = tellings_left heading events }
+-- a step's number among the steps of all clients
+abbrev pub number_of : ℕ → ℕ → ℕ
+number_of client seq = client * 2 ^ 32 + seq
+
+-- The table has what each step made.
+abbrev pub HasMade : List Event → BTreeMap ℕ Change → Type 0
+HasMade events made = (client seq : ℕ) → seq < 2 ^ 32 → get nat_cmp made (number_of client seq) ≡ made_by client seq events
+
+-- The table has what this step made too.
+abbrev pub Notes : ℕ → ℕ → Option Change → BTreeMap ℕ Change → BTreeMap ℕ Change → Type 0
+Notes client seq made old new = (own number : ℕ) → number < 2 ^ 32
+    → get nat_cmp new (number_of own number)
+    ≡ or_else (if client == own && seq == number then made else None) (get nat_cmp old (number_of own number))
+
+pub record IsWorld (heading : Heading) (events : List Event) (world : World) : Type 0 where
+  pub grid_is : world.grid ≡ grid_left heading events
+  pub tellings_are : world.tellings ≡ tellings_left heading events
+  pub made_are : HasMade events world.made
 
 -- a client is told one answer more
 abbrev pub told_also : List (List Answer) → ℕ → Answer → List (List Answer)
@@ -96,16 +114,16 @@ told_also tellings client answer = set tellings (client - 1) (get_or tellings (c
 
 -- The world is what some course leaves.
 abbrev pub IsAtWork : Heading → World → Type 0
-IsAtWork heading world = (events : List Event) × (world ≡ world_left heading events)
+IsAtWork heading world = (events : List Event) × IsWorld heading events world
 
 -- What is done to each course that left the old world was done to it.
 abbrev pub Plays : Heading → (List Event → List Event) → World → World → Type 0
-Plays heading act old new = (events : List Event) → old ≡ world_left heading events → new ≡ world_left heading (act events)
+Plays heading act old new = (events : List Event) → IsWorld heading events old → IsWorld heading (act events) new
 
--- A call or a peek of a client that is stated.
+-- A call or a peek of a client that is stated, or a delivery to a member.
 abbrev pub CanPlay : Heading → Line → Type 0
 CanPlay heading (Step client seq act) = IsStated client heading × (is_built_line (Step client seq act) ≡ true)
-CanPlay heading (Deliver to client seq) = ⊥
+CanPlay heading (Deliver to client seq) = IsMember heading to
 CanPlay heading (line.Report member) = ⊥
 CanPlay heading (Hear by of number) = ⊥
 CanPlay heading (Sweep member moment) = ⊥

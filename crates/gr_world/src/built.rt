@@ -11,7 +11,7 @@ fn is_built(line: &Line) -> bool
         Line::Step {
             act: Act::Call(_) | Act::Peek(_),
             ..
-        }
+        } | Line::Deliver { .. }
     )
 }
 

@@ -1,13 +1,16 @@
 ghost use Rattle.std.specs.Prelude.{◌≡◌, ◌≤◌, IfOk, length};
 ghost use Rattle.gr_value.specs.Shard.{shard_of};
+ghost use Rattle.gr_history.specs.declared.deed.Deed.TheVariants as deed;
 ghost use Rattle.gr_history.specs.Asks.{key_of};
+ghost use Rattle.gr_world.specs.Doings.{Calls, Takes, call_with};
 ghost use Rattle.gr_shard.specs.View.{IsPlace};
 ghost use Rattle.gr_world.specs.Numbered.{numbers_from, PairsFrom};
-ghost use Rattle.gr_world.specs.Worlds.{IsCalled, IsCell, IsMemberOf, account_at, new_row};
+ghost use Rattle.gr_world.specs.Worlds.{IsCell, IsDone, IsMemberOf, account_at, new_row};
 
 use crate::row::Row;
-use gr_history::{Ask, Done, Identity, MemberRecordList};
+use gr_history::{Ask, Done, Identity, MemberRecordList, Verdict};
 use gr_shard::Shard;
+use gr_stamp::Change;
 use gr_value::Memory;
 use std::alloc::Global;
 use std::marker::Model;
@@ -61,10 +64,27 @@ impl Grid {
         requires cell { IsCell self.old member shard }
         requires here { shard_of (key_of ask.now) (account_at self.old member shard).id.shards ≡
             (account_at self.old member shard).id.shard }
-        ensures { IfOk result (IsCalled self.old self.new member shard client seq ask.now) }
+        ensures { IfOk result
+            (λ done. IsDone self.old self.new member shard (Calls client seq ask.now) (call_with client seq ask.now done)) }
     {
         let row = &mut self.rows[usize::from(member) - 1];
         row.call(alloc, shard, client, seq, ask)
+    }
+
+    pub fn take_in(
+        &mut self,
+        alloc: Global,
+        member: u8,
+        shard: u8,
+        change: &Change,
+    ) -> Result<Verdict, Memory>
+        requires cell { IsCell self.old member shard }
+        requires here { shard_of change.now.key (account_at self.old member shard).id.shards ≡
+            (account_at self.old member shard).id.shard }
+        ensures { IfOk result (λ told. IsDone self.old self.new member shard (Takes change.now) (deed.Taken change.now told)) }
+    {
+        let row = &mut self.rows[usize::from(member) - 1];
+        row.take_in(alloc, shard, change)
     }
 
     /// What all members leave.

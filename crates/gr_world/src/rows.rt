@@ -2,7 +2,8 @@ ghost use Rattle.std.specs.Prelude.{◌≡◌, reverse};
 ghost use Rattle.gr_script.specs.Rules.{IsScript};
 ghost use Rattle.gr_world.specs.Courses.{course};
 ghost use Rattle.gr_world.specs.Events.{history};
-ghost use Rattle.gr_world.specs.Rows.{two_members, three_members, concurrent, concurrent_course, repeated, repeated_history, joining, giver_history, joiner_history};
+ghost use Rattle.gr_world.specs.Rows.{two_members, three_members, concurrent, concurrent_course, repeated, repeated_history, joining};
+ghost use Rattle.gr_world.specs.Rows.{giver_history, joiner_history};
 
 /// Of two puts that neither maker knew of the other's, the one of the greater member stands at both.
 pub fn concurrent_puts_meet()

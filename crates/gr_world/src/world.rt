@@ -8,21 +8,46 @@ ghost use Rattle.gr_history.specs.Standing.{present};
 ghost use Rattle.gr_world.specs.Courses.{after};
 ghost use Rattle.gr_world.specs.Events.{Event};
 ghost use Rattle.gr_world.specs.Records.{IsLeft};
-ghost use Rattle.gr_world.specs.Worlds.{CanPlay, IsAtWork, Plays, world_left};
+ghost use Rattle.gr_world.specs.Worlds.{CanPlay, IsAtWork, IsWorld, Notes, Plays, number_of};
 
 use crate::grid::Grid;
 use crate::tellings::Tellings;
 use gr_history::{Answer, Ask, Identity, Record};
 use gr_script::{Act, Line, Script};
 use gr_shard::Shard;
+use gr_stamp::Change;
 use gr_value::{Copied, Key, Memory};
 use std::alloc::Global;
+use std::collections::BTreeMap;
 
-/// All members' shards, and what each client was told.
+/// All members' shards, what each client was told, and what each step made.
 #[derive(Drop)]
 pub struct World {
     pub grid: Grid,
     pub tellings: Tellings,
+    pub made: BTreeMap<u64, Change>,
+}
+
+// The number of a client's step among those of all clients.
+fn number_of(client: u8, seq: u32) -> u64
+    ensures { result ≡ number_of client seq }
+{
+    u64::from(client) * 0x1_0000_0000 + u64::from(seq)
+}
+
+// Notes what a step made, if it made anything.
+fn note(
+    table: &mut BTreeMap<u64, Change>,
+    client: u8,
+    seq: u32,
+    made: Option<Change>,
+) -> Result<(), Memory>
+    ensures { IfOk result (λ _. Notes client seq made table.old table.new) }
+{
+    if let Some(change) = made {
+        table.insert(number_of(client, seq), change)?;
+    }
+    Ok(())
 }
 
 // The member that a client is at.
@@ -49,7 +74,7 @@ fn seen(alloc: Global, shard: &Shard, key: &Key) -> Result<Answer, Memory>
 impl World {
     /// The world before the first line.
     pub fn new(alloc: Global, script: &Script) -> Result<World, Memory>
-        ensures { IfOk result (λ world. world ≡ world_left (heading_of script.now) []) }
+        ensures { IfOk result (IsWorld (heading_of script.now) []) }
     {
         let id = Identity {
             member: 1,
@@ -61,6 +86,7 @@ impl World {
         Ok(World {
             grid: Grid::new(alloc, id, script.floor)?,
             tellings: Tellings::new(alloc, script.clients.len())?,
+            made: BTreeMap::new(alloc),
         })
     }
 
@@ -81,6 +107,7 @@ impl World {
         let member = home(script, client);
         let shard = ask.key().shard(script.shards);
         let done = self.grid.call(alloc, member, shard, client, seq, ask)?;
+        note(&mut self.made, client, seq, done.made)?;
         Ok(self.tellings.tell(client, Answer::Reply(done.reply))?)
     }
 
@@ -118,6 +145,26 @@ impl World {
         }
     }
 
+    fn deliver(
+        &mut self,
+        alloc: Global,
+        script: &Script,
+        to: u8,
+        client: u8,
+        seq: u32,
+    ) -> Result<(), Memory>
+        requires work { IsAtWork (heading_of script.now) self.old }
+        requires member { IsMember (heading_of script.now) to }
+        ensures { IfOk result
+            (λ _. Plays (heading_of script.now) (after (heading_of script.now) (line.Deliver to client seq)) self.old self.new) }
+    {
+        if let Some(change) = self.made.get(&number_of(client, seq)) {
+            let shard = change.key.shard(script.shards);
+            let _ = self.grid.take_in(alloc, to, shard, change)?;
+        }
+        Ok(())
+    }
+
     /// Does what a line names.
     pub fn play(&mut self, alloc: Global, script: &Script, line: &Line) -> Result<(), Memory>
         requires work { IsAtWork (heading_of script.now) self.old }
@@ -126,6 +173,9 @@ impl World {
     {
         match line {
             Line::Step { client, seq, act } => Ok(self.step(alloc, script, *client, *seq, act)?),
+            Line::Deliver { to, client, seq } => {
+                Ok(self.deliver(alloc, script, *to, *client, *seq)?)
+            }
             _ => Ok(()),
         }
     }
@@ -134,10 +184,10 @@ impl World {
     pub fn into_record(self, alloc: Global, script: &Script) -> Result<Record, Memory>
         requires { IsAtWork (heading_of script.now) self }
         ensures { IfOk result
-            (λ left. (events : List Event) → self ≡ world_left (heading_of script.now) events
+            (λ left. (events : List Event) → IsWorld (heading_of script.now) events self
             → IsLeft (heading_of script.now) events left) }
     {
-        let World { grid, tellings } = self;
+        let World { grid, tellings, .. } = self;
         Ok(Record {
             members: grid.into_records(alloc)?,
             clients: tellings.into_records(alloc, script.clients.as_slice())?,

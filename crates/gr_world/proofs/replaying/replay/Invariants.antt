@@ -1,9 +1,9 @@
-use Rattle.std.proofs.Common.{◌≡◌, reverse, take}
+use Rattle.std.proofs.Common.{reverse, take}
 use Rattle.gr_script.specs.Scripts.{heading_of}
 use Rattle.gr_world.specs.Courses.{course}
-use Rattle.gr_world.specs.Worlds.{world_left}
+use Rattle.gr_world.specs.Worlds.{IsWorld}
 use Rattle.gr_world.proofs.replaying.replay.Given as goal
 
 abbrev pub invariant-loop-line : goal.invariant-loop-line
 invariant-loop-line l =
-    l.world ≡ world_left (heading_of l.script) (course (heading_of l.script) (reverse (take l.line-index l.line-items)))
+    IsWorld (heading_of l.script) (course (heading_of l.script) (reverse (take l.line-index l.line-items))) l.world

@@ -1,4 +1,4 @@
-use Rattle.std.proofs.Common.{refl, arith}
+use Rattle.std.proofs.Common.{refl}
 use Rattle.gr_history.specs.Recipients.{recipients}
 use Rattle.gr_world.proofs.Scripts.{repeated-script}
 use Rattle.gr_world.proofs.rows.a_repeat_is_told.Goals as goal

@@ -1,4 +1,4 @@
-use Rattle.std.proofs.Common.{refl, arith}
+use Rattle.std.proofs.Common.{refl}
 use Rattle.gr_history.specs.Recipients.{recipients}
 use Rattle.gr_world.proofs.Scripts.{joining-script}
 use Rattle.gr_world.proofs.rows.an_image_drops_a_tombstone.Goals as goal

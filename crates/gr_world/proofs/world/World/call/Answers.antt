@@ -36,4 +36,4 @@ returns c =
     let at : shard ≡ shard_of key script.shards = c.shard-shard.ensures ∙ ap (λ k. shard_of k script.shards) c.key.ensures in
     call_plays (heading_of script) c.args.self.now _ c.home-member.result shard c.args.client c.args.seq c.args.ask.now
     c.in_ok-done.done c.home-member.ensures.member c.requires.stated c.home-member.ensures.home at
-    (shard_within key shard script.shards script.ruled.heading.shards.0 at) c.in_ok-done.ensures c.in_ok-tell.ensures
+    (shard_within key shard script.shards script.ruled.heading.shards.0 at) c.in_ok-done.ensures c.in_ok-note.ensures c.in_ok-tell.ensures

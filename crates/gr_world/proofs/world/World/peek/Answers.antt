@@ -1,4 +1,4 @@
-use Rattle.std.proofs.Common.{◌≡◌, ◌∙◌, ap, arith, length, refl, reverse}
+use Rattle.std.proofs.Common.{◌∙◌, ap, arith, length, refl, reverse}
 use Rattle.gr_history.specs.declared.record.Answer.TheVariants as answer
 use Rattle.gr_history.specs.Standing.{present}
 use Rattle.gr_script.specs.Scripts.{heading_of}
@@ -26,4 +26,4 @@ returns c seq =
     (shard_within c.args.key.now shard script.shards script.ruled.heading.shards.0 c.shard-shard.ensures)
     (c.in_ok-answer.ensures
     ∙ ap (λ account. answer.Peeked (present c.args.key.now (reverse account.deeds)) (length account.deeds)) c.shard.ensures) refl
-    c.in_ok-tell.ensures
+    c.in_ok-tell.ensures refl
