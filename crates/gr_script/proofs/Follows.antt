@@ -122,7 +122,7 @@ with_follows false past read longer e next all =
     let b = bind_ok read _ longer e in
     subst AllFollow (done_is (b.0 ∷ past) longer b.2) (next b.0 b.1, all)
 
-past_follows : (runs : Bool) (past : List Saying) (line : List ℕ) (longer : List Saying) → IsLine line
+pub past_follows : (runs : Bool) (past : List Saying) (line : List ℕ) (longer : List Saying) → IsLine line
     → past_with runs past line ≡ Ok longer → AllFollow past → AllFollow longer
 past_follows runs past line longer alone e all =
     let t = bind_ok (text_at line) _ longer e in
