@@ -152,7 +152,7 @@ saying_back setting line items suit = all_back setting line (fields line) items 
 
 -- ---- the form, by the first field or the second
 
-front_is : (text : List ℕ) (more : List (List ℕ)) → IsPlain text → first (spaced (text ∷ more)) ≡ text
+pub front_is : (text : List ℕ) (more : List (List ℕ)) → IsPlain text → first (spaced (text ∷ more)) ≡ text
 front_is text [] plain = ap first (append-nil text) ∙ piece_alone field.Word text (field_alone text plain.each)
 front_is text (next ∷ more) plain = piece_front field.Word text (spaced (next ∷ more)) (field_before_space text (spaced (next ∷ more)) plain.each)
 

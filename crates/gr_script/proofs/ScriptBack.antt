@@ -46,7 +46,7 @@ line_again (byte ∷ line) rest is =
     let parts = or_parts (eqb byte 10) (list_any (λ b. eqb b 10) line) is in
     lines_there byte ((line ++ 10 ∷ []) ++ rest) parts.0 ∙ ap (onto_first byte) (line_again line rest parts.1)
 
-lines_again : (lines : List (List ℕ)) → AllByRecursion IsLine lines → lines_of (text_of lines) ≡ lines
+pub lines_again : (lines : List (List ℕ)) → AllByRecursion IsLine lines → lines_of (text_of lines) ≡ lines
 lines_again [] all = refl
 lines_again (line ∷ lines) all = line_again line (text_of lines) all.0 ∙ ap (λ (ls : List (List ℕ)). line ∷ ls) (lines_again lines all.1)
 
@@ -63,7 +63,7 @@ pub record Reads (number : ℕ) (past : List Saying) (texts : List (List ℕ)) (
 saying_alone : (past : List Saying) (saying : Saying) → Accepts past saying → IsLine (saying_text saying)
 saying_alone past saying is = (read_back (setting past) saying is.suit).alone
 
-one_more : (number : ℕ) (past : List Saying) (saying : Saying) (texts : List (List ℕ)) (h : Heading) (lines : List Line) → Accepts past saying
+pub one_more : (number : ℕ) (past : List Saying) (saying : Saying) (texts : List (List ℕ)) (h : Heading) (lines : List Line) → Accepts past saying
     → Reads (number + 1) (saying ∷ past) texts h lines → Reads number past (saying_text saying ∷ texts) h lines
 one_more number past saying texts h lines is rest = record {
   all = rest.all;
@@ -73,7 +73,7 @@ one_more number past saying texts h lines is rest = record {
   said = rest.said;
 }
 
-follow_more : (past : List Saying) (saying : Saying) → Accepts past saying → AllFollow past → AllFollow (saying ∷ past)
+pub follow_more : (past : List Saying) (saying : Saying) → Accepts past saying → AllFollow past → AllFollow (saying ∷ past)
 follow_more past saying is all =
     past_follows false past (saying_text saying) (saying ∷ past) (saying_alone past saying is) (past_read past saying is) all
 

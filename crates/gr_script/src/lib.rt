@@ -33,7 +33,7 @@ mod text;
 pub use ending::{ScriptEnd, ScriptFault};
 pub use form::Form;
 pub use line::{Act, Line, LineList, Step, StepList};
-pub use print_script::print;
+pub use print_script::{print, scripts_read_back};
 pub use numbering::line_number;
 pub use reading::read;
 pub use reason::Reason;
