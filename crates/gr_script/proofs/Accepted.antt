@@ -1,5 +1,6 @@
 -- A line that is printed is read where it may stand.
-use Rattle.std.proofs.Common.{◌≡◌, ℕ, ◌+◌, ◌-◌, ◌<◌, ◌≤◌, ◌^◌, zero, suc, List, [], ◌∷◌, ◌++◌, length, Bool, true, false, cond, eqb, leb, ltb}
+use Rattle.std.proofs.Common.{◌≡◌, ℕ, ◌+◌, ◌-◌, ◌<◌, ◌≤◌, ◌^◌, zero, suc, List, [], ◌∷◌, ◌++◌, length, Bool, true, false, cond, eqb, leb}
+use Rattle.std.proofs.Common.{ltb}
 use Rattle.std.proofs.Common.{not, ◌&&◌, ◌||◌, Option, Some, None, Result, Ok, Err, refl, sym, ap, ◌∙◌, subst, arith, bytes_eq}
 use Rattle.std.specs.List.{cons_option}
 use Rattle.std.specs.Option.{ok_or, is_some, option_map_or, unwrap_or}
@@ -30,7 +31,8 @@ use Rattle.gr_script.specs.Items.{is_own, items_at}
 use Rattle.gr_script.specs.Past.{setting, region, members, founders, homes, home, steps, reports, joins, count_of, queries, stage}
 use Rattle.gr_script.specs.Printed.{saying_in, IsLineKept, IsActKept}
 use Rattle.gr_script.specs.Printing.{saying_text}
-use Rattle.gr_script.specs.Refusals.{lacks, is_replayed, is_missing, is_full, is_no_join, tests, refusal, unless_refused, form_at, saying_at, past_with}
+use Rattle.gr_script.specs.Refusals.{lacks, is_replayed, is_missing, is_full, is_no_join, tests, refusal, unless_refused, form_at}
+use Rattle.gr_script.specs.Refusals.{saying_at, past_with}
 use Rattle.gr_script.specs.Rests.{IsRest}
 use Rattle.gr_script.specs.Rules.{IsHeading, IsWithin, StandsAfter}
 use Rattle.gr_script.specs.Said.{heading_said, lines_said}
@@ -59,7 +61,8 @@ form_read past saying is =
     unless (false && is_replayed form) reason.NotInRun form >>= λ form. unless (ltb (rank form) (stage past)) reason.Order form >>= λ form.
     unless (not (fits (fields form) t)) reason.Fields form in
     ap (λ (test : Bool). unless test (reason.Header (stage past + 1)) text >>= named) is.due
-    ∙ ap (λ (form : Option LineKind). ok_or form reason.Word >>= λ form. unless (false && is_replayed form) reason.NotInRun form >>= ordered)
+    ∙ ap (λ (form : Option LineKind). ok_or form reason.Word >>= λ form. unless
+    (false && is_replayed form) reason.NotInRun form >>= ordered)
     back.form
     ∙ ap (λ (test : Bool). unless test reason.Order kind >>= λ form. unless (not (fits (fields form) text)) reason.Fields form) is.order
     ∙ ap (λ (test : Bool). unless (not test) reason.Fields kind) back.fit
@@ -70,11 +73,13 @@ saying_read past saying is =
     let back = read_back (setting past) saying is.suit in
     let with_items : LineKind → Result (List Item) Reason → Result Saying Reason = λ form found. found >>= λ items.
     unless_refused (refusal (tests past form items)) (record { kind = form; items = items }) in
-    ap (λ (form : Result LineKind Reason). form >>= λ form. with_items form (items_at (setting past) (fields form) text)) (form_read past saying is)
+    ap (λ (form : Result LineKind Reason). form >>= λ form. with_items form (items_at (setting past) (fields form) text))
+    (form_read past saying is)
     ∙ ap (with_items saying.kind) back.read
     ∙ ap (λ (why : Option Reason). unless_refused why saying) is.passes
 
-pub past_read : (past : List Saying) (saying : Saying) → Accepts past saying → past_with false past (saying_text saying) ≡ Ok (saying ∷ past)
+pub past_read : (past : List Saying) (saying : Saying) → Accepts past saying
+    → past_with false past (saying_text saying) ≡ Ok (saying ∷ past)
 past_read past saying is =
     let text = saying_text saying in
     let back = read_back (setting past) saying is.suit in

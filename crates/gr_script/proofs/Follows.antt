@@ -1,5 +1,6 @@
 -- What every line that was read is behind the earlier ones.
-use Rattle.std.proofs.Common.{◌≡◌, ℕ, zero, suc, ◌+◌, ◌≤◌, ◌<◌, List, [], ◌∷◌, length, Bool, true, false, cond, ltb, not, ◌&&◌, Option, Some, None, Result, Ok, Err, refl, sym, ap, ◌∙◌, subst, arith, codes, bytes_eq}
+use Rattle.std.proofs.Common.{◌≡◌, ℕ, zero, suc, ◌+◌, ◌≤◌, ◌<◌, List, [], ◌∷◌, length, Bool, true, false, cond, ltb, not, ◌&&◌, Option}
+use Rattle.std.proofs.Common.{Some, None, Result, Ok, Err, refl, sym, ap, ◌∙◌, subst, arith, codes, bytes_eq}
 use Rattle.std.specs.List.{list_all, AllByRecursion}
 use Rattle.std.specs.Str.{is_utf8}
 use Rattle.std.specs.Char.{is_ascii_digit}
@@ -82,9 +83,10 @@ form_follows runs stage text form e =
     let o = bind_ok _ _ form r.2 in
     let ordered = unless_ok (ltb (rank r.0) stage) Order r.0 o.0 o.1 in
     let fitted = unless_ok (not (fits (fields o.0) t.0)) Fields o.0 form o.2 in
-    let same : r.0 ≡ form = ordered.1 ∙ fitted.1 in
-    (subst (λ (k : LineKind). stage ≤ rank k) same (ltb-false (rank r.0) stage ordered.0),
-    λ early. ap rank (sym (ran.1 ∙ same)) ∙ due_form stage t.0 f.0 (ap (lacks stage) (sym tested.1) ∙ tested.0) named early)
+    let same : r.0 ≡ form = ordered.1 ∙ fitted.1 in (
+      subst (λ (k : LineKind). stage ≤ rank k) same (ltb-false (rank r.0) stage ordered.0),
+      λ early. ap rank (sym (ran.1 ∙ same)) ∙ due_form stage t.0 f.0 (ap (lacks stage) (sym tested.1) ∙ tested.0) named early,
+    )
 
 -- ---- a line
 
@@ -166,7 +168,8 @@ end_ok false end (Err fault) all e = absurd cc
 -- Each line that was read suits the earlier ones, and the heading is whole.
 pub all_follow : (runs : Bool) (text : List ℕ) (all : List Saying) → sayings_of runs text ≡ Ok all → AllFollow all × (4 ≤ stage all)
 all_follow runs text all e =
-    from_follows runs 1 [] (lines_of text) all (lines_are_lines text) (end_ok (ltb most_lines (line_count text)) _ (sayings_from runs 1 [] (lines_of text)) all e).1 tt
+    from_follows runs 1 [] (lines_of text) all (lines_are_lines text)
+    (end_ok (ltb most_lines (line_count text)) _ (sayings_from runs 1 [] (lines_of text)) all e).1 tt
 
 -- ---- how many there are
 

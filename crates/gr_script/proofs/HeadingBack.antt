@@ -1,6 +1,8 @@
 -- The heading of a script is read as that heading, and its text as the script.
-use Rattle.std.proofs.Common.{◌≡◌, ℕ, ◌+◌, ◌<◌, ◌≤◌, ◌^◌, List, [], ◌∷◌, ◌++◌, length, reverse, map, Bool, true, false, cond, eqb, ltb, not, All}
-use Rattle.std.proofs.Common.{Option, Some, None, Result, Ok, Err, refl, sym, ap, ◌∙◌, subst, arith, bytes_eq, append_assoc, length-append, decimal, suc}
+use Rattle.std.proofs.Common.{◌≡◌, ℕ, ◌+◌, ◌<◌, ◌≤◌, ◌^◌, List, [], ◌∷◌, ◌++◌, length, reverse, map, Bool, true, false, cond, eqb, ltb}
+use Rattle.std.proofs.Common.{not, All}
+use Rattle.std.proofs.Common.{Option, Some, None, Result, Ok, Err, refl, sym, ap, ◌∙◌, subst, arith, bytes_eq, append_assoc, length-append}
+use Rattle.std.proofs.Common.{decimal, suc}
 use Rattle.std.specs.List.{AllByRecursion}
 use Rattle.std.proofs.lemmas.Bool.{le-ltb, eq-eqb}
 use Rattle.std.proofs.lemmas.List.{reverse-reverse, append-nil}
@@ -54,9 +56,13 @@ client_accepts h done past client member head stated next few within =
     let hosts : members past ≡ h.members = ap (λ (g : Heading). g.members) stated.headed in
     let count : length (homes past) + 1 ≡ client = ap (λ (g : Heading). length g.clients + 1) stated.headed ∙ next in
     record {
-      suit =
-          (tt, (((omega (arith, next), few), omega (arith, few)),
-          (tt, (((within.0, omega (arith, within.1, hosts)), omega (arith, within.1, head.members.1)), tt))));
+      suit = (
+        tt,
+        (
+          ((omega (arith, next), few), omega (arith, few)),
+          (tt, (((within.0, omega (arith, within.1, hosts)), omega (arith, within.1, head.members.1)), tt)),
+        ),
+      );
       due = late (stage past) (saying_text (other_saying kind.Client (item.Number client ∷ item.Word ∷ item.Member member ∷ [])))
           (omega (arith, stated.now));
       order = ap (λ n. ltb 7 n) stated.now;
@@ -65,7 +71,8 @@ client_accepts h done past client member head stated next few within =
     }
 
 pub clients_back : (h : Heading) (number client : ℕ) (done rest : List ℕ) (past : List Saying) (lines : List Line) → IsHeading h
-    → Stated h done past → length done + 1 ≡ client → length done + length rest ≤ 64 → AreWithin 1 h.members rest → done ++ rest ≡ h.clients
+    → Stated h done past → length done + 1 ≡ client → length done + length rest ≤ 64 → AreWithin 1 h.members rest
+    → done ++ rest ≡ h.clients
     → AllStand h (reverse lines) → AllByRecursion IsLineKept lines
     → Reads number past (map saying_text (client_sayings client rest ++ map saying_in lines)) h (reverse lines)
 clients_back h number client done [] past lines head stated next few within whole stand kept =
@@ -100,7 +107,8 @@ clients_back h number client done (member ∷ rest) past lines head stated next 
 due_by : (wanted text : List ℕ) → first text ≡ wanted → not (bytes_eq (first text) wanted) ≡ false
 due_by wanted text same = ap not ((bytes_eq-Decides (first text) wanted).1 same)
 
-due_word : (form : LineKind) (field : List ℕ) (more : List (List ℕ)) → not (bytes_eq (first (spaced (word form ∷ field ∷ more))) (word form)) ≡ false
+due_word : (form : LineKind) (field : List ℕ) (more : List (List ℕ))
+    → not (bytes_eq (first (spaced (word form ∷ field ∷ more))) (word form)) ≡ false
 due_word form field more = due_by (word form) (spaced (word form ∷ field ∷ more)) (front_is (word form) (field ∷ more) (word_plain form))
 
 abbrev version : Saying
@@ -152,9 +160,13 @@ module _ (h : Heading) (head : IsHeading h) where
 
   members_accepts : Accepts p2 counted_members
   members_accepts = record {
-    suit =
-        (tt, ((head.members, omega (arith, head.members.1)),
-        (((head.founders.0, omega (arith, head.founders.1, head.members.1)), omega (arith, head.founders.1, head.members.1)), tt)));
+    suit = (
+      tt,
+      (
+        (head.members, omega (arith, head.members.1)),
+        (((head.founders.0, omega (arith, head.founders.1, head.members.1)), omega (arith, head.founders.1, head.members.1)), tt),
+      ),
+    );
     due = due_word kind.Members (decimal h.members) (decimal h.founders ∷ []);
     order = refl;
     passes = one_test (ltb h.members h.founders) reason.Range (le-ltb h.members h.founders head.founders.1);
@@ -201,7 +213,9 @@ module _ (h : Heading) (head : IsHeading h) where
   script_back : (lines : List Line) → AllStand h (reverse lines) → AllByRecursion IsLineKept lines
       → Reads 1 [] (map saying_text (sayings_in h lines)) h (reverse lines)
   script_back lines stand kept =
-      let clients = clients_back h 8 1 [] h.clients p7 lines head all_stated refl (omega (arith, head.few_clients)) head.at_members refl stand kept in
+      let clients =
+      clients_back h 8 1 [] h.clients p7 lines head all_stated refl
+      (omega (arith, head.few_clients)) head.at_members refl stand kept in
       one_more 1 [] version _ h (reverse lines) version_accepts
       (one_more 2 p1 named_region _ h (reverse lines) region_accepts
       (one_more 3 p2 counted_members _ h (reverse lines) members_accepts

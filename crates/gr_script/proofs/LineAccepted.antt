@@ -21,7 +21,8 @@ use Rattle.gr_script.specs.declared.line.Line.TheVariants.{Step, Deliver, Report
 use Rattle.gr_script.specs.declared.reason.Reason.TheVariants as reason
 use Rattle.gr_script.specs.declared.saying.Saying.{Saying}
 use Rattle.gr_script.specs.Forms.{fields, rank}
-use Rattle.gr_script.specs.Past.{setting, region, members, founders, homes, home, steps, reports, joins, count_of, queries, stage, next_rank}
+use Rattle.gr_script.specs.Past.{setting, region, members, founders, homes, home, steps, reports, joins, count_of, queries, stage}
+use Rattle.gr_script.specs.Past.{next_rank}
 use Rattle.gr_script.specs.Printed.{saying_in, act_saying, ask_saying, query_saying, IsLineKept, IsActKept, IsAskKept, IsQueryKept}
 use Rattle.gr_script.specs.Printing.{saying_text}
 use Rattle.gr_script.specs.Refusals.{is_full, is_missing, is_no_join, tests, refusal}
@@ -105,13 +106,15 @@ module _ (past : List Saying) (all : AllFollow past) (head : IsHeading (heading_
   query_accepts client (query.Fetch name) c suits kept =
       accept (query_saying client (query.Fetch name)) refl (c, (tt, (kept, tt))) (one_test _ reason.Count (few_queries suits))
 
-  act_accepts : (client : ℕ) (act : Act) → IsClient (setting past) client → ActSuits (heading_said past) (lines_said past) act → IsActKept act
+  act_accepts : (client : ℕ) (act : Act) → IsClient (setting past) client → ActSuits (heading_said past) (lines_said past) act
+      → IsActKept act
       → Accepts past (act_saying client act)
   act_accepts client (Call asked) c suits kept = ask_accepts client asked c kept
   act_accepts client (Query asked) c suits kept = query_accepts client asked c suits kept
   act_accepts client (Peek key) c suits kept = accept (act_saying client (Peek key)) refl (c, (tt, (kept, tt))) refl
 
-  pub line_accepts : (line : Line) → StandsAfter (heading_said past) (lines_said past) line → IsLineKept line → Accepts past (saying_in line)
+  pub line_accepts : (line : Line) → StandsAfter (heading_said past) (lines_said past) line → IsLineKept line
+      → Accepts past (saying_in line)
   line_accepts (Step client seq act) stands kept = act_accepts client act (client_suits client stands.0) stands.2 kept
   line_accepts (Deliver to client seq) stands kept =
       accept (saying_in (Deliver to client seq)) refl
@@ -138,7 +141,11 @@ module _ (past : List Saying) (all : AllFollow past) (head : IsHeading (heading_
       let none : joins member past ≡ 0 = sym (tallied (λ m. m.join_of) member past refl all) ∙ stands.3 in
       let test : is_no_join member from past ≡ false = or_from _ _ (or_from _ _ (lt-leb member (founders past) stands.0)
       (ap (λ n. not (eqb n 0)) none)) (le-ltb (founders past) from stands.2.1) in
-      accept (saying_in (Join member from)) refl
-      (tt, (member_suits member (omega (arith, stands.0), stands.1),
-      (member_suits from (stands.2.0, omega (arith, stands.2.1, founder.1)), tt)))
+      accept (saying_in (Join member from)) refl (
+        tt,
+        (
+          member_suits member (omega (arith, stands.0), stands.1),
+          (member_suits from (stands.2.0, omega (arith, stands.2.1, founder.1)), tt),
+        ),
+      )
       (one_test _ reason.Join test)

@@ -1,5 +1,6 @@
 -- The text of a script is read as that script.
-use Rattle.std.proofs.Common.{◌≡◌, ℕ, ◌+◌, ◌<◌, ◌≤◌, ◌^◌, List, [], ◌∷◌, ◌++◌, length, reverse, map, Bool, true, false, cond, eqb, ltb, not, All}
+use Rattle.std.proofs.Common.{◌≡◌, ℕ, ◌+◌, ◌<◌, ◌≤◌, ◌^◌, List, [], ◌∷◌, ◌++◌, length, reverse, map, Bool, true, false, cond, eqb, ltb}
+use Rattle.std.proofs.Common.{not, All}
 use Rattle.std.proofs.Common.{Option, Some, None, Result, Ok, Err, refl, sym, ap, ◌∙◌, subst, arith, bytes_eq, append_assoc, length-append}
 use Rattle.std.specs.List.{cons_option, onto_first, list_any, AllByRecursion}
 use Rattle.std.proofs.lemmas.Bool.{le-ltb, eq-eqb, or_parts}
@@ -63,7 +64,8 @@ pub record Reads (number : ℕ) (past : List Saying) (texts : List (List ℕ)) (
 saying_alone : (past : List Saying) (saying : Saying) → Accepts past saying → IsLine (saying_text saying)
 saying_alone past saying is = (read_back (setting past) saying is.suit).alone
 
-pub one_more : (number : ℕ) (past : List Saying) (saying : Saying) (texts : List (List ℕ)) (h : Heading) (lines : List Line) → Accepts past saying
+pub one_more : (number : ℕ) (past : List Saying) (saying : Saying) (texts : List (List ℕ)) (h : Heading) (lines : List Line)
+    → Accepts past saying
     → Reads (number + 1) (saying ∷ past) texts h lines → Reads number past (saying_text saying ∷ texts) h lines
 one_more number past saying texts h lines is rest = record {
   all = rest.all;
@@ -127,7 +129,8 @@ pub lines_back : (h : Heading) (number : ℕ) (past : List Saying) (lines : List
 lines_back h number past [] head ready stand kept = record {
   all = past;
   alone = tt;
-  read = ap (λ (early : Bool). cond early (Err (fault number (reason.Header (stage past + 1)))) (Ok past)) (le-ltb (stage past) 4 ready.whole);
+  read = ap (λ (early : Bool). cond early (Err (fault number (reason.Header (stage past + 1)))) (Ok past))
+      (le-ltb (stage past) 4 ready.whole);
   headed = ready.headed;
   said = refl;
 }

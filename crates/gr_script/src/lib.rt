@@ -9,7 +9,6 @@ mod halt;
 mod items;
 mod layout;
 mod line;
-
 mod note;
 mod numbering;
 mod numeral;
@@ -33,9 +32,8 @@ mod text;
 pub use ending::{ScriptEnd, ScriptFault};
 pub use form::Form;
 pub use line::{Act, Line, LineList, Step, StepList};
-pub use print_script::{print, scripts_read_back};
 pub use numbering::line_number;
+pub use print_script::{print, scripts_read_back};
 pub use reading::read;
 pub use reason::Reason;
 pub use script::{MemberNumberList, Script};
-
