@@ -1,5 +1,5 @@
 -- What the fields of a line that was read hold.
-use Rattle.std.proofs.Common.{◌≡◌, ℕ, ◌≤◌, List, [], ◌∷◌, true, ltb, not, Option, Some, None, Result, Ok, Err, refl, sym, ap, ◌∙◌, subst, arith}
+use Rattle.std.proofs.Common.{◌≡◌, ℕ, ◌≤◌, List, [], ◌∷◌, true, ltb, not, Ok, sym, ap, ◌∙◌, subst}
 use Rattle.std.proofs.lemmas.Bool.{ltb-false, not-false}
 use Rattle.gr_value.specs.declared.value.Field.{Field}
 use Rattle.gr_oql.specs.Question.{Question}
@@ -10,7 +10,8 @@ use Rattle.gr_script.specs.declared.items.Item.TheVariants as item
 use Rattle.gr_script.specs.declared.items.Setting.{Setting}
 use Rattle.gr_script.specs.declared.reason.Reason.TheVariants as reason
 use Rattle.gr_script.specs.Fields.{piece, left}
-use Rattle.gr_script.specs.Items.{most_clients, within, number_at, number_in, stated_client, dotted_numbers, is_own, text_at, query_from, question_of, own_query, query_at, region_at, key_at, value_at, item_at, items_at}
+use Rattle.gr_script.specs.Items.{most_clients, within, number_at, number_in, stated_client, dotted_numbers, is_own, text_at, query_from}
+use Rattle.gr_script.specs.Items.{question_of, own_query, query_at, region_at, key_at, value_at, item_at, items_at}
 use Rattle.gr_script.specs.Rules.{is_region, IsWithin}
 use Rattle.gr_script.specs.Texts.{cut}
 use Rattle.gr_script.proofs.Passes.{done_is, bind_ok, unless_ok, within_ok}
@@ -130,6 +131,7 @@ items_held setting (kind ∷ kinds) text read e =
     let b = bind_ok (item_at setting kind (piece kind text)) _ read e in
     let r = bind_ok (items_at setting kinds (left kind text)) _ read b.2 in
     let one = item_held setting kind (piece kind text) b.0 b.1 in
-    let more = items_held setting kinds (left kind text) r.0 r.1 in
-    ((one.0, more.0),
-    ap (λ (i : Item). i ∷ items_of setting kinds more.0) one.1 ∙ ap (λ (is : List Item). b.0 ∷ is) more.1 ∙ done_is (b.0 ∷ r.0) read r.2)
+    let more = items_held setting kinds (left kind text) r.0 r.1 in (
+      (one.0, more.0),
+      ap (λ (i : Item). i ∷ items_of setting kinds more.0) one.1 ∙ ap (λ (is : List Item). b.0 ∷ is) more.1 ∙ done_is (b.0 ∷ r.0) read r.2,
+    )

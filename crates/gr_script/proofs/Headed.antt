@@ -1,6 +1,7 @@
 -- The heading that is said keeps its rules.
-use Rattle.std.proofs.Common.{◌≡◌, ℕ, ◌+◌, ◌≤◌, ◌<◌, List, [], ◌∷◌, ◌++◌, length, true, false, ltb, not, eqb, Option, Some, None, refl, sym, ap, ◌∙◌, subst, arith, inl, inr}
-use Rattle.std.specs.Option.{unwrap_or, IsSome}
+use Rattle.std.proofs.Common.{◌≡◌, ℕ, ◌+◌, ◌≤◌, ◌<◌, List, [], ◌∷◌, ◌++◌, length, true, eqb, Option, None, refl, sym, ◌∙◌, subst, arith}
+use Rattle.std.proofs.Common.{inl, inr}
+use Rattle.std.specs.Option.{IsSome}
 use Rattle.std.proofs.lemmas.Bool.{cases_lt, not-false, ltb-false, eqb-true}
 use Rattle.std.proofs.lemmas.List.{length-append}
 use Rattle.gr_script.specs.declared.forms.LineKind.{LineKind}
@@ -13,7 +14,7 @@ use Rattle.gr_script.specs.Refusals.{tests, refusal}
 use Rattle.gr_script.specs.Rules.{Heading, IsHeading, IsWithin, AreWithin, is_region}
 use Rattle.gr_script.specs.Said.{heading_said}
 use Rattle.gr_script.proofs.Contents.{Contents, items_of}
-use Rattle.gr_script.proofs.Follows.{Follows, AllFollow}
+use Rattle.gr_script.proofs.Follows.{AllFollow}
 use Rattle.gr_script.proofs.Standing.{passed, rank_next}
 
 -- what holds of a heading once the lines of a stage are read
@@ -202,7 +203,8 @@ headed_more past kind.Client c due none alone held =
       few_clients = omega (arith, next, most, more);
       at_members = within_more (members past) (homes past) c.1.1.1.0.0 held.at_members c.1.1.1.0.1;
     }
-headed_more past form c due none alone held = later (stage past) 8 (region past) (heading_said past) (whole past form (omega arith) due) held
+headed_more past form c due none alone held =
+    later (stage past) 8 (region past) (heading_said past) (whole past form (omega arith) due) held
 
 pub headed : (past : List Saying) → AllFollow past → Headed past
 headed [] all = record {

@@ -1,6 +1,5 @@
 -- The numbers of lines that were read have room where a script keeps them.
-use Rattle.std.proofs.Common.{◌≡◌, ℕ, ◌+◌, ◌≤◌, ◌<◌, ◌^◌, List, [], ◌∷◌, length, Bool, true, false, cond, eqb, ltb, ◌&&◌, None, refl, sym, ap, ◌∙◌, subst, arith, inl, inr}
-use Rattle.std.proofs.lemmas.Bool.{cases_lt}
+use Rattle.std.proofs.Common.{◌≡◌, ℕ, ◌≤◌, ◌<◌, ◌^◌, List, [], ◌∷◌, length, true, eqb, ◌&&◌, None, sym, subst, arith}
 use Rattle.std.proofs.lemmas.List.Sums.{count_by-le-length}
 use Rattle.gr_script.specs.declared.forms.LineKind.{LineKind}
 use Rattle.gr_script.specs.declared.forms.LineKind.TheVariants as kind
@@ -9,11 +8,11 @@ use Rattle.gr_script.specs.declared.saying.Saying.{Saying}
 use Rattle.gr_script.specs.Forms.{fields, rank, is_step, is_kind}
 use Rattle.gr_script.specs.Index.{most_lines}
 use Rattle.gr_script.specs.Narrow.{IsNarrowStep, IsNarrow, AreNarrow}
-use Rattle.gr_script.specs.Past.{number, setting, members, steps, reports, stage}
+use Rattle.gr_script.specs.Past.{number, setting, members, steps, reports}
 use Rattle.gr_script.specs.Refusals.{tests, refusal}
 use Rattle.gr_script.specs.Rules.{IsWithin}
 use Rattle.gr_script.proofs.Contents.{Contents, items_of}
-use Rattle.gr_script.proofs.Follows.{Follows, AllFollow}
+use Rattle.gr_script.proofs.Follows.{AllFollow}
 use Rattle.gr_script.proofs.Headed.{headed, whole}
 use Rattle.gr_script.proofs.Standing.{passed, not_missing}
 
@@ -58,12 +57,14 @@ narrow : (past : List Saying) (form : LineKind) (c : Held past form) → refusal
     → (4 ≤ rank form → members past ≤ 8) → length past ≤ most_lines → IsNarrow form (held_items past form c)
 narrow past kind.Deliver c none most le =
     let client = c.1.1.0.1.0.1 in
-    let seq = (not_missing c.1.1.0.0.1 (steps c.1.1.0.0.0 past) (passed (tests past kind.Deliver (held_items past kind.Deliver c)) none).0).1 in
+    let pass = passed (tests past kind.Deliver (held_items past kind.Deliver c)) none in
+    let seq = (not_missing c.1.1.0.0.1 (steps c.1.1.0.0.0 past) pass.0).1 in
     let count = few c.1.1.0.0.0 past le in
     (small past c.1.0.0 (most (omega arith)) c.1.0.1, omega (arith, client), omega (arith, seq, count))
 narrow past kind.Report c none most le = small past c.1.0.0 (most (omega arith)) c.1.0.1
 narrow past kind.Hear c none most le =
-    let seq = (not_missing c.1.1.1.0 (reports c.1.1.0.0 past) (passed (tests past kind.Hear (held_items past kind.Hear c)) none).0).1 in
+    let pass = passed (tests past kind.Hear (held_items past kind.Hear c)) none in
+    let seq = (not_missing c.1.1.1.0 (reports c.1.1.0.0 past) pass.0).1 in
     let count = few_reports c.1.1.0.0 past le in
     (small past c.1.0.0 (most (omega arith)) c.1.0.1, small past c.1.1.0.0 (most (omega arith)) c.1.1.0.1, omega (arith, seq, count))
 narrow past kind.Sweep c none most le =
@@ -80,9 +81,11 @@ narrowed (saying ∷ past) all le =
     let fewer : length past ≤ most_lines = omega (arith, le) in
     let held = headed past all.1 in
     let most = λ (late : 4 ≤ rank saying.kind).
-    (held.members (let at = whole past saying.kind late (f.order, f.due) in omega (arith, at))).1 in
-    (λ is. subst IsNarrowStep f.items_are (narrow_step past saying.kind f.held is),
-    subst (IsNarrow saying.kind) f.items_are
-    (narrow past saying.kind f.held (subst (λ (is : List Item). refusal (tests past saying.kind is) ≡ None) (sym f.items_are) f.passes)
-    most fewer),
-    narrowed past all.1 fewer)
+    (held.members (let at = whole past saying.kind late (f.order, f.due) in omega (arith, at))).1 in (
+      λ is. subst IsNarrowStep f.items_are (narrow_step past saying.kind f.held is),
+      subst (IsNarrow saying.kind) f.items_are
+          (narrow past saying.kind f.held
+          (subst (λ (is : List Item). refusal (tests past saying.kind is) ≡ None) (sym f.items_are) f.passes)
+          most fewer),
+      narrowed past all.1 fewer,
+    )

@@ -21,7 +21,7 @@ use Rattle.gr_script.specs.Steps as lines
 use Rattle.gr_script.specs.Suiting.{AreRests}
 use Rattle.gr_script.proofs.Contents.{Contents, items_of, IsClient}
 use Rattle.gr_script.proofs.Follows.{Follows, AllFollow}
-use Rattle.gr_script.proofs.Tallied.{Marks, line_by, tallied}
+use Rattle.gr_script.proofs.Tallied.{line_by, tallied}
 
 -- ---- what no test refused
 

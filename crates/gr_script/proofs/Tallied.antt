@@ -1,5 +1,6 @@
 -- The lines that are said are as many as those that say them, of each kind.
-use Rattle.std.proofs.Common.{◌≡◌, ℕ, ◌+◌, List, [], ◌∷◌, Bool, true, false, cond, eqb, ◌&&◌, Option, Some, None, refl, sym, ap, ◌∙◌, subst, arith}
+use Rattle.std.proofs.Common.{◌≡◌, ℕ, ◌+◌, List, [], ◌∷◌, Bool, true, false, cond, eqb, ◌&&◌, Option, Some, None, refl, ap, ◌∙◌, subst}
+use Rattle.std.proofs.Common.{arith}
 use Rattle.std.specs.List.{cons_option, count_by}
 use Rattle.std.specs.Option.{is_some, option_map_or}
 use Rattle.std.proofs.lemmas.List.Sums.{sum_by-cons}
@@ -20,7 +21,7 @@ use Rattle.gr_script.specs.Past.{number, setting, steps, is_query as is_query_ki
 use Rattle.gr_script.specs.Said.{line_of, lines_said}
 use Rattle.gr_script.specs.Steps.{step_of, is_report, is_report_of, is_hear, is_sweep, is_join_of, is_query, is_open}
 use Rattle.gr_script.proofs.Contents.{Contents, items_of}
-use Rattle.gr_script.proofs.Follows.{Follows, AllFollow}
+use Rattle.gr_script.proofs.Follows.{AllFollow}
 
 -- what a line counts for, of a client's steps, of a member's reports and joins, and in all
 pub record Marks : Type 0 where

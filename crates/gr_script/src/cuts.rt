@@ -1,6 +1,7 @@
 ghost use Rattle.std.specs.Prelude.{◌≡◌, ◌≤◌, ◌==◌, length};
 ghost use Rattle.std.specs.List.{prefix_len};
-ghost use Rattle.gr_script.specs.Cuts.{ends_with, line_count, without_return, is_space, after_spaces, before_spaces, text_said, is_skipped, field_len};
+ghost use Rattle.gr_script.specs.Cuts.{ends_with, line_count, without_return, is_space, after_spaces, before_spaces, text_said};
+ghost use Rattle.gr_script.specs.Cuts.{is_skipped, field_len};
 
 use crate::text::is_ended;
 
@@ -14,7 +15,7 @@ fn ends_with(byte: u8, text: &[u8]) -> bool
 }
 
 /// How many lines a text has.
-pub(crate) fn line_count(text: &[u8]) -> u64
+pub fn line_count(text: &[u8]) -> u64
     ensures { result ≡ line_count text.now }
 {
     let feeds = text.iter().filter(|byte| **byte == b'\n').count() as u64;

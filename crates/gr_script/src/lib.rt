@@ -2,6 +2,7 @@
 #![tactic(auto)]
 
 mod cuts;
+mod drill;
 mod ending;
 mod form;
 mod forms;
@@ -29,6 +30,7 @@ mod tally;
 mod telling;
 mod text;
 
+pub use cuts::line_count;
 pub use ending::{ScriptEnd, ScriptFault};
 pub use form::Form;
 pub use line::{Act, Line, LineList, Step, StepList};
@@ -37,3 +39,6 @@ pub use print_script::{print, scripts_read_back};
 pub use reading::read;
 pub use reason::Reason;
 pub use script::{MemberNumberList, Script};
+
+#[cfg(test)]
+mod tests;

@@ -2,7 +2,8 @@ ghost use Rattle.std.specs.Prelude.{◌≡◌, ◌<◌, ℕ, [], ◌∷◌, List
 ghost use Rattle.gr_script.specs.Tallies.{count_in};
 ghost use Rattle.gr_script.specs.Index.{most_lines, counted};
 ghost use Rattle.gr_script.specs.declared.saying.Saying.{Saying};
-ghost use Rattle.gr_script.specs.Past.{stage, region, members, founders, clients, steps, reports, joins, homes as homes_of, home, setting, sizes};
+ghost use Rattle.gr_script.specs.Past.{stage, region, members, founders, clients, steps, reports, joins};
+ghost use Rattle.gr_script.specs.Past.{homes as homes_of, home, setting, sizes};
 
 use crate::forms::{LineKind, is_kind, is_step};
 use crate::items::Setting;
@@ -78,8 +79,8 @@ impl Model for Past {
 
     ghost view = { λ past. reverse past.sayings };
 
-    ghost invariant = { λ past. IsIndex past.stage past.setting past.founders past.sizes past.homes past.steps past.reports past.joins past.counted
-        (reverse past.sayings) };
+    ghost invariant = { λ past. IsIndex past.stage past.setting past.founders past.sizes past.homes past.steps past.reports
+        past.joins past.counted (reverse past.sayings) };
 }
 
 impl Past {
@@ -244,7 +245,8 @@ fn setting_with(
     before: Setting,
     homes: &ItemList<u128>,
 ) -> Result<Setting, Memory>
-    ensures { IfOk result (λ set. (past : List Saying) → before ≡ setting past → homes.now ≡ homes_of (line.now ∷ past) → set ≡ setting (line.now ∷ past)) }
+    ensures { IfOk result
+        (λ set. (past : List Saying) → before ≡ setting past → homes.now ≡ homes_of (line.now ∷ past) → set ≡ setting (line.now ∷ past)) }
 {
     let members = stated_with(LineKind::Members, 0, line, before.members);
     Ok(Setting {

@@ -1,6 +1,9 @@
 ghost use Rattle.std.specs.Prelude.{◌≡◌};
 ghost use Rattle.gr_script.specs.Reasons.{number_of, name_of};
 
+use std::error::Error;
+use std::fmt;
+
 /// Why a line is refused, in the order of the reasons' numbers. A number beside a reason says which
 /// header line was due, or which fault a key, a value or a query has, counted from 1.
 #[derive(Clone, Copy, Debug, PartialEq, Eq)]
@@ -84,3 +87,11 @@ impl Reason {
         }
     }
 }
+
+impl fmt::Display for Reason {
+    fn fmt<W: fmt::Write>(&self, f: &mut fmt::Formatter<W>) -> fmt::Result {
+        write!(f, "{} {}", self.number(), self.name())
+    }
+}
+
+impl Error for Reason {}

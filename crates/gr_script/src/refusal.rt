@@ -3,7 +3,8 @@ ghost use Rattle.std.specs.Bool.{OnTrue};
 ghost use Rattle.gr_script.specs.declared.forms.LineKind.TheVariants as kind;
 ghost use Rattle.gr_script.specs.declared.reason.Reason.TheVariants.{Later, Itself, Count};
 ghost use Rattle.gr_script.specs.Halts.{Yields};
-ghost use Rattle.gr_script.specs.Refusals.{is_begun, lacks, is_missing, is_full, is_no_join, is_replayed, tests, refusal, form_at, saying_at};
+ghost use Rattle.gr_script.specs.Refusals.{is_begun, lacks, is_missing, is_full, is_no_join, is_replayed, tests, refusal, form_at};
+ghost use Rattle.gr_script.specs.Refusals.{saying_at};
 
 use crate::forms::{LineKind, is_kind, rank};
 use crate::halt::Halt;

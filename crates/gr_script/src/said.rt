@@ -104,7 +104,8 @@ fn other_said(kind: LineKind, items: &[Item]) -> Option<Line>
 fn line_of(seq: u32, saying: Saying) -> Option<Line>
     requires step { is_step_kind saying.kind ≡ true → IsNarrowStep saying.items }
     requires other { IsNarrow saying.kind saying.items }
-    ensures { (past : List ASaying) → (is_step_kind saying.kind ≡ true → seq ≡ steps_in (number_in 0 saying.items) past + 1) → result ≡ line_of past saying }
+    ensures { (past : List ASaying) → (is_step_kind saying.kind ≡ true → seq ≡ steps_in (number_in 0 saying.items) past + 1)
+        → result ≡ line_of past saying }
 {
     if is_step(saying.kind) {
         step_said(seq, saying.kind, saying.items)

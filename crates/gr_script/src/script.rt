@@ -23,7 +23,8 @@ pub struct Script {
     pub floor: u64,
     pub clients: MemberNumberList,
     pub lines: LineList,
-    pub ghost ruled: { IsScript (heading region members founders shards inbox trouble floor clients) lines } by { IsScript-prop (heading region members founders shards inbox trouble floor clients) lines },
+    pub ghost ruled: { IsScript (heading region members founders shards inbox trouble floor clients) lines } by { IsScript-prop
+        (heading region members founders shards inbox trouble floor clients) lines },
 }
 
 impl Script {

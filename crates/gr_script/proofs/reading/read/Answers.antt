@@ -1,6 +1,5 @@
-use Rattle.std.proofs.Common.{arith, reverse, sym, subst, List}
+use Rattle.std.proofs.Common.{arith, sym, subst}
 use Rattle.std.proofs.lemmas.List.{reverse-reverse}
-use Rattle.gr_script.specs.declared.line.Line.{Line}
 use Rattle.gr_script.specs.Rules.{AllStand}
 use Rattle.gr_script.specs.Said.{heading_said, lines_said}
 use Rattle.gr_script.proofs.Follows.{all_follow, few_sayings}
@@ -21,7 +20,8 @@ script_of-requires-clause-ruled c =
 pub script_of-requires-clause-narrow : goal.script_of-requires-clause-narrow
 script_of-requires-clause-narrow c =
     let past = c.in_ok-past.past in
-    narrowed past (all_follow c.is_run.result c.args.bytes.now past c.in_ok-past.ensures).0 (few_sayings c.is_run.result c.args.bytes.now past c.in_ok-past.ensures)
+    narrowed past (all_follow c.is_run.result c.args.bytes.now past c.in_ok-past.ensures).0
+    (few_sayings c.is_run.result c.args.bytes.now past c.in_ok-past.ensures)
 
 pub script_of-requires-clause-named : goal.script_of-requires-clause-named
 script_of-requires-clause-named c =

@@ -1,4 +1,4 @@
-use Rattle.std.proofs.Common.{◌≡◌, ℕ, ◌≤◌, List, [], ◌∷◌, sym, subst, arith}
+use Rattle.std.proofs.Common.{ℕ, ◌≤◌, List, [], ◌∷◌, sym, subst, arith}
 use Rattle.gr_script.specs.Rules.{AreWithin}
 use Rattle.gr_script.proofs.telling.script_of.Goals as goal
 

@@ -29,7 +29,8 @@ invariant_of-result c =
     ∙ ap (λ (hs : List ℕ). cond (is_kind kind.Client c.args.line.kind) (hs ++ number 1 c.args.line.items ∷ []) hs) old.homed in
     let founded = c.stated_with-founders.ensures
     ∙ ap (λ (f : ℕ). cond (is_kind kind.Members c.args.line.kind) (number 1 c.args.line.items) f) old.founded in
-    subst (IsIndex c.next_rank.result c.in_ok-setting.setting c.stated_with-founders.result c.sizes_with-sizes.result c.in_ok-homes.homes c.in_ok-steps.steps
+    subst (IsIndex c.next_rank.result c.in_ok-setting.setting c.stated_with-founders.result c.sizes_with-sizes.result
+    c.in_ok-homes.homes c.in_ok-steps.steps
     c.in_ok-reports.reports c.in_ok-joins.joins c.counted_with-counted.result)
     (sym (ap (reverse {A = Saying}) c.in_ok-push.ensures.ok ∙ reverse-append c.self.inside.sayings (c.args.line ∷ [])))
     (record {

@@ -1,0 +1,268 @@
+use super::*;
+use std::alloc::Global;
+use std::test::*;
+
+/// Two members, of which the first is a founder, and a client at each.
+const STATED: &str = "georep 1\nregion /r\nmembers 2 1\nshards 1\nclient 1 at 1\nclient 2 at 2\n";
+
+// How the reading ends: the line and the reason, or None where all is read.
+fn fault_of(alloc: Global, form: Form, text: &str) -> Option<(u32, Reason)> {
+    match read(alloc, text.as_bytes(), form) {
+        Err(ScriptEnd::Fault(fault)) => Some((fault.line, fault.reason)),
+        _ => None,
+    }
+}
+
+#[test]
+fn a_line_is_refused_for_its_first_reason(rt: HostRuntime) -> Result<(), Fail> {
+    for (line, reason) in [
+        ("1\tget a", Reason::Word),
+        ("get a", Reason::Word),
+        ("1", Reason::Word),
+        ("1 sweep 1 5", Reason::Word),
+        ("-1 get a", Reason::Word),
+        ("georep 1", Reason::Order),
+        ("region", Reason::Order),
+        ("shards 99", Reason::Order),
+        ("1 get", Reason::Fields),
+        ("1 get a b", Reason::Fields),
+        ("65 get", Reason::Fields),
+        ("1 put a{}", Reason::Fields),
+        ("1 put a {}x", Reason::Fields),
+        ("1 put a {}\t", Reason::Fields),
+        ("1 replaceIf a [1] {}", Reason::Fields),
+        ("1 open q", Reason::Fields),
+        ("007 get a", Reason::Number),
+        ("1 get é", Reason::Key(3)),
+        ("1 get a\r\r", Reason::Key(3)),
+        ("0 get a", Reason::Range),
+        ("65 get a", Reason::Range),
+        ("3 get é", Reason::Client),
+        ("1 put a [1] x", Reason::Value(2)),
+        ("1 put a [1]", Reason::Value(3)),
+        ("1 put a {\"x\":[]}", Reason::Value(4)),
+        ("1 put a {\"x\":1.5}", Reason::Value(5)),
+        ("1 put a {\"x\":\"}\"", Reason::Value(2)),
+        ("1 open q SELECT * FROM /r\r\r", Reason::Query(1)),
+        ("1 open q SELECT", Reason::Query(2)),
+        ("1 open q IMPORT a", Reason::Query(3)),
+        ("1 open q SELECT * FROM /other", Reason::Region),
+        ("deliver 2 1", Reason::Number),
+        ("deliver 2 1.", Reason::Number),
+        ("deliver 2 1.2.3", Reason::Number),
+        ("deliver 2 65.x", Reason::Number),
+        ("deliver 3 65.1", Reason::Range),
+        ("deliver 2 65.1", Reason::Range),
+        ("deliver 2 3.1", Reason::Client),
+        ("deliver 2 1.1", Reason::Later),
+        ("deliver 1 1.0", Reason::Later),
+        ("deliver 2 1.99999999999999999999", Reason::Later),
+        ("deliver 2 1.100000000000000000000", Reason::Number),
+        ("hear 1 1 1", Reason::Itself),
+        ("hear 1 1 2", Reason::Later),
+        ("hear 1 2 1", Reason::Later),
+        ("hear 1 2 0", Reason::Later),
+        ("sweep 1 4294967296", Reason::Range),
+        ("join 1 1", Reason::Join),
+        ("join 2 2", Reason::Join),
+        ("join 2 3", Reason::Range),
+        ("client 3 at 1", Reason::Order),
+        ("client 3 at 9", Reason::Order),
+    ] {
+        let text = format!(in rt.alloc(); "{STATED}report 1\n{line}\n")?;
+        assert_eq!(rt;
+            fault_of(rt.alloc(), Form::Replay, text.as_str()),
+            Some((8, reason)),
+            "{line}"
+        );
+    }
+    Ok(())
+}
+
+#[test]
+fn the_lines_of_a_script_are_counted_and_ordered(rt: HostRuntime) -> Result<(), Fail> {
+    for (form, text, wanted) in [
+        (Form::Replay, "", Some((1, Reason::Header(1)))),
+        (Form::Replay, "\n", Some((2, Reason::Header(1)))),
+        (Form::Replay, "georep 1", Some((2, Reason::Header(2)))),
+        (
+            Form::Replay,
+            "# one\n\n  georep   1 \r\n",
+            Some((4, Reason::Header(2))),
+        ),
+        (Form::Replay, "georep 2\n", Some((1, Reason::Header(1)))),
+        (
+            Form::Replay,
+            "georep 1\nregion /r\nregion /r",
+            Some((3, Reason::Header(3))),
+        ),
+        (
+            Form::Run,
+            "georep 1\nregion /r\ndeliver 1 1.1",
+            Some((3, Reason::Header(3))),
+        ),
+        (Form::Replay, "georep 1\nregion r", Some((2, Reason::Name))),
+        (
+            Form::Replay,
+            "georep 1\nregion /r\nmembers 2 3",
+            Some((3, Reason::Range)),
+        ),
+        (
+            Form::Replay,
+            "georep 1\nregion /r\nmembers 9 9",
+            Some((3, Reason::Range)),
+        ),
+        (
+            Form::Replay,
+            "georep 1\nregion /r\nmembers 2 2\nshards 1\ntrouble 1\ninbox 1 2",
+            Some((6, Reason::Order)),
+        ),
+        (
+            Form::Replay,
+            "georep 1\nregion /r\nmembers 2 2\nshards 1\nclient 1 at 1\nfloor 0",
+            Some((6, Reason::Order)),
+        ),
+        (
+            Form::Replay,
+            "georep 1\nregion /r\nmembers 2 2\nshards 1\nclient 2 at 9",
+            Some((5, Reason::Range)),
+        ),
+        (
+            Form::Replay,
+            "georep 1\nregion /r\nmembers 2 2\nshards 1\nclient 2 at 1",
+            Some((5, Reason::Order)),
+        ),
+        (
+            Form::Replay,
+            "georep 1\nregion /r\nmembers 2 2\nshards 1\nclient 1 on 1",
+            Some((5, Reason::Fields)),
+        ),
+        (
+            Form::Run,
+            "georep 1\nregion /r\nmembers 2 2\nshards 1\ndeliver",
+            Some((5, Reason::NotInRun)),
+        ),
+        (
+            Form::Replay,
+            "georep 1\nregion /r\nmembers 2 2\nshards 1\ninbox 1\nfloor 281474976710655\n1 get a",
+            Some((7, Reason::Client)),
+        ),
+    ] {
+        assert_eq!(rt; fault_of(rt.alloc(), form, text), wanted, "{text}");
+    }
+    Ok(())
+}
+
+#[test]
+fn a_script_with_each_line_is_read(rt: HostRuntime) -> Result<(), Fail> {
+    let lines =
+        "1 get a\r\n1 put a {\"}{\":\"\\\"}\"}\n1 putIfAbsent a {}\n1 replace a {}\n1 replaceIf a {\"x\":1}{\"x\":2}\n2 destroy a\n\
+2 remove a   {}\n2 peek a\n1 open q SELECT * FROM /r WHERE n > 1 \n1 stop q\n1 fetch q\n1 close q\n# 9\n   \ndeliver 2 1.2\nreport 1\n\
+hear 2 1 1\nsweep 1 4294967295\njoin 2 1";
+    let text = format!(in rt.alloc(); "{STATED}{lines}")?;
+    let script = read(rt.alloc(), text.as_bytes(), Form::Replay)
+        .ok()
+        .ok_or("a script")?;
+    assert_eq!(rt; script.lines.len(), 17);
+    assert_eq!(rt; line_number(text.as_bytes(), 11), 18);
+    assert_eq!(rt; line_number(text.as_bytes(), 12), 21);
+    let steps = script.steps(rt.alloc(), 2).ok().ok_or("the steps")?;
+    assert_eq!(rt; steps.len(), 3);
+    let again = format!(in rt.alloc(); "{text}\njoin 2 1")?;
+    assert_eq!(rt;
+        fault_of(rt.alloc(), Form::Replay, again.as_str()),
+        Some((26, Reason::Join))
+    );
+    let own = format!(in rt.alloc(); "{text}\ndeliver 1 1.2")?;
+    assert_eq!(rt;
+        fault_of(rt.alloc(), Form::Replay, own.as_str()),
+        Some((26, Reason::Itself))
+    );
+    Ok(())
+}
+
+// The lines behind a heading, one after another.
+fn repeated(alloc: Global, line: &str, times: usize) -> Result<String, Fail> {
+    let mut text = String::from_str(alloc, STATED)?;
+    for _ in 0..times {
+        text.push_str(line)?;
+        text.push('\n')?;
+    }
+    Ok(text)
+}
+
+#[test]
+fn lines_are_limited_by_kind_and_in_all(rt: HostRuntime) -> Result<(), Fail> {
+    let open = "1 open q SELECT * FROM /r";
+    for (line, times, wanted) in [
+        ("report 1", 200, None),
+        ("report 1", 201, Some((207, Reason::Count))),
+        (open, 16, None),
+        (open, 17, Some((23, Reason::Count))),
+    ] {
+        let text = repeated(rt.alloc(), line, times)?;
+        assert_eq!(rt;
+            fault_of(rt.alloc(), Form::Replay, text.as_str()),
+            wanted,
+            "{line}"
+        );
+    }
+    let many = repeated(rt.alloc(), "x", 199995)?;
+    let end = read(rt.alloc(), many.as_bytes(), Form::Run).err();
+    assert_eq!(rt; end, Some(ScriptEnd::TooManyLines(200001)));
+    let fewer = repeated(rt.alloc(), "x", 199994)?;
+    assert_eq!(rt;
+        fault_of(rt.alloc(), Form::Replay, fewer.as_str()),
+        Some((7, Reason::Word))
+    );
+    Ok(())
+}
+
+#[test]
+fn a_script_has_what_its_heading_states(rt: HostRuntime) -> Result<(), Fail> {
+    let text =
+        "georep 1\nregion /r\nmembers 3 2\nshards 4\ntrouble 7\nclient 1 at 3\n1 peek k\nsweep 2 9";
+    let script = read(rt.alloc(), text.as_bytes(), Form::Run)
+        .ok()
+        .ok_or("a script")?;
+    assert_eq!(rt; script.region.bytes(), b"/r".as_slice());
+    assert_eq!(rt; (script.members, script.founders, script.shards), (3, 2, 4));
+    assert_eq!(rt; (script.inbox, script.trouble, script.floor), (16, 7, 0));
+    assert_eq!(rt; script.clients.as_slice(), [3].as_slice());
+    assert!(rt;
+        matches!(
+            script.lines.get(0),
+            Some(Line::Step {
+                client: 1,
+                seq: 1,
+                act: Act::Peek(_)
+            })
+        )
+    );
+    assert!(rt;
+        matches!(
+            script.lines.get(1),
+            Some(Line::Sweep {
+                member: 2,
+                moment: 9
+            })
+        )
+    );
+    Ok(())
+}
+
+#[test]
+fn a_reason_has_a_number_and_a_name(rt: HostRuntime) {
+    assert_eq!(rt;
+        (Reason::Header(3).number(), Reason::Header(3).name()),
+        (2, "Header")
+    );
+    assert_eq!(rt;
+        (Reason::Itself.number(), Reason::Itself.name()),
+        (16, "Self")
+    );
+    assert_eq!(rt;
+        (Reason::NotInRun.number(), Reason::NotInRun.name()),
+        (18, "NotInRun")
+    );
+}
