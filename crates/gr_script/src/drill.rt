@@ -17,8 +17,8 @@ pub(crate) fn drawn(x: u32) -> u32
     (u64::from(x) * 48271 % MODULUS) as u32
 }
 
-// The client of a step of the drill.
-fn client_of(step: u32) -> u8
+/// The client of a step of the drill.
+pub(crate) fn client_of(step: u32) -> u8
     requires { 1 ≤ step }
     ensures { result ≡ drill_client step }
 {
