@@ -3,6 +3,7 @@
 
 mod cuts;
 mod drill;
+mod drill_lines;
 mod drill_step;
 mod ending;
 mod form;
