@@ -1,5 +1,6 @@
 -- What every line that was read is behind the earlier ones.
-use Rattle.std.proofs.Common.{◌≡◌, ℕ, zero, suc, ◌+◌, ◌≤◌, ◌<◌, List, [], ◌∷◌, length, Bool, true, false, cond, ltb, not, ◌&&◌, Option, Some, None, Result, Ok, Err, refl, sym, ap, ◌∙◌, subst, arith, codes, bytes_eq}
+use Rattle.std.proofs.Common.{◌≡◌, ℕ, zero, suc, ◌+◌, ◌≤◌, ◌<◌, List, [], ◌∷◌, length, Bool, true, false, cond, ltb, not, ◌&&◌, Option}
+use Rattle.std.proofs.Common.{Some, None, Result, Ok, Err, refl, sym, ap, ◌∙◌, subst, arith, codes, bytes_eq}
 use Rattle.std.specs.List.{list_all, AllByRecursion}
 use Rattle.std.specs.Str.{is_utf8}
 use Rattle.std.specs.Char.{is_ascii_digit}
@@ -129,7 +130,7 @@ with_follows false past read longer e next all =
     let b = bind_ok read _ longer e in
     subst AllFollow (done_is (b.0 ∷ past) longer b.2) (next b.0 b.1, all)
 
-past_follows : (runs : Bool) (past : List Saying) (line : List ℕ) (longer : List Saying) → IsLine line
+pub past_follows : (runs : Bool) (past : List Saying) (line : List ℕ) (longer : List Saying) → IsLine line
     → past_with runs past line ≡ Ok longer → AllFollow past → AllFollow longer
 past_follows runs past line longer alone e all =
     let t = bind_ok (text_at line) _ longer e in
@@ -173,7 +174,8 @@ end_ok false end (Err fault) all e = absurd cc
 -- Each line that was read suits the earlier ones, and the heading is whole.
 pub all_follow : (runs : Bool) (text : List ℕ) (all : List Saying) → sayings_of runs text ≡ Ok all → AllFollow all × (4 ≤ stage all)
 all_follow runs text all e =
-    from_follows runs 1 [] (lines_of text) all (lines_are_lines text) (end_ok (ltb most_lines (line_count text)) _ (sayings_from runs 1 [] (lines_of text)) all e).1 tt
+    from_follows runs 1 [] (lines_of text) all (lines_are_lines text)
+    (end_ok (ltb most_lines (line_count text)) _ (sayings_from runs 1 [] (lines_of text)) all e).1 tt
 
 -- ---- how many there are
 

@@ -1,5 +1,6 @@
 -- Texts that are printed one after another.
-use Rattle.std.proofs.Common.{◌≡◌, ℕ, ◌+◌, ◌<◌, List, [], ◌∷◌, ◌++◌, length, take, get_or, All, sym, ap, ◌∙◌, subst, append_assoc, flat_map, drop, decimal, drop-cons, arith, suc, refl, map}
+use Rattle.std.proofs.Common.{◌≡◌, ℕ, ◌+◌, ◌<◌, List, [], ◌∷◌, ◌++◌, length, take, get_or, All, sym, ap, ◌∙◌, subst, append_assoc}
+use Rattle.std.proofs.Common.{flat_map, drop, decimal, drop-cons, arith, suc, refl, map}
 use Rattle.std.specs.Prelude.{codes}
 use Rattle.gr_script.specs.declared.forms.LineKind.TheVariants as kind
 use Rattle.gr_script.specs.Forms.{word}
@@ -21,11 +22,13 @@ module _ {X : Type 0} (items : List X) (place : ℕ) (d item : X) (within : plac
       ∙ append_assoc before (flat_map text (take place items)) (text (get_or items place d))
       ∙ ap (λ (t : List ℕ). before ++ t)
       (ap (λ (t : List ℕ). flat_map text (take place items) ++ t) (sym (append-nil (text (get_or items place d))))
-      ∙ sym (flat_map-append text (take place items) (get_or items place d ∷ [])) ∙ ap (flat_map text) (sym (take_more items place d within)))
+      ∙ sym (flat_map-append text (take place items) (get_or items place d ∷ []))
+      ∙ ap (flat_map text) (sym (take_more items place d within)))
 
   pub each_more : (P : X → Type 0) → All P (take place items) → P item → All P (take (place + 1) items)
   each_more P front next =
-      subst (All P) (sym (take_more items place d within)) (All-append P (take place items) _ front (All-cons P _ [] (subst P is next) (All-nil P)))
+      subst (All P) (sym (take_more items place d within))
+      (All-append P (take place items) _ front (All-cons P _ [] (subst P is next) (All-nil P)))
 
 -- ---- the lines of a heading
 
@@ -35,7 +38,8 @@ number_line word number = word ++ (codes " " ++ (decimal number ++ 0x0A ∷ []))
 line_with : (word number : List ℕ) → (word ++ ((codes " " ++ number) ++ [])) ++ 0x0A ∷ [] ≡ word ++ (codes " " ++ (number ++ 0x0A ∷ []))
 line_with word number = simp (append_assoc, append-nil)
 
-two_fields : (word s one t two end : List ℕ) → (word ++ ((s ++ one) ++ ((t ++ two) ++ []))) ++ end ≡ word ++ (s ++ (one ++ (t ++ (two ++ end))))
+two_fields : (word s one t two end : List ℕ)
+    → (word ++ ((s ++ one) ++ ((t ++ two) ++ []))) ++ end ≡ word ++ (s ++ (one ++ (t ++ (two ++ end))))
 two_fields word s one t two end = simp (append_assoc, append-nil)
 
 line_with_two : (word one two : List ℕ) → (word ++ ((codes " " ++ one) ++ ((codes " " ++ two) ++ []))) ++ 0x0A ∷ []
@@ -58,7 +62,8 @@ abbrev members_line : ℕ → ℕ → List ℕ
 members_line members founders = codes "members " ++ (decimal members ++ (codes " " ++ (decimal founders ++ 0x0A ∷ [])))
 
 stated_is : (h : Heading) → region_line h.region ++ (members_line h.members h.founders ++ (number_line (word kind.Shards) h.shards
-    ++ (number_line (word kind.Inbox) h.inbox ++ (number_line (word kind.Trouble) h.trouble ++ (number_line (word kind.Floor) h.floor ++ [])))))
+    ++ (number_line (word kind.Inbox) h.inbox
+    ++ (number_line (word kind.Trouble) h.trouble ++ (number_line (word kind.Floor) h.floor ++ [])))))
     ≡ text_of_sayings (stated_sayings h)
 stated_is h = sym (λ i. (codes "georep 1" ++ 0x0A ∷ []) ++ (line_with (word kind.Region) h.region i
     ++ (line_with_two (word kind.Members) (decimal h.members) (decimal h.founders) i ++ (line_with (word kind.Shards) (decimal h.shards) i
@@ -72,8 +77,10 @@ module _ (h : Heading) (start region members shards inbox trouble floor : List �
       → trouble ≡ inbox ++ number_line (word kind.Trouble) seed → floor ≡ trouble ++ number_line (word kind.Floor) h.floor
       → floor ≡ start ++ text_of_sayings (stated_sayings h)
   stated_printed e1 e2 e3 e4 e5 e6 =
-      let f3 : shards ≡ members ++ number_line (word kind.Shards) h.shards = e3 ∙ ap (λ n. members ++ number_line (word kind.Shards) n) same_shards in
-      let f4 : inbox ≡ shards ++ number_line (word kind.Inbox) h.inbox = e4 ∙ ap (λ n. shards ++ number_line (word kind.Inbox) n) same_inbox in
+      let f3 : shards ≡ members ++ number_line (word kind.Shards) h.shards = e3
+      ∙ ap (λ n. members ++ number_line (word kind.Shards) n) same_shards in
+      let f4 : inbox ≡ shards ++ number_line (word kind.Inbox) h.inbox = e4
+      ∙ ap (λ n. shards ++ number_line (word kind.Inbox) n) same_inbox in
       let f5 : trouble ≡ inbox ++ number_line (word kind.Trouble) h.trouble =
       e5 ∙ ap (λ n. inbox ++ number_line (word kind.Trouble) n) same_trouble in
       e6 ∙ ap (λ x. x ++ number_line (word kind.Floor) h.floor)

@@ -1,5 +1,6 @@
 -- A field of a line is read from what its item is spelled as.
-use Rattle.std.proofs.Common.{◌≡◌, ℕ, ◌+◌, ◌-◌, ◌<◌, ◌≤◌, ◌^◌, zero, suc, List, [], ◌∷◌, ◌++◌, length, take, drop, Bool, true, false, not, cond}
+use Rattle.std.proofs.Common.{◌≡◌, ℕ, ◌+◌, ◌-◌, ◌<◌, ◌≤◌, ◌^◌, zero, suc, List, [], ◌∷◌, ◌++◌, length, take, drop, Bool, true, false, not}
+use Rattle.std.proofs.Common.{cond}
 use Rattle.std.proofs.Common.{eqb, leb, ltb, ◌&&◌, ◌||◌, Option, Some, None, Result, Ok, Err, decimal, refl, sym, ap, ◌∙◌, subst, arith}
 use Rattle.std.proofs.Common.{length-append, get_or}
 use Rattle.std.specs.Prelude.{codes}
@@ -148,7 +149,8 @@ pub record IsBack (setting : Setting) (kind : FieldKind) (item : Item) (text : L
 is_there : (text : List ℕ) → 0 < length text → not (eqb (length text) 0) ≡ true
 is_there text some = ap not (ne_eqb (length text) 0 (λ e. omega (arith, e, some)))
 
-plain_back : (setting : Setting) (kind : FieldKind) (item : Item) (text : List ℕ) → IsPlain text → ((t : List ℕ) → len_of kind t ≡ field_len t)
+plain_back : (setting : Setting) (kind : FieldKind) (item : Item) (text : List ℕ) → IsPlain text
+    → ((t : List ℕ) → len_of kind t ≡ field_len t)
     → is_filled kind text ≡ true → item_at setting kind text ≡ Ok item → IsBack setting kind item text
 plain_back setting kind item text plain field filled read = record {
   stands = plain_stands text plain.some plain.each;
@@ -183,7 +185,8 @@ step_from setting found = found >>= λ numbers. stated_client setting numbers.0 
 step_back : (setting : Setting) (client seq : ℕ) → IsClient setting client → IsShort seq
     → item_at setting field.Step (decimal client ++ 0x2E ∷ decimal seq) ≡ Ok (Step client seq)
 step_back setting client seq is few =
-    let cut = cut_at 0x2E (decimal client) (decimal seq) (unmarked is_ascii_digit 0x2E (decimal client) refl (decimal_spells client (client_short setting client is)).each) in
+    let cut = cut_at 0x2E (decimal client) (decimal seq)
+    (unmarked is_ascii_digit 0x2E (decimal client) refl (decimal_spells client (client_short setting client is)).each) in
     ap (λ parts. step_from setting (dotted_numbers parts)) cut
     ∙ ap (λ found. step_from setting (found >>= λ c. number_at (decimal seq) >>= λ s. Ok (c, s)))
     (number_at_back client (client_short setting client is))
@@ -215,7 +218,8 @@ value_stands value is =
 
 query_read : (setting : Setting) (query : Question) → IsOwnQuery setting query → query_at setting query.text ≡ Ok query
 query_read setting query is =
-    ap (λ test. cond (not test) (Err reason.Utf8) (Ok query.text) >>= λ text. query_from (question_of text) >>= own_query setting) is.readable
+    ap (λ test. cond (not test) (Err reason.Utf8) (Ok query.text) >>= λ text. query_from
+    (question_of text) >>= own_query setting) is.readable
     ∙ ap (λ found. found >>= own_query setting) (query_spelled query.text query is.spelled)
     ∙ ap (λ test. cond (not test) (Err reason.Region) (Ok query)) is.own
 

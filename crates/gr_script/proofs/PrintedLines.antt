@@ -1,5 +1,6 @@
 -- What a line is spelled as says what the line says.
-use Rattle.std.proofs.Common.{◌≡◌, ℕ, ◌+◌, ◌<◌, ◌≤◌, List, [], ◌∷◌, ◌++◌, length, take, drop, Bool, true, false, cond, eqb, ◌&&◌, Option, Some}
+use Rattle.std.proofs.Common.{◌≡◌, ℕ, ◌+◌, ◌<◌, ◌≤◌, List, [], ◌∷◌, ◌++◌, length, take, drop, Bool, true, false, cond, eqb, ◌&&◌, Option}
+use Rattle.std.proofs.Common.{Some}
 use Rattle.std.proofs.Common.{None, Result, Ok, Err, decimal, refl, sym, ap, ◌∙◌, subst, arith, length-append}
 use Rattle.std.specs.Char.{is_ascii_digit}
 use Rattle.std.specs.List.{list_all, prefix_len}
@@ -26,7 +27,8 @@ use Rattle.gr_script.specs.Printing.{field_text, field_texts, spaced, saying_tex
 use Rattle.gr_script.specs.ReadBack.{IsReadBack}
 use Rattle.gr_script.specs.Suiting.{Suits, AllSuit, IsClient}
 use Rattle.gr_script.specs.Rests.{begins_spaced}
-use Rattle.gr_script.proofs.PrintedFields.{GoesOn, IsBack, field_back, IsPlain, decimal_plain, word_plain, client_short, field_before_space, field_alone}
+use Rattle.gr_script.proofs.PrintedFields.{GoesOn, IsBack, field_back, IsPlain, decimal_plain, word_plain, client_short}
+use Rattle.gr_script.proofs.PrintedFields.{field_before_space, field_alone}
 use Rattle.gr_script.proofs.Marks.{other_byte}
 use Rattle.gr_script.proofs.PrintedNumbers.{decimal_spells}
 use Rattle.gr_script.proofs.PrintedTexts.{Stands, spaced_stand, plain_stands, front_kept, said_whole}
@@ -98,7 +100,8 @@ module _ (setting : Setting) (line : LineKind) where
             ∙ ap (λ found. found >>= λ items. Ok (item ∷ items)) more.read;
       }
 
-  fields_back : (kind : FieldKind) (kinds : List FieldKind) (items : List Item) → LastAlone (kind ∷ kinds) → AllSuit setting (kind ∷ kinds) items
+  fields_back : (kind : FieldKind) (kinds : List FieldKind) (items : List Item) → LastAlone (kind ∷ kinds)
+      → AllSuit setting (kind ∷ kinds) items
       → AreBack setting (kind ∷ kinds) items (spaced (field_texts line (kind ∷ kinds) items))
   fields_back kind kinds [] last suit = absurd suit
   fields_back kind [] (item ∷ []) last suit =
@@ -107,7 +110,8 @@ module _ (setting : Setting) (line : LineKind) where
   fields_back kind [] (item ∷ next ∷ items) last suit = absurd suit.1
   fields_back kind (next ∷ kinds) (item ∷ []) last suit = absurd suit.1
   fields_back kind (next ∷ kinds) (item ∷ other ∷ items) last suit =
-      more_back kind item (field_text line kind item) (next ∷ kinds) (other ∷ items) (spaced (field_texts line (next ∷ kinds) (other ∷ items)))
+      more_back kind item (field_text line kind item) (next ∷ kinds) (other ∷ items)
+      (spaced (field_texts line (next ∷ kinds) (other ∷ items)))
       (field_back setting line kind item suit.0) last.0 (fields_back next kinds (other ∷ items) last.1 suit.1)
 
   all_back : (kinds : List FieldKind) (items : List Item) → 0 < length kinds → LastAlone kinds → AllSuit setting kinds items
@@ -152,9 +156,10 @@ saying_back setting line items suit = all_back setting line (fields line) items 
 
 -- ---- the form, by the first field or the second
 
-front_is : (text : List ℕ) (more : List (List ℕ)) → IsPlain text → first (spaced (text ∷ more)) ≡ text
+pub front_is : (text : List ℕ) (more : List (List ℕ)) → IsPlain text → first (spaced (text ∷ more)) ≡ text
 front_is text [] plain = ap first (append-nil text) ∙ piece_alone field.Word text (field_alone text plain.each)
-front_is text (next ∷ more) plain = piece_front field.Word text (spaced (next ∷ more)) (field_before_space text (spaced (next ∷ more)) plain.each)
+front_is text (next ∷ more) plain =
+    piece_front field.Word text (spaced (next ∷ more)) (field_before_space text (spaced (next ∷ more)) plain.each)
 
 second_is : (text next : List ℕ) (more : List (List ℕ)) → IsPlain text → IsPlain next → second (spaced (text ∷ next ∷ more)) ≡ next
 second_is text next more plain other =
@@ -176,7 +181,8 @@ skipped_front (first ∷ text) more some = refl
 
 digits_said : (digits : List ℕ) → 0 < length digits → list_all is_ascii_digit digits ≡ true → is_skipped digits ≡ false
 digits_said [] some all = absurd (omega (arith, some))
-digits_said (digit ∷ digits) some all = other_byte is_ascii_digit 0x23 digit refl (and_parts (is_ascii_digit digit) (list_all is_ascii_digit digits) all).0
+digits_said (digit ∷ digits) some all =
+    other_byte is_ascii_digit 0x23 digit refl (and_parts (is_ascii_digit digit) (list_all is_ascii_digit digits) all).0
 
 module _ (setting : Setting) (line : LineKind) where
   other_formed : (kinds : List FieldKind) (items : List Item) → AllSuit setting (field.Word ∷ kinds) items

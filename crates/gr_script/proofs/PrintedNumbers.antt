@@ -1,5 +1,6 @@
 -- A number is read from its decimal digits.
-use Rattle.std.proofs.Common.{◌≡◌, ℕ, ◌+◌, ◌-◌, ◌*◌, ◌/◌, ◌%◌, ◌^◌, ◌<◌, ◌≤◌, List, [], ◌∷◌, ◌++◌, length, Bool, true, false, not, cond, eqb}
+use Rattle.std.proofs.Common.{◌≡◌, ℕ, ◌+◌, ◌-◌, ◌*◌, ◌/◌, ◌%◌, ◌^◌, ◌<◌, ◌≤◌, List, [], ◌∷◌, ◌++◌, length, Bool, true, false, not, cond}
+use Rattle.std.proofs.Common.{eqb}
 use Rattle.std.proofs.Common.{leb, ◌&&◌, ◌||◌, Option, Some, None, get_or, decimal, refl, sym, ap, ◌∙◌, subst, arith, length-append}
 use Rattle.std.specs.List.{list_all, fold}
 use Rattle.std.specs.Char.{is_ascii_digit}
@@ -43,8 +44,9 @@ begins n [] h zero = absurd (omega (arith, h.some))
 begins n (first ∷ more) h zero = grind (arith, h.first, zero)
 
 pub number_back : (n : ℕ) → n < 10 ^ 20 → number_of (decimal n) ≡ Some n
-number_back n few = 
+number_back n few =
     let h = decimal_spells n few in
-    let begun : begins_number (decimal n) ≡ true = begins n (decimal n) h (λ e. ap (λ m. length (decimal m)) e ∙ ap (length {A = ℕ}) (decimal_digit 0 (omega arith))) in
+    let begun : begins_number (decimal n) ≡ true =
+    begins n (decimal n) h (λ e. ap (λ m. length (decimal m)) e ∙ ap (length {A = ℕ}) (decimal_digit 0 (omega arith))) in
     let short : leb (length (decimal n)) 20 ≡ true = le-leb _ _ (length-decimal-le_wide 20 n (omega arith) few (omega arith)) in
     ap (λ b. cond b (Some (worth (decimal n))) None) (and_from _ _ (and_from _ _ begun short) h.each) ∙ ap (λ m. Some m) h.value

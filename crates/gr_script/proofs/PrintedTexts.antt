@@ -1,5 +1,6 @@
 -- Texts that can stand on a line as they are: what is said there is the whole text.
-use Rattle.std.proofs.Common.{◌≡◌, ℕ, ◌+◌, ◌-◌, ◌<◌, ◌≤◌, zero, suc, List, [], ◌∷◌, ◌++◌, length, take, drop, Bool, true, false, not, cond, eqb}
+use Rattle.std.proofs.Common.{◌≡◌, ℕ, ◌+◌, ◌-◌, ◌<◌, ◌≤◌, zero, suc, List, [], ◌∷◌, ◌++◌, length, take, drop, Bool, true, false, not, cond}
+use Rattle.std.proofs.Common.{eqb}
 use Rattle.std.proofs.Common.{◌||◌, get_or, refl, sym, ap, ◌∙◌, subst, arith, length-append}
 use Rattle.std.specs.List.{list_all, list_any, prefix_len, suffix_len, flat_map}
 use Rattle.std.specs.Option.{option_map_or}
@@ -32,7 +33,8 @@ ends_skip mark first next rest =
     let there : length (first ∷ next ∷ rest) - 1 ≡ suc (length (next ∷ rest) - 1) = omega arith in
     ap (λ n. option_map_or (λ last. eqb last mark) (slice_get (first ∷ next ∷ rest) n) false) there
 
-pub ends_append : (mark : ℕ) (front : List ℕ) (next : ℕ) (rest : List ℕ) → ends_with mark (front ++ next ∷ rest) ≡ ends_with mark (next ∷ rest)
+pub ends_append : (mark : ℕ) (front : List ℕ) (next : ℕ) (rest : List ℕ)
+    → ends_with mark (front ++ next ∷ rest) ≡ ends_with mark (next ∷ rest)
 ends_append mark [] next rest = refl
 ends_append mark (first ∷ []) next rest = ends_skip mark first next rest
 ends_append mark (first ∷ second ∷ front) next rest =
@@ -113,5 +115,7 @@ spaced_stand text rest one two = record {
   back = ends_append 0x20 text 0x20 rest ∙ ends_back 0x20 (0x20 ∷ []) rest two.some ∙ two.back;
   no_return = ends_append 0x0D text 0x20 rest ∙ ends_back 0x0D (0x20 ∷ []) rest two.some ∙ two.no_return;
   line = list_any-append (λ byte. eqb byte 0x0A) text (0x20 ∷ rest) ∙ or_from _ _ one.line two.line;
-  readable = IsUtf8-append text (0x20 ∷ rest) one.readable (IsUtf8-append (0x20 ∷ []) rest (IsUtf8-from_ascii (0x20 ∷ []) space_ascii) two.readable);
+  readable =
+      IsUtf8-append text (0x20 ∷ rest) one.readable
+      (IsUtf8-append (0x20 ∷ []) rest (IsUtf8-from_ascii (0x20 ∷ []) space_ascii) two.readable);
 }

@@ -1,5 +1,6 @@
 -- The piece of a line that a value is, is the whole text that the value prints.
-use Rattle.std.proofs.Common.{◌≡◌, ℕ, ◌+◌, ◌/◌, ◌%◌, ◌^◌, ◌<◌, ◌≤◌, arith, pos, negsuc, suc, List, [], ◌∷◌, ◌++◌, length, Bool, true, false}
+use Rattle.std.proofs.Common.{◌≡◌, ℕ, ◌+◌, ◌/◌, ◌%◌, ◌^◌, ◌<◌, ◌≤◌, arith, pos, negsuc, suc, List, [], ◌∷◌, ◌++◌, length, Bool, true}
+use Rattle.std.proofs.Common.{false}
 use Rattle.std.proofs.Common.{cond, not, eqb, ◌&&◌, leb, ltb, nat_lt, Option, Some, None, decimal, refl, sym, ap, ◌∙◌, subst, append_assoc}
 use Rattle.std.proofs.Common.{length-append}
 use Rattle.std.proofs.lemmas.Bool.{and_parts, cases_eq, ne_eqb, eqb-false, lt-ltb, ltb-true, ltb-false}
@@ -77,7 +78,7 @@ digit_outside x is =
 
 digits_lead : (digits : List ℕ) → list_all is_ascii_digit digits ≡ true → Leads Outside digits Outside
 digits_lead [] all = refl
-digits_lead (x ∷ xs) all = 
+digits_lead (x ∷ xs) all =
     let parts = and_parts (is_ascii_digit x) (list_all is_ascii_digit xs) all in
     (Outside, digit_outside x parts.0, digits_lead xs parts.1)
 

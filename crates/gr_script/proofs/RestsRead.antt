@@ -1,5 +1,6 @@
 -- A query's text that is read from a line is the rest of that line.
-use Rattle.std.proofs.Common.{◌≡◌, ℕ, ◌+◌, ◌<◌, ◌≤◌, ◌-◌, suc, List, [], ◌∷◌, ◌++◌, length, take, drop, Bool, true, false, cond, eqb, Result, Ok, Err}
+use Rattle.std.proofs.Common.{◌≡◌, ℕ, ◌+◌, ◌<◌, ◌≤◌, ◌-◌, suc, List, [], ◌∷◌, ◌++◌, length, take, drop, Bool, true, false, cond, eqb}
+use Rattle.std.proofs.Common.{Result, Ok, Err}
 use Rattle.std.proofs.Common.{reverse, get_or, refl, sym, ap, ◌∙◌, subst, arith, inl, inr}
 use Rattle.std.specs.List.{prefix_len, suffix_len, list_any, onto_first, AllByRecursion}
 use Rattle.std.specs.Prelude.{⊤}
@@ -101,7 +102,8 @@ query_text : (setting : Setting) (text : List ℕ) (query : Question) → query_
 query_text setting text query e = then (query.text ≡ text) (text_at text) _ query (λ t readable.
     then (query.text ≡ text) (query_from (question_of t)) _ query (λ q asked owned.
     ap (λ q. q.text) (sym (unless_is _ reason.Region q query owned))
-    ∙ from_text t (question_of t) q (λ found. question_text t (tokens_of t) found) asked ∙ sym (unless_is _ reason.Utf8 text t readable))) e
+    ∙ from_text t (question_of t) q (λ found. question_text t (tokens_of t) found) asked
+    ∙ sym (unless_is _ reason.Utf8 text t readable))) e
 
 -- where the field is a query's, its piece is a rest
 abbrev QueryRest : FieldKind → List ℕ → Type 0
@@ -141,16 +143,18 @@ pub rests_read : (setting : Setting) (kinds : List FieldKind) (text : List ℕ) 
     → items_at setting kinds text ≡ Ok items → AreRests items
 rests_read setting [] text items is e = subst AreRests (same [] items e) tt
 rests_read setting (kind ∷ kinds) text items is e = then (AreRests items) _ _ items (λ found read more.
-    then (AreRests items) _ _ items (λ rest others this. subst AreRests (same (found ∷ rest) items this)
-    (item_rest setting kind (piece kind text) found (piece_rest kind text is) read,
-    rests_read setting kinds (left kind text) rest (rest_dropped (len_of kind text) text is) others)) more) e
+    then (AreRests items) _ _ items (λ rest others this. subst AreRests (same (found ∷ rest) items this) (
+      item_rest setting kind (piece kind text) found (piece_rest kind text is) read,
+      rests_read setting kinds (left kind text) rest (rest_dropped (len_of kind text) text is) others,
+    )) more) e
 
 -- ---- lines
 
 front_line : (n : ℕ) (text : List ℕ) → IsLine text → IsLine (take n text)
 front_line n text line =
     (or_parts (list_any (λ byte. eqb byte 0x0A) (take n text)) (list_any (λ byte. eqb byte 0x0A) (drop n text))
-    (sym (list_any-append (λ byte. eqb byte 0x0A) (take n text) (drop n text)) ∙ ap (list_any (λ byte. eqb byte 0x0A)) (take-append-drop n text)
+    (sym (list_any-append (λ byte. eqb byte 0x0A) (take n text) (drop n text))
+    ∙ ap (list_any (λ byte. eqb byte 0x0A)) (take-append-drop n text)
     ∙ line)).0
 
 kept_line : (test : Bool) (line : List ℕ) → IsLine line → IsLine (cond test (take (length line - 1) line) line)
@@ -184,7 +188,8 @@ said_rest line alone =
     let short = before_spaces kept in
     let spaces = prefix_len is_space short in
     record {
-      line = rest_line spaces short (front_line (length kept - suffix_len is_space kept) kept (kept_line (ends_with 0x0D line) line alone));
+      line = rest_line spaces short
+          (front_line (length kept - suffix_len is_space kept) kept (kept_line (ends_with 0x0D line) line alone));
       front = after_front short;
       back = rest_end 0x20 (take spaces short) (drop spaces short) short (take-append-drop spaces short) (no_space_behind kept);
     }

@@ -1,5 +1,6 @@
 -- Each line that is said stands where it may.
-use Rattle.std.proofs.Common.{◌≡◌, ℕ, ◌+◌, ◌-◌, ◌≤◌, ◌<◌, List, [], ◌∷◌, length, get_or, Bool, true, false, cond, eqb, ltb, leb, not, ◌||◌, ◌&&◌, Option, Some, None, refl, sym, ap, ◌∙◌, subst, arith, bytes_eq, inl, inr}
+use Rattle.std.proofs.Common.{◌≡◌, ℕ, ◌+◌, ◌-◌, ◌≤◌, ◌<◌, List, [], ◌∷◌, length, get_or, Bool, true, false, cond, eqb, ltb, leb, not, ◌||◌}
+use Rattle.std.proofs.Common.{◌&&◌, Option, Some, None, refl, sym, ap, ◌∙◌, subst, arith, bytes_eq, inl, inr}
 use Rattle.std.specs.List.{cons_option, count_by}
 use Rattle.std.specs.Option.{option_map_or, unwrap_or}
 use Rattle.std.proofs.lemmas.Bool.{cases_lt, or_parts, leb-false, ltb-false, eqb-false, not_from_false}
@@ -11,7 +12,8 @@ use Rattle.gr_script.specs.declared.line.Line.{Line}
 use Rattle.gr_script.specs.declared.reason.Reason.{Reason}
 use Rattle.gr_script.specs.declared.saying.Saying.{Saying}
 use Rattle.gr_script.specs.Forms.{fields, rank}
-use Rattle.gr_script.specs.Past.{setting, region, members, founders, homes, home, steps, reports, joins, count_of, queries, stage, next_rank}
+use Rattle.gr_script.specs.Past.{setting, region, members, founders, homes, home, steps, reports, joins, count_of, queries, stage}
+use Rattle.gr_script.specs.Past.{next_rank}
 use Rattle.gr_script.specs.Refusals.{tests, refusal, is_missing, is_full}
 use Rattle.gr_script.specs.Rules.{Heading, IsWithin, IsStated, StandsAfter, AllStand}
 use Rattle.gr_script.specs.Said.{heading_said, line_of, lines_said}
@@ -80,9 +82,11 @@ line_stands past kind.Remove c none rests all = (stated past c.0.0 c.0.1, number
 line_stands past kind.Peek c none rests all = (stated past c.0.0 c.0.1, numbered past c.0.0 all, tt)
 line_stands past kind.Open c none rests all =
     let pass = passed (tests past kind.Open (held_items past kind.Open c)) none in
-    let full = or_parts (is_full 16 (count_of kind.Open past)) (is_full 10000 (queries past)) pass.0 in
-    (stated past c.0.0 c.0.1, numbered past c.0.0 all,
-    (own_region (region past) _ c.1.1.1.0.1, few_opens past all full.0, few_queries past all full.1, rests.1.1.1.0))
+    let full = or_parts (is_full 16 (count_of kind.Open past)) (is_full 10000 (queries past)) pass.0 in (
+      stated past c.0.0 c.0.1,
+      numbered past c.0.0 all,
+      (own_region (region past) _ c.1.1.1.0.1, few_opens past all full.0, few_queries past all full.1, rests.1.1.1.0),
+    )
 line_stands past kind.Stop c none rests all =
     let pass = passed (tests past kind.Stop (held_items past kind.Stop c)) none in
     (stated past c.0.0 c.0.1, numbered past c.0.0 all, few_queries past all pass.0)
@@ -95,25 +99,31 @@ line_stands past kind.Fetch c none rests all =
 line_stands past kind.Deliver c none rests all =
     let client = c.1.1.0.0.0 in
     let pass = passed (tests past kind.Deliver (held_items past kind.Deliver c)) none in
-    let count = tallied (λ m. m.step) client past refl all in
-    (c.1.0.1, stated past client c.1.1.0.1,
-    subst (λ (n : ℕ). IsWithin 1 n c.1.1.0.0.1) (sym count) (not_missing c.1.1.0.0.1 (steps client past) pass.0),
-    not_from_false (eqb c.1.0.0 (home client past)) pass.1.0)
+    let count = tallied (λ m. m.step) client past refl all in (
+      c.1.0.1,
+      stated past client c.1.1.0.1,
+      subst (λ (n : ℕ). IsWithin 1 n c.1.1.0.0.1) (sym count) (not_missing c.1.1.0.0.1 (steps client past) pass.0),
+      not_from_false (eqb c.1.0.0 (home client past)) pass.1.0,
+    )
 line_stands past kind.Report c none rests all =
     let pass = passed (tests past kind.Report (held_items past kind.Report c)) none in
     (c.1.0.1, not_full 200 (count_of kind.Report past) _ pass.0 (tallied (λ m. m.report) 0 past refl all))
 line_stands past kind.Hear c none rests all =
     let of = c.1.1.0.0 in
     let pass = passed (tests past kind.Hear (held_items past kind.Hear c)) none in
-    let count = tallied (λ m. m.report_of) of past refl all in
-    (c.1.0.1, c.1.1.0.1,
-    subst (λ (n : ℕ). IsWithin 1 n c.1.1.1.0) (sym count) (not_missing c.1.1.1.0 (reports of past) pass.0),
-    not_from_false (eqb c.1.0.0 of) pass.1.0,
-    not_full 1400 (count_of kind.Hear past) _ pass.1.1.0 (tallied (λ m. m.hear) 0 past refl all))
+    let count = tallied (λ m. m.report_of) of past refl all in (
+      c.1.0.1,
+      c.1.1.0.1,
+      subst (λ (n : ℕ). IsWithin 1 n c.1.1.1.0) (sym count) (not_missing c.1.1.1.0 (reports of past) pass.0),
+      not_from_false (eqb c.1.0.0 of) pass.1.0,
+      not_full 1400 (count_of kind.Hear past) _ pass.1.1.0 (tallied (λ m. m.hear) 0 past refl all),
+    )
 line_stands past kind.Sweep c none rests all =
-    let pass = passed (tests past kind.Sweep (held_items past kind.Sweep c)) none in
-    (c.1.0.1, c.1.1.0.1.1,
-    not_full 10000 (count_of kind.Sweep past) _ pass.0 (tallied (λ m. m.sweep) 0 past refl all))
+    let pass = passed (tests past kind.Sweep (held_items past kind.Sweep c)) none in (
+      c.1.0.1,
+      c.1.1.0.1.1,
+      not_full 10000 (count_of kind.Sweep past) _ pass.0 (tallied (λ m. m.sweep) 0 past refl all),
+    )
 line_stands past kind.Join c none rests all =
     let member = c.1.0.0 in
     let provider = c.1.1.0.0 in

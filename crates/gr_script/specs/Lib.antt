@@ -1,4 +1,5 @@
 pub mod Cuts
+pub mod Drill
 pub mod Fields
 pub mod Forms
 pub mod Halts

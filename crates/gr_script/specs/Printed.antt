@@ -19,6 +19,7 @@ use Rattle.gr_script.specs.declared.line.Line.TheVariants.{Step, Deliver, Report
 use Rattle.gr_script.specs.declared.saying.Saying.{Saying}
 use Rattle.gr_script.specs.Printing.{saying_text, text_of_sayings}
 use Rattle.gr_script.specs.Rules.{Heading}
+use Rattle.gr_script.specs.Suiting.{IsShort}
 
 -- a line of this kind with its word in front
 abbrev pub other_saying : LineKind → List Item → Saying
@@ -93,7 +94,7 @@ sayings_in h lines = heading_sayings h ++ map saying_in lines
 abbrev pub script_text : Heading → List Line → List ℕ
 script_text h lines = text_of_sayings (sayings_in h lines)
 
--- ---- what keys, values and queries keep
+-- ---- what the numbers, keys, values and queries of a line keep
 
 abbrev pub IsAskKept : Ask → Type 0
 IsAskKept (ask.Get key) = IsKey key
@@ -117,4 +118,6 @@ IsActKept (Peek key) = IsKey key
 
 abbrev pub IsLineKept : Line → Type 0
 IsLineKept (Step client seq act) = IsActKept act
+IsLineKept (Deliver to client seq) = IsShort seq
+IsLineKept (Hear by of number) = IsShort number
 IsLineKept _ = Unit {0}

@@ -90,7 +90,8 @@ Differ one other = IsTrue (not (one == other))
 
 -- Whether a client may ask this of a query, behind the earlier lines. The query's text is the rest of its line.
 abbrev pub QuerySuits : Heading → List Line → QueryAsk → Type 0
-QuerySuits h past (query.Enrol name query) = (query.asked.region ≡ h.region) × (opens past < 16) × (queries past < 10000) × IsRest query.text
+QuerySuits h past (query.Enrol name query) = (query.asked.region ≡ h.region) × (opens past < 16) × (queries past < 10000)
+    × IsRest query.text
 QuerySuits h past (query.Stop name) = queries past < 10000
 QuerySuits h past (query.Close name) = queries past < 10000
 QuerySuits h past (query.Fetch name) = queries past < 10000

@@ -2,6 +2,9 @@
 #![tactic(auto)]
 
 mod cuts;
+mod drill;
+mod drill_lines;
+mod drill_step;
 mod ending;
 mod form;
 mod forms;
@@ -34,7 +37,7 @@ pub use ending::{ScriptEnd, ScriptFault};
 pub use form::Form;
 pub use line::{Act, Line, LineList, Step, StepList};
 pub use numbering::line_number;
-pub use print_script::print;
+pub use print_script::{print, scripts_read_back};
 pub use reading::read;
 pub use reason::Reason;
 pub use script::{MemberNumberList, Script};

@@ -10,7 +10,8 @@ ghost use Rattle.gr_script.specs.declared.saying.Saying.{Saying as ASaying};
 ghost use Rattle.gr_script.specs.Forms.{fields, word};
 ghost use Rattle.gr_script.specs.declared.forms.LineKind.TheVariants.{Deliver};
 ghost use Rattle.gr_script.specs.Items.{items_at};
-ghost use Rattle.gr_script.specs.Printed.{line_text, ask_saying, query_saying, act_saying, saying_in, IsAskKept, IsQueryKept, IsActKept, IsLineKept};
+ghost use Rattle.gr_script.specs.Printed.{line_text, ask_saying, query_saying, act_saying, saying_in, IsAskKept, IsQueryKept, IsActKept};
+ghost use Rattle.gr_script.specs.Printed.{IsLineKept};
 ghost use Rattle.gr_script.specs.Printing.{saying_text};
 ghost use Rattle.gr_script.specs.ReadBack.{IsReadBack};
 ghost use Rattle.gr_script.specs.Rests.{IsRest};
@@ -155,14 +156,7 @@ fn put_ask(alloc: Global, client: u8, ask: &Ask, out: &mut Vec<u8>) -> Result<()
             out,
         )?,
         Ask::Destroy { key } => put_step(client, LineKind::Destroy, key, out)?,
-        Ask::Remove { key, value } => put_change(
-            alloc,
-            client,
-            LineKind::Remove,
-            key,
-            value,
-            out,
-        )?,
+        Ask::Remove { key, value } => put_change(alloc, client, LineKind::Remove, key, value, out)?,
     }
     Ok(())
 }

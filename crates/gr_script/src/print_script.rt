@@ -1,8 +1,13 @@
-ghost use Rattle.std.specs.Prelude.{◌≡◌, ◌≤◌, ◌++◌, ◌∷◌, [], codes, IfOk, OnOk, Ok};
+ghost use Rattle.std.specs.Prelude.{◌≡◌, ◌≤◌, ◌++◌, ◌∷◌, [], codes, List, All, false, IfOk, OnOk, Ok};
 ghost use Rattle.std.specs.Fmt.{decimal};
+ghost use Rattle.gr_script.specs.declared.line.Line.{Line as ALine};
+ghost use Rattle.gr_script.specs.Cuts.{line_count};
 ghost use Rattle.gr_script.specs.Forms.{word};
-ghost use Rattle.gr_script.specs.Printed.{stated_sayings, client_sayings, script_text};
+ghost use Rattle.gr_script.specs.Index.{most_lines};
+ghost use Rattle.gr_script.specs.Printed.{stated_sayings, client_sayings, script_text, IsLineKept};
 ghost use Rattle.gr_script.specs.Printing.{text_of_sayings};
+ghost use Rattle.gr_script.specs.Rules.{Heading as AHeading, IsScript};
+ghost use Rattle.gr_script.specs.Said.{script_of};
 ghost use Rattle.gr_script.specs.Scripts.{heading_of};
 
 use crate::Script;
@@ -75,9 +80,19 @@ fn put_clients(members: &[u8], out: &mut Vec<u8>) -> Result<(), Memory>
     Ok(())
 }
 
+/// The text of a script is read as that script in the form of replay, if it has no more lines than
+/// a script may have.
+pub fn scripts_read_back()
+    ensures { (h : AHeading) (lines : List ALine) → IsScript h lines → All IsLineKept lines
+        → line_count (script_text h lines) ≤ most_lines → script_of false (script_text h lines) ≡ Ok (h, lines) }
+{}
+
 /// The script's text: all seven lines of its heading, the lines of its clients, and the others.
 pub fn print(alloc: Global, script: &Script) -> Result<Vec<u8>, Memory>
     ensures text { IfOk result (λ text. text.items ≡ script_text (heading_of script.now) script.now.lines) }
+    // In the form of replay it is read as this script, if it has no more lines than a script may have.
+    ensures read { IfOk result (λ text. line_count text.items ≤ most_lines
+        → script_of false text.items ≡ Ok (heading_of script.now, script.now.lines)) }
 {
     let mut out = Vec::new(alloc);
     put_stated(script, &mut out)?;

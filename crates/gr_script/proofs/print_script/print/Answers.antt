@@ -1,9 +1,25 @@
+use Rattle.std.proofs.Common.{◌≡◌, ◌≤◌, ℕ, List, Ok, All, false, sym, subst}
+use Rattle.gr_script.specs.Cuts.{line_count}
+use Rattle.gr_script.specs.Index.{most_lines}
+use Rattle.gr_script.specs.Printed.{script_text, IsLineKept}
+use Rattle.gr_script.specs.Said.{script_of}
 use Rattle.gr_script.specs.Scripts.{heading_of}
+use Rattle.gr_script.proofs.HeadingBack.{text_back, each_kept}
 use Rattle.gr_script.proofs.PrintLemmas.{whole_printed}
 use Rattle.gr_script.proofs.print_script.print.Goals as goal
 
 pub returns : goal.returns
-returns c = record {
-  text = whole_printed (heading_of c.args.script.now) _ c.args.script.now.lines _ _ _ _ _ c.new-out.ensures.items c.as_slice.ensures c.as_slice-2.ensures
-    c.in_ok-put_stated.ensures c.in_ok-put_clients.ensures c.in_ok-put_lines.ensures.printed;
-}
+returns c =
+    let s = c.args.script.now in
+    let text = c.put_lines.new.out.items in
+    let whole : text ≡ script_text (heading_of s) s.lines =
+    whole_printed (heading_of s) _ s.lines _ _ _ _ _ c.new-out.ensures.items c.as_slice.ensures c.as_slice-2.ensures
+    c.in_ok-put_stated.ensures c.in_ok-put_clients.ensures c.in_ok-put_lines.ensures.printed in
+    let printed : All IsLineKept c.as_slice-2.result.now = c.in_ok-put_lines.ensures.kept in
+    let kept : All IsLineKept s.lines = subst (All IsLineKept) c.as_slice-2.ensures printed in
+    record {
+      text = whole;
+      read =
+          subst (λ (t : List ℕ). line_count t ≤ most_lines → script_of false t ≡ Ok (heading_of s, s.lines)) (sym whole)
+          (text_back (heading_of s) s.lines s.ruled (each_kept IsLineKept s.lines kept));
+    }

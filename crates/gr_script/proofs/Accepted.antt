@@ -1,0 +1,123 @@
+-- A line that is printed is read where it may stand.
+use Rattle.std.proofs.Common.{◌≡◌, ℕ, ◌+◌, ◌-◌, ◌<◌, ◌≤◌, ◌^◌, zero, suc, List, [], ◌∷◌, ◌++◌, length, Bool, true, false, cond, eqb, leb}
+use Rattle.std.proofs.Common.{ltb}
+use Rattle.std.proofs.Common.{not, ◌&&◌, ◌||◌, Option, Some, None, Result, Ok, Err, refl, sym, ap, ◌∙◌, subst, arith, bytes_eq}
+use Rattle.std.specs.List.{cons_option}
+use Rattle.std.specs.Option.{ok_or, is_some, option_map_or, unwrap_or}
+use Rattle.std.specs.Str.{is_utf8}
+use Rattle.std.proofs.lemmas.Bool.{or_from, le-ltb, lt-ltb, ne_eqb, not-false}
+use Rattle.std.proofs.lemmas.Slice.Eq.{bytes_eq-Decides}
+use Rattle.std.proofs.lemmas.Str.{is_utf8-from_IsUtf8}
+use Rattle.gr_history.specs.declared.ask.Ask.{Ask}
+use Rattle.gr_history.specs.declared.ask.Ask.TheVariants as ask
+use Rattle.gr_history.specs.declared.query_ask.QueryAsk.TheVariants as query
+use Rattle.gr_oql.specs.Question.{Question}
+use Rattle.gr_script.specs.declared.forms.LineKind.{LineKind}
+use Rattle.gr_script.specs.declared.forms.LineKind.TheVariants as kind
+use Rattle.gr_script.specs.declared.items.Item.{Item}
+use Rattle.gr_script.specs.declared.items.Item.TheVariants as item
+use Rattle.gr_script.specs.declared.line.Act.{Act}
+use Rattle.gr_script.specs.declared.line.Act.TheVariants.{Call, Query, Peek}
+use Rattle.gr_script.specs.declared.line.Line.{Line}
+use Rattle.gr_script.specs.declared.line.Line.TheVariants.{Step, Deliver, Report, Hear, Sweep, Join}
+use Rattle.gr_script.specs.declared.reason.Reason.{Reason}
+use Rattle.gr_script.specs.declared.reason.Reason.TheVariants as reason
+use Rattle.gr_script.specs.declared.saying.Saying.{Saying}
+use Rattle.gr_script.specs.Cuts.{text_said, is_skipped}
+use Rattle.gr_script.specs.Fields.{fits, form_of}
+use Rattle.gr_script.specs.Forms.{fields, rank}
+use Rattle.gr_script.specs.Halts.{◌>>=◌, unless}
+use Rattle.gr_script.specs.Items.{is_own, items_at}
+use Rattle.gr_script.specs.Past.{setting, region, members, founders, homes, home, steps, reports, joins, count_of, queries, stage}
+use Rattle.gr_script.specs.Printed.{saying_in, IsLineKept, IsActKept}
+use Rattle.gr_script.specs.Printing.{saying_text}
+use Rattle.gr_script.specs.Refusals.{lacks, is_replayed, is_missing, is_full, is_no_join, tests, refusal, unless_refused, form_at}
+use Rattle.gr_script.specs.Refusals.{saying_at, past_with}
+use Rattle.gr_script.specs.Rests.{IsRest}
+use Rattle.gr_script.specs.Rules.{IsHeading, IsWithin, StandsAfter}
+use Rattle.gr_script.specs.Said.{heading_said, lines_said}
+use Rattle.gr_script.specs.Steps as lines
+use Rattle.gr_script.specs.Suiting.{IsShort, IsClient, IsOwnQuery, AllSuit}
+use Rattle.gr_script.proofs.Follows.{AllFollow}
+use Rattle.gr_script.proofs.PrintedLines.{read_back}
+use Rattle.gr_script.proofs.Tallied.{tallied}
+
+pub record Accepts (past : List Saying) (saying : Saying) : Type 0 where
+  pub suit : AllSuit (setting past) (fields saying.kind) saying.items
+  pub due : lacks (stage past) (saying_text saying) ≡ false
+  pub order : ltb (rank saying.kind) (stage past) ≡ false
+  pub passes : refusal (tests past saying.kind saying.items) ≡ None
+
+-- ---- what is accepted is read
+
+form_read : (past : List Saying) (saying : Saying) → Accepts past saying → form_at false (stage past) (saying_text saying) ≡ Ok saying.kind
+form_read past saying is =
+    let text = saying_text saying in
+    let kind = saying.kind in
+    let back = read_back (setting past) saying is.suit in
+    let ordered : LineKind → Result LineKind Reason = λ form. unless (ltb (rank form) (stage past)) reason.Order form >>= λ form.
+    unless (not (fits (fields form) text)) reason.Fields form in
+    let named : List ℕ → Result LineKind Reason = λ t. ok_or (form_of t) reason.Word >>= λ form.
+    unless (false && is_replayed form) reason.NotInRun form >>= λ form. unless (ltb (rank form) (stage past)) reason.Order form >>= λ form.
+    unless (not (fits (fields form) t)) reason.Fields form in
+    ap (λ (test : Bool). unless test (reason.Header (stage past + 1)) text >>= named) is.due
+    ∙ ap (λ (form : Option LineKind). ok_or form reason.Word >>= λ form. unless
+    (false && is_replayed form) reason.NotInRun form >>= ordered)
+    back.form
+    ∙ ap (λ (test : Bool). unless test reason.Order kind >>= λ form. unless (not (fits (fields form) text)) reason.Fields form) is.order
+    ∙ ap (λ (test : Bool). unless (not test) reason.Fields kind) back.fit
+
+saying_read : (past : List Saying) (saying : Saying) → Accepts past saying → saying_at false past (saying_text saying) ≡ Ok saying
+saying_read past saying is =
+    let text = saying_text saying in
+    let back = read_back (setting past) saying is.suit in
+    let with_items : LineKind → Result (List Item) Reason → Result Saying Reason = λ form found. found >>= λ items.
+    unless_refused (refusal (tests past form items)) (record { kind = form; items = items }) in
+    ap (λ (form : Result LineKind Reason). form >>= λ form. with_items form (items_at (setting past) (fields form) text))
+    (form_read past saying is)
+    ∙ ap (with_items saying.kind) back.read
+    ∙ ap (λ (why : Option Reason). unless_refused why saying) is.passes
+
+pub past_read : (past : List Saying) (saying : Saying) → Accepts past saying
+    → past_with false past (saying_text saying) ≡ Ok (saying ∷ past)
+past_read past saying is =
+    let text = saying_text saying in
+    let back = read_back (setting past) saying is.suit in
+    let with : Bool → Result Saying Reason → Result (List Saying) Reason = λ skipped found. cond skipped (Ok past)
+    (found >>= λ said. Ok (said ∷ past)) in
+    let rest : List ℕ → Result (List Saying) Reason = λ line. with (is_skipped (text_said line)) (saying_at false past (text_said line)) in
+    ap (λ (test : Bool). unless (not test) reason.Utf8 text >>= rest) back.readable
+    ∙ ap (λ (t : List ℕ). with (is_skipped t) (saying_at false past t)) back.whole
+    ∙ ap (λ (test : Bool). with test (saying_at false past text)) back.said
+    ∙ ap (λ (found : Result Saying Reason). found >>= λ said. Ok (said ∷ past)) (saying_read past saying is)
+
+-- ---- tests that no line of a script meets
+
+pub one_test : (test : Bool) (why : Reason) → test ≡ false → refusal ((test, why) ∷ []) ≡ None
+one_test test why isnt = ap (λ (b : Bool). cond b (Some why) None) isnt
+
+pub two_tests : (one two : Bool) (why other : Reason) → one ≡ false → two ≡ false → refusal ((one, why) ∷ (two, other) ∷ []) ≡ None
+two_tests one two why other a b = ap (λ (t : Bool). cond t (Some why) (cond two (Some other) None)) a ∙ one_test two other b
+
+pub three_tests : (one two three : Bool) (why other last : Reason) → one ≡ false → two ≡ false → three ≡ false
+    → refusal ((one, why) ∷ (two, other) ∷ (three, last) ∷ []) ≡ None
+three_tests one two three why other last a b c =
+    ap (λ (t : Bool). cond t (Some why) (cond two (Some other) (cond three (Some last) None))) a ∙ two_tests two three other last b c
+
+pub room_left : (most count counted : ℕ) → counted ≡ count → counted < most → is_full most count ≡ false
+room_left most count counted same less = grind (arith, same, less)
+
+pub there_is : (number count counted : ℕ) → counted ≡ count → IsWithin 1 counted number → is_missing number count ≡ false
+there_is number count counted same within =
+    or_from _ _ (ne_eqb number 0 (λ e. omega (arith, e, within.0))) (le-ltb count number (omega (arith, same, within.1)))
+
+pub differing : (test : Bool) → not test ≡ true → test ≡ false
+differing true e = absurd cc
+differing false e = refl
+
+pub late : (now : ℕ) (text : List ℕ) → 4 ≤ now → lacks now text ≡ false
+late zero text le = absurd (omega (arith, le))
+late (suc zero) text le = absurd (omega (arith, le))
+late (suc (suc zero)) text le = absurd (omega (arith, le))
+late (suc (suc (suc zero))) text le = absurd (omega (arith, le))
+late (suc (suc (suc (suc now)))) text le = refl

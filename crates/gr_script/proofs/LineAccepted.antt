@@ -1,0 +1,151 @@
+-- A line of a script is accepted behind the lines that it stands behind.
+use Rattle.std.proofs.Common.{◌≡◌, ℕ, ◌+◌, ◌-◌, ◌<◌, ◌≤◌, ◌^◌, List, [], ◌∷◌, length, Bool, true, false, cond, eqb, leb, ltb, not, ◌||◌}
+use Rattle.std.proofs.Common.{Option, Some, None, refl, sym, ap, ◌∙◌, subst, arith, bytes_eq, inl, inr}
+use Rattle.std.specs.Option.{option_map_or}
+use Rattle.std.proofs.lemmas.Bool.{or_from, le-ltb, lt-leb, cases_lt}
+use Rattle.std.proofs.lemmas.Slice.Eq.{bytes_eq-Decides}
+use Rattle.std.proofs.lemmas.Str.{is_utf8-from_IsUtf8}
+use Rattle.gr_history.specs.declared.ask.Ask.{Ask}
+use Rattle.gr_history.specs.declared.ask.Ask.TheVariants as ask
+use Rattle.gr_history.specs.declared.query_ask.QueryAsk.{QueryAsk}
+use Rattle.gr_history.specs.declared.query_ask.QueryAsk.TheVariants as query
+use Rattle.gr_oql.specs.Question.{Question}
+use Rattle.gr_script.specs.declared.forms.LineKind.{LineKind}
+use Rattle.gr_script.specs.declared.forms.LineKind.TheVariants as kind
+use Rattle.gr_script.specs.declared.items.Item.{Item}
+use Rattle.gr_script.specs.declared.items.Item.TheVariants as item
+use Rattle.gr_script.specs.declared.line.Act.{Act}
+use Rattle.gr_script.specs.declared.line.Act.TheVariants.{Call, Query, Peek}
+use Rattle.gr_script.specs.declared.line.Line.{Line}
+use Rattle.gr_script.specs.declared.line.Line.TheVariants.{Step, Deliver, Report, Hear, Sweep, Join}
+use Rattle.gr_script.specs.declared.reason.Reason.TheVariants as reason
+use Rattle.gr_script.specs.declared.saying.Saying.{Saying}
+use Rattle.gr_script.specs.Forms.{fields, rank}
+use Rattle.gr_script.specs.Past.{setting, region, members, founders, homes, home, steps, reports, joins, count_of, queries, stage}
+use Rattle.gr_script.specs.Past.{next_rank}
+use Rattle.gr_script.specs.Printed.{saying_in, act_saying, ask_saying, query_saying, IsLineKept, IsActKept, IsAskKept, IsQueryKept}
+use Rattle.gr_script.specs.Printing.{saying_text}
+use Rattle.gr_script.specs.Refusals.{is_full, is_missing, is_no_join, tests, refusal}
+use Rattle.gr_script.specs.Rules.{IsHeading, IsWithin, IsStated, QuerySuits, ActSuits, StandsAfter}
+use Rattle.gr_script.specs.Said.{heading_said, lines_said}
+use Rattle.gr_script.specs.Steps as lines
+use Rattle.gr_script.specs.Suiting.{IsShort, IsClient, IsOwnQuery, AllSuit}
+use Rattle.gr_script.proofs.Accepted.{Accepts, late, one_test, two_tests, three_tests, room_left, there_is, differing}
+use Rattle.gr_script.proofs.Follows.{AllFollow}
+use Rattle.gr_script.proofs.Tallied.{tallied}
+
+last_rank : (form : LineKind) → rank form ≤ 8
+last_rank kind.Georep = omega arith
+last_rank _ = omega arith
+
+last_stage : (past : List Saying) → stage past ≤ 8
+last_stage [] = omega arith
+last_stage (saying ∷ past) =
+    let low = last_rank saying.kind in
+    elim (cases_lt (rank saying.kind) 7) [
+      | inl lt ↦ grind arith
+      | inr le ↦ grind arith
+    ]
+
+module _ (past : List Saying) (all : AllFollow past) (head : IsHeading (heading_said past))
+    (named : region past ≡ Some (heading_said past).region) (whole : 4 ≤ stage past) where
+  accept : (saying : Saying) → rank saying.kind ≡ 8 → AllSuit (setting past) (fields saying.kind) saying.items
+      → refusal (tests past saying.kind saying.items) ≡ None → Accepts past saying
+  accept saying is suit passes = record {
+    suit = suit;
+    due = late (stage past) (saying_text saying) whole;
+    order = le-ltb (rank saying.kind) (stage past) (omega (arith, is, last_stage past));
+    passes = passes;
+  }
+
+  client_suits : (client : ℕ) → IsStated client (heading_said past) → IsClient (setting past) client
+  client_suits client is = ((is.0, omega (arith, is.1, head.few_clients)), is.1)
+
+  member_suits : (member : ℕ) → IsWithin 1 (members past) member → IsWithin 1 (members past) member × IsShort member
+  member_suits member is = (is, omega (arith, is.1, head.members.1))
+
+  ask_accepts : (client : ℕ) (asked : Ask) → IsClient (setting past) client → IsAskKept asked → Accepts past (ask_saying client asked)
+  ask_accepts client (ask.Get key) c kept = accept (ask_saying client (ask.Get key)) refl (c, (tt, (kept, tt))) refl
+  ask_accepts client (ask.Put key value) c kept =
+      accept (ask_saying client (ask.Put key value)) refl (c, (tt, (kept.0, (kept.1, tt)))) refl
+  ask_accepts client (ask.PutIfAbsent key value) c kept =
+      accept (ask_saying client (ask.PutIfAbsent key value)) refl (c, (tt, (kept.0, (kept.1, tt)))) refl
+  ask_accepts client (ask.Replace key value) c kept =
+      accept (ask_saying client (ask.Replace key value)) refl (c, (tt, (kept.0, (kept.1, tt)))) refl
+  ask_accepts client (ask.ReplaceIf key old new) c kept =
+      accept (ask_saying client (ask.ReplaceIf key old new)) refl (c, (tt, (kept.0, (kept.1, (kept.2, tt))))) refl
+  ask_accepts client (ask.Destroy key) c kept = accept (ask_saying client (ask.Destroy key)) refl (c, (tt, (kept, tt))) refl
+  ask_accepts client (ask.Remove key value) c kept =
+      accept (ask_saying client (ask.Remove key value)) refl (c, (tt, (kept.0, (kept.1, tt)))) refl
+
+  few_queries : lines.queries (lines_said past) < 10000 → is_full 10000 (queries past) ≡ false
+  few_queries less = room_left 10000 (queries past) _ (tallied (λ m. m.query) 0 past refl all) less
+
+  own_query : (asked : Question) → asked.asked.region ≡ (heading_said past).region
+      → option_map_or (λ own. bytes_eq asked.asked.region own) (region past) false ≡ true
+  own_query asked same =
+      ap (λ r. option_map_or (λ own. bytes_eq asked.asked.region own) r false) named
+      ∙ (bytes_eq-Decides asked.asked.region (heading_said past).region).1 same
+
+  query_accepts : (client : ℕ) (asked : QueryAsk) → IsClient (setting past) client → QuerySuits (heading_said past) (lines_said past) asked
+      → IsQueryKept asked → Accepts past (query_saying client asked)
+  query_accepts client (query.Enrol name text) c suits kept =
+      let own : IsOwnQuery (setting past) text = record {
+        spelled = kept.1;
+        readable = is_utf8-from_IsUtf8 text.text kept.2;
+        own = own_query text suits.0;
+        rest = suits.3;
+      } in
+      let few_open = room_left 16 (count_of kind.Open past) _ (tallied (λ m. m.opened) 0 past refl all) suits.1 in
+      accept (query_saying client (query.Enrol name text)) refl (c, (tt, (kept.0, (own, tt))))
+      (one_test _ reason.Count (or_from _ _ few_open (few_queries suits.2)))
+  query_accepts client (query.Stop name) c suits kept =
+      accept (query_saying client (query.Stop name)) refl (c, (tt, (kept, tt))) (one_test _ reason.Count (few_queries suits))
+  query_accepts client (query.Close name) c suits kept =
+      accept (query_saying client (query.Close name)) refl (c, (tt, (kept, tt))) (one_test _ reason.Count (few_queries suits))
+  query_accepts client (query.Fetch name) c suits kept =
+      accept (query_saying client (query.Fetch name)) refl (c, (tt, (kept, tt))) (one_test _ reason.Count (few_queries suits))
+
+  act_accepts : (client : ℕ) (act : Act) → IsClient (setting past) client → ActSuits (heading_said past) (lines_said past) act
+      → IsActKept act
+      → Accepts past (act_saying client act)
+  act_accepts client (Call asked) c suits kept = ask_accepts client asked c kept
+  act_accepts client (Query asked) c suits kept = query_accepts client asked c suits kept
+  act_accepts client (Peek key) c suits kept = accept (act_saying client (Peek key)) refl (c, (tt, (kept, tt))) refl
+
+  pub line_accepts : (line : Line) → StandsAfter (heading_said past) (lines_said past) line → IsLineKept line
+      → Accepts past (saying_in line)
+  line_accepts (Step client seq act) stands kept = act_accepts client act (client_suits client stands.0) stands.2 kept
+  line_accepts (Deliver to client seq) stands kept =
+      accept (saying_in (Deliver to client seq)) refl
+      (tt, (member_suits to stands.0, ((client_suits client stands.1, kept), tt)))
+      (two_tests _ _ reason.Later reason.Itself
+      (there_is seq (steps client past) _ (tallied (λ m. m.step) client past refl all) stands.2)
+      (differing (eqb to (home client past)) stands.3))
+  line_accepts (Report member) stands kept =
+      accept (saying_in (Report member)) refl (tt, (member_suits member stands.0, tt))
+      (one_test _ reason.Count (room_left 200 (count_of kind.Report past) _ (tallied (λ m. m.report) 0 past refl all) stands.1))
+  line_accepts (Hear by of number) stands kept =
+      accept (saying_in (Hear by of number)) refl
+      (tt, (member_suits by stands.0, (member_suits of stands.1, (kept, tt))))
+      (three_tests _ _ _ reason.Later reason.Itself reason.Count
+      (there_is number (reports of past) _ (tallied (λ m. m.report_of) of past refl all) stands.2)
+      (differing (eqb by of) stands.3)
+      (room_left 1400 (count_of kind.Hear past) _ (tallied (λ m. m.hear) 0 past refl all) stands.4))
+  line_accepts (Sweep member moment) stands kept =
+      accept (saying_in (Sweep member moment)) refl
+      (tt, (member_suits member stands.0, (((omega arith, stands.1), omega (arith, stands.1)), tt)))
+      (one_test _ reason.Count (room_left 10000 (count_of kind.Sweep past) _ (tallied (λ m. m.sweep) 0 past refl all) stands.2))
+  line_accepts (Join member from) stands kept =
+      let founder = head.founders in
+      let none : joins member past ≡ 0 = sym (tallied (λ m. m.join_of) member past refl all) ∙ stands.3 in
+      let test : is_no_join member from past ≡ false = or_from _ _ (or_from _ _ (lt-leb member (founders past) stands.0)
+      (ap (λ n. not (eqb n 0)) none)) (le-ltb (founders past) from stands.2.1) in
+      accept (saying_in (Join member from)) refl (
+        tt,
+        (
+          member_suits member (omega (arith, stands.0), stands.1),
+          (member_suits from (stands.2.0, omega (arith, stands.2.1, founder.1)), tt),
+        ),
+      )
+      (one_test _ reason.Join test)
