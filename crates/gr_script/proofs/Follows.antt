@@ -27,9 +27,16 @@ use Rattle.gr_script.proofs.Contents.{Contents, items_of, items_held}
 use Rattle.gr_script.proofs.LineCounts.{lines_counted}
 use Rattle.gr_script.proofs.Passes.{done_is, bind_ok, unless_ok, some_ok}
 
+-- what the fields of a line of this form hold, behind earlier lines
+abbrev pub Held : List Saying → LineKind → Type 0
+Held past form = Contents (setting past) (fields form)
+
+abbrev pub held_items : (past : List Saying) (form : LineKind) → Held past form → List Item
+held_items past form c = items_of (setting past) (fields form) c
+
 pub record Follows (past : List Saying) (kind : LineKind) (items : List Item) : Type 0 where
-  pub held : Contents (setting past) (fields kind)
-  pub items_are : items_of (setting past) (fields kind) held ≡ items
+  pub held : Held past kind
+  pub items_are : held_items past kind held ≡ items
   pub order : stage past ≤ rank kind
   pub due : stage past < 4 → rank kind ≡ stage past
   pub passes : refusal (tests past kind items) ≡ None

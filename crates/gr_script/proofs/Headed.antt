@@ -8,13 +8,12 @@ use Rattle.gr_script.specs.declared.forms.LineKind.{LineKind}
 use Rattle.gr_script.specs.declared.forms.LineKind.TheVariants as kind
 use Rattle.gr_script.specs.declared.items.Item.{Item}
 use Rattle.gr_script.specs.declared.saying.Saying.{Saying}
-use Rattle.gr_script.specs.Forms.{fields, rank}
-use Rattle.gr_script.specs.Past.{setting, region, members, clients, homes, stage, number}
+use Rattle.gr_script.specs.Forms.{rank}
+use Rattle.gr_script.specs.Past.{region, members, clients, homes, stage, number}
 use Rattle.gr_script.specs.Refusals.{tests, refusal}
 use Rattle.gr_script.specs.Rules.{Heading, IsHeading, IsWithin, AreWithin, is_region}
 use Rattle.gr_script.specs.Said.{heading_said}
-use Rattle.gr_script.proofs.Contents.{Contents, items_of}
-use Rattle.gr_script.proofs.Follows.{AllFollow}
+use Rattle.gr_script.proofs.Follows.{Held, held_items, AllFollow}
 use Rattle.gr_script.proofs.Standing.{passed, rank_next}
 
 -- what holds of a heading once the lines of a stage are read
@@ -58,12 +57,6 @@ within_more : (most : ℕ) (numbers : List ℕ) (number : ℕ) → AreWithin 1 m
     → AreWithin 1 most (numbers ++ number ∷ [])
 within_more most [] number all one = (one, tt)
 within_more most (first ∷ numbers) number all one = (all.0, within_more most numbers number all.1 one)
-
-abbrev Held : List Saying → LineKind → Type 0
-Held past form = Contents (setting past) (fields form)
-
-abbrev held_items : (past : List Saying) (form : LineKind) → Held past form → List Item
-held_items past form c = items_of (setting past) (fields form) c
 
 -- which stage is due at a line
 abbrev Due : List Saying → LineKind → Type 0

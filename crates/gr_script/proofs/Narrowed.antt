@@ -5,22 +5,15 @@ use Rattle.gr_script.specs.declared.forms.LineKind.{LineKind}
 use Rattle.gr_script.specs.declared.forms.LineKind.TheVariants as kind
 use Rattle.gr_script.specs.declared.items.Item.{Item}
 use Rattle.gr_script.specs.declared.saying.Saying.{Saying}
-use Rattle.gr_script.specs.Forms.{fields, rank, is_step, is_kind}
+use Rattle.gr_script.specs.Forms.{rank, is_step, is_kind}
 use Rattle.gr_script.specs.Index.{most_lines}
 use Rattle.gr_script.specs.Narrow.{IsNarrowStep, IsNarrow, AreNarrow}
-use Rattle.gr_script.specs.Past.{number, setting, members, steps, reports}
+use Rattle.gr_script.specs.Past.{number, members, steps, reports}
 use Rattle.gr_script.specs.Refusals.{tests, refusal}
 use Rattle.gr_script.specs.Rules.{IsWithin}
-use Rattle.gr_script.proofs.Contents.{Contents, items_of}
-use Rattle.gr_script.proofs.Follows.{AllFollow}
+use Rattle.gr_script.proofs.Follows.{Held, held_items, AllFollow}
 use Rattle.gr_script.proofs.Headed.{headed, whole}
 use Rattle.gr_script.proofs.Standing.{passed, not_missing}
-
-abbrev Held : List Saying → LineKind → Type 0
-Held past form = Contents (setting past) (fields form)
-
-abbrev held_items : (past : List Saying) (form : LineKind) → Held past form → List Item
-held_items past form c = items_of (setting past) (fields form) c
 
 narrow_step : (past : List Saying) (form : LineKind) (c : Held past form) → is_step form ≡ true → IsNarrowStep (held_items past form c)
 narrow_step past kind.Get c is = let most = c.0.1.0.1 in omega (arith, most)

@@ -11,14 +11,14 @@ use Rattle.gr_script.specs.declared.items.Item.{Item}
 use Rattle.gr_script.specs.declared.line.Line.{Line}
 use Rattle.gr_script.specs.declared.reason.Reason.{Reason}
 use Rattle.gr_script.specs.declared.saying.Saying.{Saying}
-use Rattle.gr_script.specs.Forms.{fields, rank}
+use Rattle.gr_script.specs.Forms.{rank}
 use Rattle.gr_script.specs.Past.{setting, region, founders, home, steps, reports, joins, count_of, queries, stage, next_rank}
 use Rattle.gr_script.specs.Refusals.{tests, refusal, is_missing, is_full}
 use Rattle.gr_script.specs.Rules.{Heading, IsWithin, IsStated, StandsAfter, AllStand}
 use Rattle.gr_script.specs.Said.{heading_said, line_of, lines_said}
 use Rattle.gr_script.specs.Steps as lines
-use Rattle.gr_script.proofs.Contents.{Contents, items_of, IsClient}
-use Rattle.gr_script.proofs.Follows.{Follows, AllFollow}
+use Rattle.gr_script.proofs.Contents.{IsClient}
+use Rattle.gr_script.proofs.Follows.{Held, held_items, Follows, AllFollow}
 use Rattle.gr_script.proofs.Tallied.{line_by, tallied}
 
 -- ---- what no test refused
@@ -54,12 +54,6 @@ own_region (Some name) asked is = (bytes_eq-Decides asked name).0 is
 abbrev Stands : Heading → List Line → Option Line → Type 0
 Stands h past None = Unit {0}
 Stands h past (Some l) = StandsAfter h past l
-
-abbrev Held : List Saying → LineKind → Type 0
-Held past form = Contents (setting past) (fields form)
-
-abbrev held_items : (past : List Saying) (form : LineKind) → Held past form → List Item
-held_items past form c = items_of (setting past) (fields form) c
 
 stated : (past : List Saying) (client : ℕ) → IsClient (setting past) client → IsStated client (heading_said past)
 stated past client is = (is.0.0, is.1)
