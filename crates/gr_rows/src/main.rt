@@ -1,6 +1,6 @@
 //! Runs whole scripts through the program, over sources and sinks in memory, and says of each whether
-//! what comes out is what its row says. Then compares the lines of the causes, and the answers to
-//! queries with two tables.
+//! what comes out is what its row says. Then compares the lines of the causes, the answers to queries
+//! and the reading of scripts with tables.
 #![tactic(auto)]
 
 mod causes;
@@ -8,6 +8,7 @@ mod files;
 mod queries;
 mod row;
 mod running;
+mod scripts;
 
 use causes::are_causes_so;
 use files::row_names;
@@ -36,5 +37,6 @@ fn main(rt: HostRuntime) -> io::Result<()> {
     };
     println!(rt; "causes: {causes}")?;
     compare(&rt, Table::Queries)?;
-    compare(&rt, Table::Matches)
+    compare(&rt, Table::Matches)?;
+    compare(&rt, Table::Scripts)
 }

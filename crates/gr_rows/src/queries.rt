@@ -1,5 +1,6 @@
 use crate::files::lines_of;
 use crate::running::no_memory;
+use crate::scripts::script_answer;
 use gr_lex::LexFault;
 use gr_oql::{OqlFault, Part, Query, Truth};
 use gr_value::Value;
@@ -66,6 +67,7 @@ fn truth(alloc: Global, case: &str) -> io::Result<String> {
 pub enum Table {
     Queries,
     Matches,
+    Scripts,
 }
 
 impl Table {
@@ -73,6 +75,7 @@ impl Table {
         match self {
             Table::Queries => "queries",
             Table::Matches => "matches",
+            Table::Scripts => "scripts",
         }
     }
 
@@ -80,6 +83,7 @@ impl Table {
         match self {
             Table::Queries => reading(alloc, case),
             Table::Matches => truth(alloc, case),
+            Table::Scripts => script_answer(alloc, case),
         }
     }
 }
