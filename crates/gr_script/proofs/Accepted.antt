@@ -1,25 +1,11 @@
 -- A line that is printed is read where it may stand.
-use Rattle.std.proofs.Common.{◌≡◌, ℕ, ◌+◌, ◌-◌, ◌<◌, ◌≤◌, ◌^◌, zero, suc, List, [], ◌∷◌, ◌++◌, length, Bool, true, false, cond, eqb, leb}
+use Rattle.std.proofs.Common.{◌≡◌, ℕ, ◌+◌, ◌<◌, ◌≤◌, zero, suc, List, [], ◌∷◌, Bool, true, false, cond}
 use Rattle.std.proofs.Common.{ltb}
-use Rattle.std.proofs.Common.{not, ◌&&◌, ◌||◌, Option, Some, None, Result, Ok, Err, refl, sym, ap, ◌∙◌, subst, arith, bytes_eq}
-use Rattle.std.specs.List.{cons_option}
-use Rattle.std.specs.Option.{ok_or, is_some, option_map_or, unwrap_or}
-use Rattle.std.specs.Str.{is_utf8}
-use Rattle.std.proofs.lemmas.Bool.{or_from, le-ltb, lt-ltb, ne_eqb, not-false}
-use Rattle.std.proofs.lemmas.Slice.Eq.{bytes_eq-Decides}
-use Rattle.std.proofs.lemmas.Str.{is_utf8-from_IsUtf8}
-use Rattle.gr_history.specs.declared.ask.Ask.{Ask}
-use Rattle.gr_history.specs.declared.ask.Ask.TheVariants as ask
-use Rattle.gr_history.specs.declared.query_ask.QueryAsk.TheVariants as query
-use Rattle.gr_oql.specs.Question.{Question}
+use Rattle.std.proofs.Common.{not, ◌&&◌, Option, Some, None, Result, Ok, refl, ap, ◌∙◌, arith}
+use Rattle.std.specs.Option.{ok_or}
+use Rattle.std.proofs.lemmas.Bool.{or_from, le-ltb, ne_eqb}
 use Rattle.gr_script.specs.declared.forms.LineKind.{LineKind}
-use Rattle.gr_script.specs.declared.forms.LineKind.TheVariants as kind
 use Rattle.gr_script.specs.declared.items.Item.{Item}
-use Rattle.gr_script.specs.declared.items.Item.TheVariants as item
-use Rattle.gr_script.specs.declared.line.Act.{Act}
-use Rattle.gr_script.specs.declared.line.Act.TheVariants.{Call, Query, Peek}
-use Rattle.gr_script.specs.declared.line.Line.{Line}
-use Rattle.gr_script.specs.declared.line.Line.TheVariants.{Step, Deliver, Report, Hear, Sweep, Join}
 use Rattle.gr_script.specs.declared.reason.Reason.{Reason}
 use Rattle.gr_script.specs.declared.reason.Reason.TheVariants as reason
 use Rattle.gr_script.specs.declared.saying.Saying.{Saying}
@@ -27,20 +13,14 @@ use Rattle.gr_script.specs.Cuts.{text_said, is_skipped}
 use Rattle.gr_script.specs.Fields.{fits, form_of}
 use Rattle.gr_script.specs.Forms.{fields, rank}
 use Rattle.gr_script.specs.Halts.{◌>>=◌, unless}
-use Rattle.gr_script.specs.Items.{is_own, items_at}
-use Rattle.gr_script.specs.Past.{setting, region, members, founders, homes, home, steps, reports, joins, count_of, queries, stage}
-use Rattle.gr_script.specs.Printed.{saying_in, IsLineKept, IsActKept}
+use Rattle.gr_script.specs.Items.{items_at}
+use Rattle.gr_script.specs.Past.{setting, stage}
 use Rattle.gr_script.specs.Printing.{saying_text}
-use Rattle.gr_script.specs.Refusals.{lacks, is_replayed, is_missing, is_full, is_no_join, tests, refusal, unless_refused, form_at}
+use Rattle.gr_script.specs.Refusals.{lacks, is_replayed, is_missing, is_full, tests, refusal, unless_refused, form_at}
 use Rattle.gr_script.specs.Refusals.{saying_at, past_with}
-use Rattle.gr_script.specs.Rests.{IsRest}
-use Rattle.gr_script.specs.Rules.{IsHeading, IsWithin, StandsAfter}
-use Rattle.gr_script.specs.Said.{heading_said, lines_said}
-use Rattle.gr_script.specs.Steps as lines
-use Rattle.gr_script.specs.Suiting.{IsShort, IsClient, IsOwnQuery, AllSuit}
-use Rattle.gr_script.proofs.Follows.{AllFollow}
+use Rattle.gr_script.specs.Rules.{IsWithin}
+use Rattle.gr_script.specs.Suiting.{AllSuit}
 use Rattle.gr_script.proofs.PrintedLines.{read_back}
-use Rattle.gr_script.proofs.Tallied.{tallied}
 
 pub record Accepts (past : List Saying) (saying : Saying) : Type 0 where
   pub suit : AllSuit (setting past) (fields saying.kind) saying.items

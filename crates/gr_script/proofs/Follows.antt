@@ -1,6 +1,6 @@
 -- What every line that was read is behind the earlier ones.
 use Rattle.std.proofs.Common.{◌≡◌, ℕ, zero, suc, ◌+◌, ◌≤◌, ◌<◌, List, [], ◌∷◌, length, Bool, true, false, cond, ltb, not, ◌&&◌, Option}
-use Rattle.std.proofs.Common.{Some, None, Result, Ok, Err, refl, sym, ap, ◌∙◌, subst, arith, codes, bytes_eq}
+use Rattle.std.proofs.Common.{Some, None, Result, Ok, Err, refl, sym, ap, ◌∙◌, subst, arith, bytes_eq}
 use Rattle.std.specs.List.{list_all, AllByRecursion}
 use Rattle.std.specs.Str.{is_utf8}
 use Rattle.std.specs.Char.{is_ascii_digit}
@@ -22,7 +22,7 @@ use Rattle.gr_script.specs.Index.{most_lines}
 use Rattle.gr_script.specs.Items.{text_at, items_at}
 use Rattle.gr_script.specs.Past.{setting, stage}
 use Rattle.gr_script.specs.Refusals.{lacks, is_replayed, tests, refusal, unless_refused, form_at, saying_at, past_with}
-use Rattle.gr_script.specs.Sayings.{ended, go_on, sayings_from, end_of, sayings_of}
+use Rattle.gr_script.specs.Sayings.{go_on, sayings_from, end_of, sayings_of}
 use Rattle.gr_script.specs.Rests.{IsRest}
 use Rattle.gr_script.specs.Suiting.{AreRests}
 use Rattle.gr_script.specs.Texts.{lines_of, IsLine}
@@ -90,9 +90,10 @@ form_follows runs stage text form e =
     let o = bind_ok _ _ form r.2 in
     let ordered = unless_ok (ltb (rank r.0) stage) Order r.0 o.0 o.1 in
     let fitted = unless_ok (not (fits (fields o.0) t.0)) Fields o.0 form o.2 in
-    let same : r.0 ≡ form = ordered.1 ∙ fitted.1 in
-    (subst (λ (k : LineKind). stage ≤ rank k) same (ltb-false (rank r.0) stage ordered.0),
-    λ early. ap rank (sym (ran.1 ∙ same)) ∙ due_form stage t.0 f.0 (ap (lacks stage) (sym tested.1) ∙ tested.0) named early)
+    let same : r.0 ≡ form = ordered.1 ∙ fitted.1 in (
+      subst (λ (k : LineKind). stage ≤ rank k) same (ltb-false (rank r.0) stage ordered.0),
+      λ early. ap rank (sym (ran.1 ∙ same)) ∙ due_form stage t.0 f.0 (ap (lacks stage) (sym tested.1) ∙ tested.0) named early,
+    )
 
 -- ---- a line
 

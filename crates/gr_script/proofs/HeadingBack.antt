@@ -1,35 +1,30 @@
 -- The heading of a script is read as that heading, and its text as the script.
-use Rattle.std.proofs.Common.{◌≡◌, ℕ, ◌+◌, ◌<◌, ◌≤◌, ◌^◌, List, [], ◌∷◌, ◌++◌, length, reverse, map, Bool, true, false, cond, eqb, ltb}
+use Rattle.std.proofs.Common.{◌≡◌, ℕ, ◌+◌, ◌≤◌, List, [], ◌∷◌, ◌++◌, length, reverse, map, false, cond, eqb, ltb}
 use Rattle.std.proofs.Common.{not, All}
-use Rattle.std.proofs.Common.{Option, Some, None, Result, Ok, Err, refl, sym, ap, ◌∙◌, subst, arith, bytes_eq, append_assoc, length-append}
+use Rattle.std.proofs.Common.{Some, Ok, Err, refl, sym, ap, ◌∙◌, subst, arith, bytes_eq, append_assoc, length-append}
 use Rattle.std.proofs.Common.{decimal, suc}
 use Rattle.std.specs.List.{AllByRecursion}
 use Rattle.std.proofs.lemmas.Bool.{le-ltb, eq-eqb}
 use Rattle.std.proofs.lemmas.List.{reverse-reverse, append-nil}
 use Rattle.std.proofs.lemmas.Slice.Eq.{bytes_eq-Decides}
-use Rattle.gr_script.specs.declared.ending.ScriptEnd.{ScriptEnd}
 use Rattle.gr_script.specs.declared.ending.ScriptEnd.TheVariants as end
-use Rattle.gr_script.specs.declared.ending.ScriptFault.{ScriptFault}
 use Rattle.gr_script.specs.declared.forms.LineKind.{LineKind}
 use Rattle.gr_script.specs.declared.forms.LineKind.TheVariants as kind
-use Rattle.gr_script.specs.declared.items.Item.{Item}
 use Rattle.gr_script.specs.declared.items.Item.TheVariants as item
 use Rattle.gr_script.specs.declared.line.Line.{Line}
 use Rattle.gr_script.specs.declared.reason.Reason.TheVariants as reason
 use Rattle.gr_script.specs.declared.saying.Saying.{Saying}
 use Rattle.gr_script.specs.Cuts.{line_count}
 use Rattle.gr_script.specs.Fields.{first}
-use Rattle.gr_script.specs.Forms.{fields, word}
+use Rattle.gr_script.specs.Forms.{word}
 use Rattle.gr_script.specs.Index.{most_lines}
-use Rattle.gr_script.specs.Past.{setting, region, members, homes, stage}
-use Rattle.gr_script.specs.Printed.{other_saying, saying_in, client_sayings, stated_sayings, sayings_in, script_text, IsLineKept}
-use Rattle.gr_script.specs.Printing.{spaced, saying_text, text_of_sayings}
-use Rattle.gr_script.specs.Refusals.{tests, refusal}
-use Rattle.gr_script.specs.Rules.{Heading, heading, IsHeading, IsWithin, AreWithin, AllStand, IsScript}
-use Rattle.gr_script.specs.Said.{heading_said, lines_said, script_from, script_of, script_said}
+use Rattle.gr_script.specs.Past.{region, members, homes, stage}
+use Rattle.gr_script.specs.Printed.{other_saying, saying_in, client_sayings, sayings_in, script_text, IsLineKept}
+use Rattle.gr_script.specs.Printing.{spaced, saying_text}
+use Rattle.gr_script.specs.Rules.{Heading, IsHeading, IsWithin, AreWithin, AllStand, IsScript}
+use Rattle.gr_script.specs.Said.{heading_said, lines_said, script_from, script_of}
 use Rattle.gr_script.specs.Sayings.{sayings_from, sayings_of, end_of}
-use Rattle.gr_script.specs.Suiting.{AllSuit, IsShort}
-use Rattle.gr_script.specs.Texts.{lines_of, IsLine, text_of}
+use Rattle.gr_script.specs.Texts.{lines_of}
 use Rattle.gr_script.proofs.Accepted.{Accepts, one_test, late}
 use Rattle.gr_script.proofs.Follows.{AllFollow}
 use Rattle.gr_script.proofs.PrintedFields.{word_plain}

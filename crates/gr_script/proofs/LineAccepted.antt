@@ -1,6 +1,6 @@
 -- A line of a script is accepted behind the lines that it stands behind.
-use Rattle.std.proofs.Common.{◌≡◌, ℕ, ◌+◌, ◌-◌, ◌<◌, ◌≤◌, ◌^◌, List, [], ◌∷◌, length, Bool, true, false, cond, eqb, leb, ltb, not, ◌||◌}
-use Rattle.std.proofs.Common.{Option, Some, None, refl, sym, ap, ◌∙◌, subst, arith, bytes_eq, inl, inr}
+use Rattle.std.proofs.Common.{◌≡◌, ℕ, ◌<◌, ◌≤◌, List, [], ◌∷◌, true, false, eqb, not}
+use Rattle.std.proofs.Common.{Some, None, refl, sym, ap, ◌∙◌, arith, bytes_eq, inl, inr}
 use Rattle.std.specs.Option.{option_map_or}
 use Rattle.std.proofs.lemmas.Bool.{or_from, le-ltb, lt-leb, cases_lt}
 use Rattle.std.proofs.lemmas.Slice.Eq.{bytes_eq-Decides}
@@ -12,8 +12,6 @@ use Rattle.gr_history.specs.declared.query_ask.QueryAsk.TheVariants as query
 use Rattle.gr_oql.specs.Question.{Question}
 use Rattle.gr_script.specs.declared.forms.LineKind.{LineKind}
 use Rattle.gr_script.specs.declared.forms.LineKind.TheVariants as kind
-use Rattle.gr_script.specs.declared.items.Item.{Item}
-use Rattle.gr_script.specs.declared.items.Item.TheVariants as item
 use Rattle.gr_script.specs.declared.line.Act.{Act}
 use Rattle.gr_script.specs.declared.line.Act.TheVariants.{Call, Query, Peek}
 use Rattle.gr_script.specs.declared.line.Line.{Line}
@@ -21,11 +19,10 @@ use Rattle.gr_script.specs.declared.line.Line.TheVariants.{Step, Deliver, Report
 use Rattle.gr_script.specs.declared.reason.Reason.TheVariants as reason
 use Rattle.gr_script.specs.declared.saying.Saying.{Saying}
 use Rattle.gr_script.specs.Forms.{fields, rank}
-use Rattle.gr_script.specs.Past.{setting, region, members, founders, homes, home, steps, reports, joins, count_of, queries, stage}
-use Rattle.gr_script.specs.Past.{next_rank}
+use Rattle.gr_script.specs.Past.{setting, region, members, founders, home, steps, reports, joins, count_of, queries, stage}
 use Rattle.gr_script.specs.Printed.{saying_in, act_saying, ask_saying, query_saying, IsLineKept, IsActKept, IsAskKept, IsQueryKept}
 use Rattle.gr_script.specs.Printing.{saying_text}
-use Rattle.gr_script.specs.Refusals.{is_full, is_missing, is_no_join, tests, refusal}
+use Rattle.gr_script.specs.Refusals.{is_full, is_no_join, tests, refusal}
 use Rattle.gr_script.specs.Rules.{IsHeading, IsWithin, IsStated, QuerySuits, ActSuits, StandsAfter}
 use Rattle.gr_script.specs.Said.{heading_said, lines_said}
 use Rattle.gr_script.specs.Steps as lines

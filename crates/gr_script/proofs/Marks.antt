@@ -1,5 +1,5 @@
 -- Which bytes a key and a region haven't, and where a text is cut at one of them.
-use Rattle.std.proofs.Common.{◌≡◌, ℕ, List, [], ◌∷◌, ◌++◌, length, true, false, eqb, leb, ◌&&◌, Option, Some, option_map, refl, ap, ◌∙◌}
+use Rattle.std.proofs.Common.{◌≡◌, ℕ, List, [], ◌∷◌, ◌++◌, length, true, false, eqb, leb, ◌&&◌, Some, option_map, refl, ap, ◌∙◌}
 use Rattle.std.proofs.Common.{inl, inr, sym, Bool, arith}
 use Rattle.std.specs.List.{list_all, list_any}
 use Rattle.std.proofs.lemmas.Bool.{cases_Bool, both_ways, eqb-true, eq-eqb, or_from, or_parts, and_parts, and_from}

@@ -1,13 +1,12 @@
 -- A field of a line is read from what its item is spelled as.
-use Rattle.std.proofs.Common.{◌≡◌, ℕ, ◌+◌, ◌-◌, ◌<◌, ◌≤◌, ◌^◌, zero, suc, List, [], ◌∷◌, ◌++◌, length, take, drop, Bool, true, false, not}
+use Rattle.std.proofs.Common.{◌≡◌, ℕ, ◌+◌, ◌<◌, ◌≤◌, List, [], ◌∷◌, ◌++◌, length, true, false, not}
 use Rattle.std.proofs.Common.{cond}
-use Rattle.std.proofs.Common.{eqb, leb, ltb, ◌&&◌, ◌||◌, Option, Some, None, Result, Ok, Err, decimal, refl, sym, ap, ◌∙◌, subst, arith}
+use Rattle.std.proofs.Common.{eqb, ltb, Result, Ok, Err, decimal, refl, sym, ap, ◌∙◌, arith}
 use Rattle.std.proofs.Common.{length-append, get_or}
 use Rattle.std.specs.Prelude.{codes}
-use Rattle.std.specs.List.{list_all, list_any, prefix_len}
+use Rattle.std.specs.List.{list_all, list_any}
 use Rattle.std.specs.Option.{ok_or}
 use Rattle.std.specs.Char.{is_ascii_digit}
-use Rattle.std.specs.Str.{is_utf8}
 use Rattle.std.proofs.lemmas.Bool.{and_parts, and_from, or_from, le-ltb, ne_eqb}
 use Rattle.std.proofs.lemmas.List.Folds.{list_all-append}
 use Rattle.std.proofs.lemmas.List.{append-nil}
@@ -17,7 +16,6 @@ use Rattle.std.proofs.lemmas.Str.{IsUtf8-from_is_utf8}
 use Rattle.gr_value.specs.KeyBytes.{is_key_byte, IsKey}
 use Rattle.gr_value.specs.declared.value.Field.{Field}
 use Rattle.gr_value.specs.Values.{IsValue}
-use Rattle.gr_value.specs.ValueReading.{json_of, read_value, value_of}
 use Rattle.gr_value.specs.ValueText.{value_text}
 use Rattle.gr_value.proofs.Keys.{key_bytes}
 use Rattle.gr_value.proofs.OneLine.{text_visible}
@@ -38,7 +36,7 @@ use Rattle.gr_script.specs.Halts.{◌>>=◌, unless}
 use Rattle.gr_script.specs.Items.{number_at, within, number_in, stated_client, dotted_numbers, most_clients, item_at}
 use Rattle.gr_script.specs.Items.{key_from, value_from, question_of, query_from, own_query, query_at}
 use Rattle.gr_script.specs.Pieces.{piece_len}
-use Rattle.gr_script.specs.Printing.{item_text, field_text}
+use Rattle.gr_script.specs.Printing.{field_text}
 use Rattle.gr_script.specs.Rules.{IsWithin, is_region}
 use Rattle.gr_script.specs.Suiting.{IsShort, IsClient, IsOwnQuery, Suits}
 use Rattle.gr_script.specs.Rests.{begins_spaced}

@@ -1,10 +1,10 @@
 -- What a line is spelled as says what the line says.
-use Rattle.std.proofs.Common.{◌≡◌, ℕ, ◌+◌, ◌<◌, ◌≤◌, List, [], ◌∷◌, ◌++◌, length, take, drop, Bool, true, false, cond, eqb, ◌&&◌, Option}
+use Rattle.std.proofs.Common.{◌≡◌, ℕ, ◌+◌, ◌<◌, List, [], ◌∷◌, ◌++◌, length, take, drop, true, false, cond, Option}
 use Rattle.std.proofs.Common.{Some}
-use Rattle.std.proofs.Common.{None, Result, Ok, Err, decimal, refl, sym, ap, ◌∙◌, subst, arith, length-append}
+use Rattle.std.proofs.Common.{Result, Ok, decimal, refl, sym, ap, ◌∙◌, subst, arith}
 use Rattle.std.specs.Char.{is_ascii_digit}
 use Rattle.std.specs.List.{list_all, prefix_len}
-use Rattle.std.specs.Prelude.{flat_map, codes}
+use Rattle.std.specs.Prelude.{flat_map}
 use Rattle.std.proofs.Math.Seq.{take-length, drop-length, take-append_seam, drop-append_seam}
 use Rattle.std.proofs.lemmas.Bool.{and_from, and_parts}
 use Rattle.std.proofs.lemmas.List.{append-nil}
@@ -19,13 +19,13 @@ use Rattle.gr_script.specs.declared.items.Setting.{Setting}
 use Rattle.gr_script.specs.declared.reason.Reason.{Reason}
 use Rattle.gr_script.specs.declared.saying.Saying.{Saying}
 use Rattle.gr_script.specs.Cuts.{is_space, after_spaces, is_skipped}
-use Rattle.gr_script.specs.Fields.{len_of, piece, left, is_filled, fits, first, second, is_client, form_of}
+use Rattle.gr_script.specs.Fields.{len_of, piece, left, is_filled, fits, first, second, form_of}
 use Rattle.gr_script.specs.Forms.{word, fields, step_kinds, other_kinds, kind_of}
 use Rattle.gr_script.specs.Halts.{◌>>=◌}
 use Rattle.gr_script.specs.Items.{item_at, items_at}
 use Rattle.gr_script.specs.Printing.{field_text, field_texts, spaced, saying_text}
 use Rattle.gr_script.specs.ReadBack.{IsReadBack}
-use Rattle.gr_script.specs.Suiting.{Suits, AllSuit, IsClient}
+use Rattle.gr_script.specs.Suiting.{AllSuit}
 use Rattle.gr_script.specs.Rests.{begins_spaced}
 use Rattle.gr_script.proofs.PrintedFields.{GoesOn, IsBack, field_back, IsPlain, decimal_plain, word_plain, client_short}
 use Rattle.gr_script.proofs.PrintedFields.{field_before_space, field_alone}

@@ -1,15 +1,14 @@
 -- A number is read from its decimal digits.
-use Rattle.std.proofs.Common.{◌≡◌, ℕ, ◌+◌, ◌-◌, ◌*◌, ◌/◌, ◌%◌, ◌^◌, ◌<◌, ◌≤◌, List, [], ◌∷◌, ◌++◌, length, Bool, true, false, not, cond}
-use Rattle.std.proofs.Common.{eqb}
-use Rattle.std.proofs.Common.{leb, ◌&&◌, ◌||◌, Option, Some, None, get_or, decimal, refl, sym, ap, ◌∙◌, subst, arith, length-append}
-use Rattle.std.specs.List.{list_all, fold}
+use Rattle.std.proofs.Common.{◌≡◌, ℕ, ◌+◌, ◌-◌, ◌*◌, ◌/◌, ◌%◌, ◌^◌, ◌<◌, ◌≤◌, List, [], ◌∷◌, ◌++◌, length, true, cond}
+use Rattle.std.proofs.Common.{leb, Some, None, get_or, decimal, refl, ap, ◌∙◌, arith, length-append}
+use Rattle.std.specs.List.{list_all}
 use Rattle.std.specs.Char.{is_ascii_digit}
-use Rattle.std.proofs.lemmas.Bool.{and_parts, and_from, le-leb, ne_eqb}
+use Rattle.std.proofs.lemmas.Bool.{and_from, le-leb}
 use Rattle.std.proofs.lemmas.Fmt.{decimal_digit, decimal_by_steps_wide, length-decimal-le_wide}
 use Rattle.std.proofs.lemmas.List.Folds.{list_all-append}
 use Rattle.std.proofs.lemmas.List.Sums.{fold-append}
 use Rattle.std.proofs.Math.ListN.{get_or-append}
-use Rattle.gr_script.specs.Numerals.{begins_number, is_number, worth, number_of}
+use Rattle.gr_script.specs.Numerals.{begins_number, worth, number_of}
 
 pub record Spells (number : ℕ) (digits : List ℕ) : Type 0 where
   pub each : list_all is_ascii_digit digits ≡ true

@@ -1,11 +1,11 @@
 -- The piece of a line that a value is, is the whole text that the value prints.
-use Rattle.std.proofs.Common.{◌≡◌, ℕ, ◌+◌, ◌/◌, ◌%◌, ◌^◌, ◌<◌, ◌≤◌, arith, pos, negsuc, suc, List, [], ◌∷◌, ◌++◌, length, Bool, true}
+use Rattle.std.proofs.Common.{◌≡◌, ℕ, ◌+◌, ◌/◌, ◌%◌, ◌<◌, ◌≤◌, arith, pos, negsuc, suc, List, [], ◌∷◌, ◌++◌, length, Bool, true}
 use Rattle.std.proofs.Common.{false}
-use Rattle.std.proofs.Common.{cond, not, eqb, ◌&&◌, leb, ltb, nat_lt, Option, Some, None, decimal, refl, sym, ap, ◌∙◌, subst, append_assoc}
+use Rattle.std.proofs.Common.{cond, not, eqb, ltb, nat_lt, Some, None, decimal, refl, sym, ap, ◌∙◌, subst, append_assoc}
 use Rattle.std.proofs.Common.{length-append}
-use Rattle.std.proofs.lemmas.Bool.{and_parts, cases_eq, ne_eqb, eqb-false, lt-ltb, ltb-true, ltb-false}
+use Rattle.std.proofs.lemmas.Bool.{and_parts, ne_eqb, lt-ltb, ltb-true, ltb-false}
 use Rattle.std.specs.Char.{digit_char, is_ascii_digit}
-use Rattle.std.specs.List.{AllByRecursion, list_all, prefix_len, position}
+use Rattle.std.specs.List.{AllByRecursion, list_all, prefix_len}
 use Rattle.std.specs.Option.{option_map_or}
 use Rattle.std.specs.Prelude.{codes, flat_map}
 use Rattle.gr_value.specs.declared.scalar.Scalar.{Scalar}
@@ -17,7 +17,7 @@ use Rattle.gr_script.specs.declared.piece.Nesting.{Nesting}
 use Rattle.gr_script.specs.declared.piece.Place.{Place}
 use Rattle.gr_script.specs.declared.piece.Place.TheVariants.{Outside, Quoted, Escaped}
 use Rattle.gr_script.specs.Pieces.{nesting_of, behind, depths, closing, piece_len}
-use Rattle.gr_script.proofs.PrintedNumbers.{Spells, decimal_spells}
+use Rattle.gr_script.proofs.PrintedNumbers.{decimal_spells}
 
 -- From the one place the bytes lead to the other, and one brace is open all the way.
 abbrev Leads : Place → List ℕ → Place → Type 0

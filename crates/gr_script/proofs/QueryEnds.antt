@@ -1,19 +1,18 @@
 -- A query's text isn't empty, and doesn't end with a carriage return.
-use Rattle.std.proofs.Common.{◌≡◌, ℕ, ◌+◌, ◌-◌, ◌<◌, ◌≤◌, List, [], ◌∷◌, ◌++◌, length, take, drop, Bool, true, false, eqb, ◌&&◌, ◌||◌}
-use Rattle.std.proofs.Common.{Result, Ok, Err, refl, sym, ap, ◌∙◌, subst, arith, inl, inr}
+use Rattle.std.proofs.Common.{◌≡◌, ℕ, ◌-◌, ◌<◌, List, [], ◌∷◌, length, take, drop, true, false, ◌||◌}
+use Rattle.std.proofs.Common.{Ok, refl, sym, ap, ◌∙◌, subst, arith, inl, inr}
 use Rattle.std.specs.Char.{is_ascii_digit}
 use Rattle.std.specs.List.{list_all}
 use Rattle.std.proofs.lemmas.Bool.{and_parts, and_from, cases_lt}
 use Rattle.std.proofs.lemmas.List.{take_all, take-append-drop, length-drop}
 use Rattle.gr_lex.specs.Bytes.{is_blank, is_letter, is_word_byte, quote, spelling}
-use Rattle.gr_lex.specs.Layout.{is_word, doubled, IsOfKind, IsToken, AreBlanks, IsLaidOutTo, bytes_of}
+use Rattle.gr_lex.specs.Layout.{is_word, doubled, IsOfKind, IsLaidOutTo, bytes_of}
 use Rattle.gr_lex.specs.declared.token.Symbol.{Symbol}
 use Rattle.gr_lex.specs.declared.token.Symbol.TheVariants.{Star, LeftBracket, RightBracket, Comma, Dot, Equal, Angles, BangEqual, Less}
 use Rattle.gr_lex.specs.declared.token.Symbol.TheVariants.{LessEqual, Greater, GreaterEqual, Slash, Dollar, Minus}
 use Rattle.gr_lex.specs.declared.token.Token.{Token}
 use Rattle.gr_lex.specs.declared.token.TokenKind.{TokenKind}
 use Rattle.gr_lex.specs.declared.token.TokenKind.TheVariants as kind
-use Rattle.gr_oql.specs.declared.fault.OqlFault.{OqlFault}
 use Rattle.gr_oql.specs.Grammar.{Spells}
 use Rattle.gr_oql.specs.Question.{Question}
 use Rattle.gr_script.specs.Cuts.{ends_with}

@@ -1,9 +1,8 @@
 -- A query's text that is read from a line is the rest of that line.
-use Rattle.std.proofs.Common.{◌≡◌, ℕ, ◌+◌, ◌<◌, ◌≤◌, ◌-◌, suc, List, [], ◌∷◌, ◌++◌, length, take, drop, Bool, true, false, cond, eqb}
+use Rattle.std.proofs.Common.{◌≡◌, ℕ, ◌+◌, ◌<◌, ◌-◌, suc, List, [], ◌∷◌, ◌++◌, length, take, drop, Bool, true, false, cond, eqb}
 use Rattle.std.proofs.Common.{Result, Ok, Err}
 use Rattle.std.proofs.Common.{reverse, get_or, refl, sym, ap, ◌∙◌, subst, arith, inl, inr}
 use Rattle.std.specs.List.{prefix_len, suffix_len, list_any, onto_first, AllByRecursion}
-use Rattle.std.specs.Prelude.{⊤}
 use Rattle.std.proofs.lemmas.Bool.{cases_Bool, or_parts, or_from}
 use Rattle.std.proofs.Math.Seq.{take-length}
 use Rattle.std.proofs.lemmas.List.{take-append-drop, length-take-le, get_or-take, get_or-reverse, length-reverse}
@@ -27,7 +26,7 @@ use Rattle.gr_script.specs.declared.reason.Reason.TheVariants as reason
 use Rattle.gr_script.specs.Cuts.{is_space, ends_with, without_return, after_spaces, before_spaces, text_said}
 use Rattle.gr_script.specs.Fields.{len_of, piece, left}
 use Rattle.gr_script.specs.Halts.{◌>>=◌, unless}
-use Rattle.gr_script.specs.Items.{dotted_numbers, stated_client, item_at, items_at, question_of, query_from, own_query, query_at, text_at}
+use Rattle.gr_script.specs.Items.{dotted_numbers, stated_client, item_at, items_at, question_of, query_from, query_at, text_at}
 use Rattle.gr_script.specs.Rests.{begins_spaced, IsRest}
 use Rattle.gr_script.specs.Suiting.{IsRestItem, AreRests}
 use Rattle.gr_script.specs.Texts.{IsLine, cut, lines_of}

@@ -1,38 +1,25 @@
 -- The text of a script is read as that script.
-use Rattle.std.proofs.Common.{◌≡◌, ℕ, ◌+◌, ◌<◌, ◌≤◌, ◌^◌, List, [], ◌∷◌, ◌++◌, length, reverse, map, Bool, true, false, cond, eqb, ltb}
-use Rattle.std.proofs.Common.{not, All}
-use Rattle.std.proofs.Common.{Option, Some, None, Result, Ok, Err, refl, sym, ap, ◌∙◌, subst, arith, bytes_eq, append_assoc, length-append}
+use Rattle.std.proofs.Common.{◌≡◌, ℕ, ◌+◌, ◌≤◌, List, [], ◌∷◌, ◌++◌, reverse, map, Bool, false, cond, eqb}
+use Rattle.std.proofs.Common.{Option, Some, Ok, Err, refl, sym, ap, ◌∙◌, subst, arith, append_assoc}
 use Rattle.std.specs.List.{cons_option, onto_first, list_any, AllByRecursion}
-use Rattle.std.proofs.lemmas.Bool.{le-ltb, eq-eqb, or_parts}
-use Rattle.std.proofs.lemmas.List.{reverse-append, reverse-reverse, append-nil}
-use Rattle.std.proofs.lemmas.Slice.Eq.{bytes_eq-Decides}
+use Rattle.std.proofs.lemmas.Bool.{le-ltb, or_parts}
+use Rattle.std.proofs.lemmas.List.{reverse-append}
 use Rattle.gr_history.specs.declared.ask.Ask.TheVariants as ask
 use Rattle.gr_history.specs.declared.query_ask.QueryAsk.TheVariants as query
-use Rattle.gr_script.specs.declared.ending.ScriptEnd.{ScriptEnd}
-use Rattle.gr_script.specs.declared.ending.ScriptEnd.TheVariants as end
-use Rattle.gr_script.specs.declared.ending.ScriptFault.{ScriptFault}
-use Rattle.gr_script.specs.declared.forms.LineKind.{LineKind}
-use Rattle.gr_script.specs.declared.forms.LineKind.TheVariants as kind
-use Rattle.gr_script.specs.declared.items.Item.TheVariants as item
 use Rattle.gr_script.specs.declared.line.Act.{Act}
 use Rattle.gr_script.specs.declared.line.Act.TheVariants.{Call, Query, Peek}
 use Rattle.gr_script.specs.declared.line.Line.{Line}
-use Rattle.gr_script.specs.declared.line.Line.TheVariants.{Step, Deliver, Report, Hear, Sweep, Join}
-use Rattle.gr_script.specs.declared.reason.Reason.{Reason}
+use Rattle.gr_script.specs.declared.line.Line.TheVariants.{Step, Report}
 use Rattle.gr_script.specs.declared.reason.Reason.TheVariants as reason
 use Rattle.gr_script.specs.declared.saying.Saying.{Saying}
-use Rattle.gr_script.specs.Cuts.{line_count}
-use Rattle.gr_script.specs.Fields.{first}
-use Rattle.gr_script.specs.Forms.{fields, word}
-use Rattle.gr_script.specs.Index.{most_lines}
-use Rattle.gr_script.specs.Past.{setting, region, homes, stage, steps}
-use Rattle.gr_script.specs.Printed.{other_saying, saying_in, client_sayings, stated_sayings, sayings_in, script_text, IsLineKept}
-use Rattle.gr_script.specs.Printing.{saying_text, text_of_sayings}
-use Rattle.gr_script.specs.Rules.{Heading, heading, IsHeading, IsWithin, AreWithin, StandsAfter, AllStand, IsScript}
-use Rattle.gr_script.specs.Said.{heading_said, line_of, lines_said, script_from, script_of}
-use Rattle.gr_script.specs.Sayings.{fault, go_on, sayings_from, end_of}
+use Rattle.gr_script.specs.Past.{setting, region, stage, steps}
+use Rattle.gr_script.specs.Printed.{saying_in, IsLineKept}
+use Rattle.gr_script.specs.Printing.{saying_text}
+use Rattle.gr_script.specs.Rules.{Heading, IsHeading, StandsAfter, AllStand}
+use Rattle.gr_script.specs.Said.{heading_said, line_of, lines_said}
+use Rattle.gr_script.specs.Sayings.{fault, go_on, sayings_from}
 use Rattle.gr_script.specs.Texts.{lines_of, IsLine, text_of}
-use Rattle.gr_script.proofs.Accepted.{Accepts, past_read, one_test}
+use Rattle.gr_script.proofs.Accepted.{Accepts, past_read}
 use Rattle.gr_script.proofs.Follows.{AllFollow, past_follows}
 use Rattle.gr_script.proofs.LineAccepted.{line_accepts}
 use Rattle.gr_script.proofs.PrintedLines.{read_back}

@@ -1,7 +1,7 @@
 -- Each line that is said stands where it may.
-use Rattle.std.proofs.Common.{◌≡◌, ℕ, ◌+◌, ◌-◌, ◌≤◌, ◌<◌, List, [], ◌∷◌, length, get_or, Bool, true, false, cond, eqb, ltb, leb, not, ◌||◌}
-use Rattle.std.proofs.Common.{◌&&◌, Option, Some, None, refl, sym, ap, ◌∙◌, subst, arith, bytes_eq, inl, inr}
-use Rattle.std.specs.List.{cons_option, count_by}
+use Rattle.std.proofs.Common.{◌≡◌, ℕ, ◌+◌, ◌≤◌, ◌<◌, List, [], ◌∷◌, Bool, true, false, eqb, ltb, leb, not, ◌||◌}
+use Rattle.std.proofs.Common.{Option, Some, None, refl, sym, ap, ◌∙◌, subst, arith, bytes_eq, inl, inr}
+use Rattle.std.specs.List.{cons_option}
 use Rattle.std.specs.Option.{option_map_or, unwrap_or}
 use Rattle.std.proofs.lemmas.Bool.{cases_lt, or_parts, leb-false, ltb-false, eqb-false, not_from_false}
 use Rattle.std.proofs.lemmas.Slice.Eq.{bytes_eq-Decides}
@@ -11,17 +11,17 @@ use Rattle.gr_script.specs.declared.items.Item.{Item}
 use Rattle.gr_script.specs.declared.line.Line.{Line}
 use Rattle.gr_script.specs.declared.reason.Reason.{Reason}
 use Rattle.gr_script.specs.declared.saying.Saying.{Saying}
-use Rattle.gr_script.specs.Forms.{fields, rank}
-use Rattle.gr_script.specs.Past.{setting, region, members, founders, homes, home, steps, reports, joins, count_of, queries, stage}
+use Rattle.gr_script.specs.Forms.{rank}
+use Rattle.gr_script.specs.Past.{setting, region, founders, home, steps, reports, joins, count_of, queries, stage}
 use Rattle.gr_script.specs.Past.{next_rank}
 use Rattle.gr_script.specs.Refusals.{tests, refusal, is_missing, is_full}
 use Rattle.gr_script.specs.Rules.{Heading, IsWithin, IsStated, StandsAfter, AllStand}
 use Rattle.gr_script.specs.Said.{heading_said, line_of, lines_said}
 use Rattle.gr_script.specs.Steps as lines
 use Rattle.gr_script.specs.Suiting.{AreRests}
-use Rattle.gr_script.proofs.Contents.{Contents, items_of, IsClient}
+use Rattle.gr_script.proofs.Contents.{IsClient}
 use Rattle.gr_script.proofs.Follows.{Follows, AllFollow, Held, held_items}
-use Rattle.gr_script.proofs.Tallied.{Marks, line_by, tallied}
+use Rattle.gr_script.proofs.Tallied.{line_by, tallied}
 
 -- ---- what no test refused
 
@@ -130,9 +130,12 @@ line_stands past kind.Join c none rests all =
     let isnt = (passed (tests past kind.Join (held_items past kind.Join c)) none).0 in
     let p = or_parts (leb member (founders past) || not (eqb (joins member past) 0)) (ltb (founders past) provider) isnt in
     let q = or_parts (leb member (founders past)) (not (eqb (joins member past) 0)) p.0 in
-    let within = ltb-false (founders past) provider p.1 in
-    (leb-false member (founders past) q.0, c.1.0.1.1, (c.1.1.0.1.0, within),
-    tallied (λ m. m.join_of) member past refl all ∙ none_yet (joins member past) q.1)
+    let within = ltb-false (founders past) provider p.1 in (
+      leb-false member (founders past) q.0,
+      c.1.0.1.1,
+      (c.1.1.0.1.0, within),
+      tallied (λ m. m.join_of) member past refl all ∙ none_yet (joins member past) q.1,
+    )
   where
     none_yet : (count : ℕ) → not (eqb count 0) ≡ false → count ≡ 0
     none_yet count isnt = grind arith

@@ -1,5 +1,5 @@
 -- What is found at a key after a slot was set.
-use Rattle.std.proofs.Common.{◌≡◌, ◌∙◌, ap, sym, refl, ℕ, List, [], ◌∷◌, Bool, true, false, cond, if◌then◌else◌, Option, Some, None, bytes_eq}
+use Rattle.std.proofs.Common.{◌≡◌, ◌∙◌, ap, sym, refl, ℕ, List, [], ◌∷◌, Bool, true, false, if◌then◌else◌, Option, Some, None, bytes_eq}
 use Rattle.std.specs.declared.cmp.Ordering.{Ordering}
 use Rattle.std.specs.declared.cmp.Ordering.TheVariants.{Less, Equal, Greater}
 use Rattle.std.specs.Ordering.{nat_cmp, match_ordering, is_eq}
@@ -33,6 +33,7 @@ slot_at-with_slot q key slot (e ∷ es) =
   where
     test : List ℕ → Bool
     test k = is_eq (slice_cmp nat_cmp q k)
+
     at_order : (o : Ordering) → slice_cmp nat_cmp key e.0 ≡ o → (b : Bool) → bytes_eq key q ≡ b
         → slot_at q (with_slot key slot es) ≡ (if bytes_eq key q then Some slot else slot_at q es)
         → slot_at q (match_ordering o ((key, slot) ∷ e ∷ es) ((e.0, slot) ∷ es) (e ∷ with_slot key slot es))

@@ -1,7 +1,8 @@
 -- Entries in the order of their keys are known by what is found at each key.
-use Rattle.std.proofs.Common.{◌≡◌, ◌∙◌, ap, sym, subst, refl, List, [], ◌∷◌, Bool, true, false, cond, Option, Some, None, option_map, is_some, filter}
+use Rattle.std.proofs.Common.{◌≡◌, ◌∙◌, ap, sym, subst, refl, List, [], ◌∷◌, Bool, true, false, Option, Some, None, option_map, is_some}
+use Rattle.std.proofs.Common.{filter}
 use Rattle.std.specs.Cmp.{IsTotalOrder, eq_by_cmp_equiv}
-use Rattle.std.specs.List.{filter_map, list_any, AllByRecursion}
+use Rattle.std.specs.List.{filter_map, list_any}
 use Rattle.std.specs.List.Sorted.{IsStrictlySortedBy}
 use Rattle.std.proofs.lemmas.List.Kept.{IsStrictlySortedBy-filter}
 use Rattle.std.specs.Map.{lookup, keys_of}
@@ -9,9 +10,9 @@ use Rattle.std.specs.BTreeMap.{is_at}
 use Rattle.std.specs.Ordering.{ordering_reverse, is_eq}
 use Rattle.std.specs.declared.cmp.Ordering.{Ordering}
 use Rattle.std.specs.declared.cmp.Ordering.TheVariants.{Less, Equal, Greater}
-use Rattle.std.proofs.lemmas.Map.{NonePasses, lookup-none}
+use Rattle.std.proofs.lemmas.Map.{lookup-none}
 use Rattle.std.proofs.lemmas.Map.Entries.{lookup_head, lookup_tail, none_past_head, none_below_head}
-use Rattle.std.proofs.lemmas.Map.Keys.{sorted_head, sorted_tail, IsDistinct-from_sorted}
+use Rattle.std.proofs.lemmas.Map.Keys.{sorted_tail, IsDistinct-from_sorted}
 
 -- what is found at these keys, in their order
 abbrev pub found_at : {K X : Type 0} → (K → Option X) → List K → List (K × X)
@@ -27,7 +28,8 @@ refl_is total k = (eq_by_cmp_equiv total).refl k
 
 module _ {K X : Type 0} (R : K → K → Ordering) (total : IsTotalOrder R) (same : (x y : K) → R x y ≡ Equal → x ≡ y) where
   -- two lists that begin with one key
-  heads : (k : K) (x y : X) (es fs : List (K × X)) → IsStrictlySortedBy R (keys_of ((k, x) ∷ es)) → IsStrictlySortedBy R (keys_of ((k, y) ∷ fs))
+  heads : (k : K) (x y : X) (es fs : List (K × X)) → IsStrictlySortedBy R (keys_of ((k, x) ∷ es))
+      → IsStrictlySortedBy R (keys_of ((k, y) ∷ fs))
       → ((q : K) → lookup (is_at (R q)) ((k, x) ∷ es) ≡ lookup (is_at (R q)) ((k, y) ∷ fs))
       → (x ≡ y) × ((q : K) → lookup (is_at (R q)) es ≡ lookup (is_at (R q)) fs)
   heads k x y es fs s t all =
@@ -37,6 +39,7 @@ module _ {K X : Type 0} (R : K → K → Ordering) (total : IsTotalOrder R) (sam
     where
       some_is : Some x ≡ Some y → x ≡ y
       some_is e = cc
+
       at_key : (q : K) (b : Bool) → is_at (R q) k ≡ b → lookup (is_at (R q)) es ≡ lookup (is_at (R q)) fs
       at_key q true e =
           lookup-none (is_at (R q)) es (none_past_head (eq_by_cmp_equiv total) q (k, x) es (IsDistinct-from_sorted R _ s) e)
@@ -58,10 +61,12 @@ module _ {K X : Type 0} (R : K → K → Ordering) (total : IsTotalOrder R) (sam
       → ((q : K) → lookup (is_at (R q)) es ≡ lookup (is_at (R q)) fs) → es ≡ fs
   one_order [] [] s t all = refl
   one_order [] (f ∷ fs) s t all = absurd (let e : None ≡ Some f.1 = all f.0 ∙ lookup_head (is_at (R f.0)) f fs (refl_is total f.0) in cc)
-  one_order (e ∷ es) [] s t all = absurd (let f : Some e.1 ≡ None = sym (lookup_head (is_at (R e.0)) e es (refl_is total e.0)) ∙ all e.0 in cc)
+  one_order (e ∷ es) [] s t all =
+      absurd (let f : Some e.1 ≡ None = sym (lookup_head (is_at (R e.0)) e es (refl_is total e.0)) ∙ all e.0 in cc)
   one_order (e ∷ es) (f ∷ fs) s t all = at_order (R e.0 f.0) refl (one_order es fs (sorted_tail R _ _ s) (sorted_tail R _ _ t))
     where
-      at_order : (o : Ordering) → R e.0 f.0 ≡ o → (((q : K) → lookup (is_at (R q)) es ≡ lookup (is_at (R q)) fs) → es ≡ fs) → e ∷ es ≡ f ∷ fs
+      at_order : (o : Ordering) → R e.0 f.0 ≡ o → (((q : K) → lookup (is_at (R q)) es ≡ lookup (is_at (R q)) fs) → es ≡ fs)
+          → e ∷ es ≡ f ∷ fs
       at_order Less is rest = absurd (apart e es f fs t is (all e.0))
       at_order Greater is rest =
           let less : R f.0 e.0 ≡ Less = total.antisymm f.0 e.0 ∙ ap ordering_reverse is in
@@ -85,7 +90,8 @@ module _ {K X : Type 0} (R : K → K → Ordering) (total : IsTotalOrder R) (sam
   none_found find q [] e = refl
   none_found find q (k ∷ ks) e = at_key (find k) refl (none_found find q ks e)
     where
-      at_key : (o : Option X) → find k ≡ o → lookup (is_at (R q)) (found_at find ks) ≡ None → lookup (is_at (R q)) (found_at find (k ∷ ks)) ≡ None
+      at_key : (o : Option X) → find k ≡ o → lookup (is_at (R q)) (found_at find ks) ≡ None
+          → lookup (is_at (R q)) (found_at find (k ∷ ks)) ≡ None
       at_key None f rest = rw f rest
       at_key (Some x) f rest = rw f (at_test (is_at (R q) k) refl)
         where

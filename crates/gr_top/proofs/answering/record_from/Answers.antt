@@ -1,5 +1,3 @@
-use Rattle.std.proofs.Common.{refl}
-use Rattle.gr_top.specs.declared.words.Mode.TheVariants as mode
 use Rattle.gr_top.proofs.Endings.{within}
 use Rattle.gr_top.proofs.answering.record_from.Goals as goal
 

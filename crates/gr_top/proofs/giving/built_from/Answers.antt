@@ -1,4 +1,4 @@
-use Rattle.std.proofs.Common.{◌≡◌, ◌∙◌, ap, List, ℕ, length, refl, inr, arith, sym}
+use Rattle.std.proofs.Common.{◌∙◌, ap, List, ℕ, length, refl, inr, arith, sym}
 use Rattle.gr_script.specs.declared.reason.Reason.TheVariants.{NotBuilt}
 use Rattle.gr_script.specs.LineNumbers.{number_of_line}
 use Rattle.gr_top.specs.declared.words.Mode.TheVariants as mode

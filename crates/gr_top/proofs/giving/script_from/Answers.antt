@@ -1,4 +1,4 @@
-use Rattle.std.proofs.Common.{◌≡◌, ap, subst, List, ℕ, false, length, Ok, Err, refl, inr, arith}
+use Rattle.std.proofs.Common.{◌≡◌, subst, List, ℕ, false, Ok, Err, refl, inr, arith}
 use Rattle.gr_script.specs.declared.ending.ScriptEnd.TheVariants as end
 use Rattle.gr_script.specs.Scripts.{heading_of}
 use Rattle.gr_script.specs.Said.{script_of}
