@@ -74,7 +74,7 @@ narrowed (saying ∷ past) all le =
     let fewer : length past ≤ most_lines = omega (arith, le) in
     let held = headed past all.1 in
     let most = λ (late : 4 ≤ rank saying.kind).
-    (held.members (let at = whole past saying.kind late (f.order, f.due) in omega (arith, at))).1 in (
+    (held.0.members_are (let at = whole past saying.kind late (f.order, f.due) in omega (arith, at))).1 in (
       λ is. subst IsNarrowStep f.items_are (narrow_step past saying.kind f.held is),
       subst (IsNarrow saying.kind) f.items_are
           (narrow past saying.kind f.held

@@ -28,4 +28,4 @@ script_of-requires-clause-named c =
     let past = c.in_ok-past.past in
     let all = all_follow c.is_run.result c.args.bytes.now past c.in_ok-past.ensures in
     let late = all.1 in
-    ((headed past all.0).region (omega (arith, late))).1
+    ((headed past all.0).0.region (omega (arith, late))).1
