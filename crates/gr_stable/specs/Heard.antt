@@ -1,7 +1,6 @@
 -- Of each member the report that counts, and the rule of stability over these.
-use Rattle.std.specs.Prelude.{◌≡◌, ◌≤◌, ℕ, zero, suc, List, [], ◌∷◌, Bool, true, ◌&&◌, ◌||◌, ◌==◌, length, slice_index_or}
+use Rattle.std.specs.Prelude.{ℕ, zero, suc, List, [], ◌∷◌, Bool, true, ◌&&◌, ◌||◌, ◌==◌, slice_index_or}
 use Rattle.std.specs.Prelude.{Option, Some, None, if◌then◌else◌}
-use Rattle.gr_stamp.specs.declared.stamp.TheConstants.{LIMIT}
 use Rattle.gr_vector.specs.declared.report.Report.{Report}
 use Rattle.gr_vector.specs.Ids.{Id}
 use Rattle.gr_history.specs.declared.deed.Deed.{Deed}
@@ -49,8 +48,3 @@ abbrev pub is_stable_by : ℕ → ℕ → Id → Reports → List Id → Bool
 is_stable_by me zero tombstone reports ids = true
 is_stable_by me (suc n) tombstone reports ids =
     (suc n == me || is_covered (suc n) tombstone (slice_index_or reports n None) ids) && is_stable_by me n tombstone reports ids
-
--- eight reports, each with a number of its member's changes that is in range
-pub record AreKept (reports : Reports) : Type 0 where
-  pub eight : length reports ≡ 8
-  pub within : (place : ℕ) (report : Report) → slice_index_or reports place None ≡ Some report → report.own ≤ LIMIT

@@ -1,6 +1,4 @@
-ghost use Rattle.std.specs.Prelude.{◌≡◌, ◌≤◌, [], Some, IfOk, OnOk, OnErr, option_copied};
-ghost use Rattle.gr_stamp.specs.declared.stamp.TheConstants.{LIMIT};
-ghost use Rattle.gr_vector.specs.declared.report.Report.{Report as ReportOf};
+ghost use Rattle.std.specs.Prelude.{◌≡◌, ◌≤◌, [], IfOk, OnOk, OnErr, option_copied};
 ghost use Rattle.gr_history.specs.Stable.{is_covered, is_later};
 ghost use Rattle.gr_stable.specs.Heard.{heard, later_of, with_report, is_stable_by};
 
@@ -21,13 +19,14 @@ pub struct Heard {
 }
 
 impl Model for Heard {
-    ghost use Rattle.gr_stable.specs.Heard.{Reports, AreKept};
+    ghost use Rattle.std.specs.Prelude.{◌≡◌, length};
+    ghost use Rattle.gr_stable.specs.Heard.{Reports};
 
     ghost Value = { Reports };
 
     ghost view = { λ h. h.reports.items };
 
-    ghost invariant = { λ h. AreKept h.reports.items };
+    ghost invariant = { λ h. length h.reports.items ≡ 8 };
 }
 
 // Whether a report was made at a later place than the one that counted so far.
@@ -53,14 +52,16 @@ fn keep_later(kept: &mut Option<Report>, report: Report)
 fn is_covered(member: u8, tombstone: &Stamp, report: Option<&Report>, vector: &Vector) -> bool
     requires a_member { 1 ≤ member }
     requires of_eight { member ≤ 8 }
-    requires own { (told : ReportOf) → option_copied report ≡ Some told → told.own ≤ LIMIT }
     ensures { result ≡ is_covered member (record { member = tombstone.now.member; rv = tombstone.now.rv })
         (option_copied report.entry) vector.now.ids }
 {
     match report {
         None => false,
         Some(report) => {
-            report.vector.holds(tombstone.member(), tombstone.rv())
+            report
+                .vector
+                .vector()
+                .holds(tombstone.member(), tombstone.rv())
                 && vector.covers(member, report.own)
         }
     }
@@ -80,7 +81,6 @@ impl Heard {
 
     /// Hears a report that is moved in, which takes no memory. One of a member above 8 changes nothing.
     pub fn keep(&mut self, report: Report)
-        requires { report.own ≤ LIMIT }
         ensures { self.new ≡ with_report report self.old }
     {
         let member = usize::from(report.member);
@@ -92,7 +92,6 @@ impl Heard {
 
     /// Hears a report, of which it keeps a copy.
     pub fn hear(&mut self, alloc: Global, report: &Report) -> Result<(), Memory>
-        requires { report.now.own ≤ LIMIT }
         ensures ok { OnOk result (self.new ≡ with_report report.now self.old) }
         ensures err { OnErr result (self.new ≡ self.old) }
     {

@@ -2,5 +2,7 @@
 #![tactic(auto)]
 
 mod heard;
+#[cfg(test)]
+mod tests;
 
 pub use heard::Heard;

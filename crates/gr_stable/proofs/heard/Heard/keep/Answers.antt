@@ -1,6 +1,5 @@
-use Rattle.std.proofs.Common.{◌≤◌, ◌-◌, ◌∙◌, ap, sym, subst, set, length, arith}
-use Rattle.gr_stable.specs.Heard.{AreKept}
-use Rattle.gr_stable.proofs.Placing.{outside, placed_later, kept_with}
+use Rattle.std.proofs.Common.{◌≤◌, ◌-◌, ◌∙◌, ap, sym, set, length, arith}
+use Rattle.gr_stable.proofs.Placing.{outside, placed_later}
 use Rattle.gr_stable.proofs.heard.Heard.keep.Goals as goal
 
 pub returns-then-member-len : goal.returns-then-member-len
@@ -8,14 +7,6 @@ returns-then-member-len c =
     rw (← c.self.view_is)
     (sym (outside c.args.report c.self.inside.reports.items c.from-member.result c.len.result c.from-member.ensures
     (c.len.ensures ∙ c.self.inside.reports.ok.0) c.then-member-len.either))
-
-pub invariant_of-self : goal.invariant_of-self
-invariant_of-self c =
-    let all : c.from-member.result ≤ length c.self.inside.reports.items =
-    omega (arith, c.if-member-len.false, c.len.ensures, c.self.inside.reports.ok.0) in
-    subst (λ o. AreKept (set c.self.inside.reports.items (c.from-member.result - 1) o)) (sym c.keep_later.ensures)
-    (kept_with (c.from-member.result - 1) c.args.report c.index_mut.result.now _ c.self.inside.reports.items c.self.invariant
-    c.requires (omega (arith, all, c.if-member-eq0.false)) c.index_mut.ensures.value)
 
 pub returns : goal.returns
 returns c =
