@@ -3,6 +3,7 @@ use Rattle.std.proofs.Common.{◌≡◌, ℕ, zero, suc, List, [], ◌∷◌, �
 use Rattle.std.proofs.Common.{refl, sym, ap, subst}
 use Rattle.gr_value.specs.declared.scalar.Scalar.{Scalar}
 use Rattle.gr_lex.specs.declared.token.Symbol.TheVariants as symbols
+use Rattle.gr_oql.specs.declared.keyword.Keyword.{Keyword}
 use Rattle.gr_oql.specs.declared.keyword.Keyword.TheVariants as word
 use Rattle.gr_oql.specs.declared.condition.Relation.{Relation}
 use Rattle.gr_oql.specs.declared.condition.Relation.TheVariants as relation
@@ -218,21 +219,24 @@ module _ (opening : List Terminal → List Terminal) where
         (chosen (begins (is_keyword word.Like) ts) _ _ _ read)
     first_ahead (operand.Literal l) ts w left read = behind_ahead (operand.Literal l) ts w left read
 
+    -- a word and a field in brackets, which make a test
+    named_ahead : (k : Keyword) (make : List ℕ → Test) (ts : List Terminal) (w : Wrong) (left : List Terminal)
+        → ((f : List ℕ) (l : List Terminal) → (One (is_keyword k) then Bracketed (Field alias f)) l → IsTest alias (make f) l)
+        → begins (is_keyword k) ts ≡ true → read_as make (bracketed_at alias (rest ts)) ≡ Err (w, left)
+        → AheadOf opening (Something (IsTest alias)) ts w left
+    named_ahead k make ts w left spells is read =
+        goes_on opening (One (is_keyword k) then Something (λ f. Bracketed (Field alias f)))
+        (Something (IsTest alias)) ts w left (λ l s. (make s.4.0, spells s.4.0 l (s.0, s.1, s.2, s.3, s.4.1)))
+        (behind opening (One (is_keyword k)) _ ts (rest ts) w left (one_begins (is_keyword k) ts is)
+        (bracketed_ahead (rest ts) w left (not_made make (bracketed_at alias (rest ts)) (w, left) read)))
+
     test_ahead : Goes opening (IsTest alias) (test_at alias)
     test_ahead ts w left read =
         ⊎_elim
-        (λ h.
-        goes_on opening (One (is_keyword word.IsDefined) then Something (λ f. Bracketed (Field alias f)))
-        (Something (IsTest alias)) ts w left (λ l s. (tests.Defined s.4.0, (s.0, s.1, s.2, s.3, s.4.1)))
-        (behind opening (One (is_keyword word.IsDefined)) _ ts (rest ts) w left (one_begins (is_keyword word.IsDefined) ts h.0)
-        (bracketed_ahead (rest ts) w left (not_made tests.Defined (bracketed_at alias (rest ts)) (w, left) h.1))))
+        (λ h. named_ahead word.IsDefined tests.Defined ts w left (λ f l spelled. spelled) h.0 h.1)
         (λ r1.
         ⊎_elim
-        (λ h.
-        goes_on opening (One (is_keyword word.IsUndefined) then Something (λ f. Bracketed (Field alias f)))
-        (Something (IsTest alias)) ts w left (λ l s. (tests.Undefined s.4.0, (s.0, s.1, s.2, s.3, s.4.1)))
-        (behind opening (One (is_keyword word.IsUndefined)) _ ts (rest ts) w left (one_begins (is_keyword word.IsUndefined) ts h.0)
-        (bracketed_ahead (rest ts) w left (not_made tests.Undefined (bracketed_at alias (rest ts)) (w, left) h.1))))
+        (λ h. named_ahead word.IsUndefined tests.Undefined ts w left (λ f l spelled. spelled) h.0 h.1)
         (λ r2.
         ⊎_elim
         (λ h.

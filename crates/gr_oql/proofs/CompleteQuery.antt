@@ -4,6 +4,7 @@ use Rattle.std.proofs.Common.{sym, ap, ◌∙◌, subst, append-nil}
 use Rattle.std.proofs.lemmas.Bool.{le-leb}
 use Rattle.gr_value.specs.declared.scalar.Scalar.{Scalar}
 use Rattle.gr_value.specs.declared.scalar.Scalar.TheVariants as scalar
+use Rattle.gr_lex.specs.declared.token.Symbol.{Symbol}
 use Rattle.gr_lex.specs.declared.token.Symbol.TheVariants as symbols
 use Rattle.gr_oql.specs.declared.keyword.Keyword.TheVariants as word
 use Rattle.gr_oql.specs.declared.condition.Relation.{Relation}
@@ -14,7 +15,7 @@ use Rattle.gr_oql.specs.declared.condition.Test.{Test}
 use Rattle.gr_oql.specs.declared.condition.Test.TheVariants as tests
 use Rattle.gr_oql.specs.Tree.{Tree, any, all, test}
 use Rattle.gr_oql.specs.View.{in_order}
-use Rattle.gr_oql.specs.Terminals.{Terminal, begins, front, rest, is_symbol, is_keyword, as_name, as_number, as_quoted}
+use Rattle.gr_oql.specs.Terminals.{Terminal, begins, front, rest, symbol_eq, is_symbol, is_keyword, as_name, as_number, as_quoted}
 use Rattle.gr_oql.specs.Reader.Reading.{Reading, read_as, literal_at, relation_at, behind_operand, behind_first, bracketed_at, test_at}
 use Rattle.gr_oql.specs.Reader.Reading.{all_at, any_at, bracket_at, part_at, condition_at, star_at, region_at, alias_at, end_at}
 use Rattle.gr_oql.specs.Reader.Reading.{bare_end_at, where_at, source_at, query_within}
@@ -31,94 +32,57 @@ use Rattle.gr_oql.proofs.Complete.{row_complete}
 seen : (P Q : List Terminal → Type 0) (ts left : List Terminal) (f : Front P ts left) → Q f.spelled → Front Q ts left
 seen P Q ts left f holds = record { spelled = f.spelled; split = f.split; holds = holds }
 
-relation_complete : (ts : List Terminal) (r : Relation) (left : List Terminal) → Front (IsRelation r) ts left
-    → (relation_at ts ≡ Ok (r, left)) × (begins (is_keyword word.In) ts ≡ false) × (begins (is_keyword word.Like) ts ≡ false)
-relation_complete ts relation.Equal left f =
-    let h = first_of (is_symbol symbols.Equal) ts left f in (
-      rw (h.2, h.1) refl,
-      rw h.2 (symbol_no_keyword symbols.Equal word.In h.0 h.1),
-      rw h.2 (symbol_no_keyword symbols.Equal word.Like h.0 h.1),
-    )
-relation_complete ts relation.Different left f = ⊎_elim angles bang f.holds
-  where
-    angles : One (is_symbol symbols.Angles) f.spelled → (relation_at ts ≡ Ok (relation.Different, left))
-        × (begins (is_keyword word.In) ts ≡ false) × (begins (is_keyword word.Like) ts ≡ false)
-    angles is =
-        let h = first_of (is_symbol symbols.Angles) ts left
-        (seen (IsRelation relation.Different) (One (is_symbol symbols.Angles)) ts left f is) in (
-          rw (h.2, symbol_other symbols.Angles symbols.Equal h.0 refl h.1, h.1) refl,
-          rw h.2 (symbol_no_keyword symbols.Angles word.In h.0 h.1),
-          rw h.2 (symbol_no_keyword symbols.Angles word.Like h.0 h.1),
-        )
+-- what is read where a relation stands
+abbrev ReadsRelation : List Terminal → Relation → List Terminal → Type 0
+ReadsRelation ts r left = (relation_at ts ≡ Ok (r, left))
+    × (begins (is_keyword word.In) ts ≡ false) × (begins (is_keyword word.Like) ts ≡ false)
 
-    bang : One (is_symbol symbols.BangEqual) f.spelled → (relation_at ts ≡ Ok (relation.Different, left))
-        × (begins (is_keyword word.In) ts ≡ false) × (begins (is_keyword word.Like) ts ≡ false)
-    bang is =
-        let h = first_of (is_symbol symbols.BangEqual) ts left
-        (seen (IsRelation relation.Different) (One (is_symbol symbols.BangEqual)) ts left f is) in (
-          rw (
-            h.2,
-            symbol_other symbols.BangEqual symbols.Equal h.0 refl h.1,
-            symbol_other symbols.BangEqual symbols.Angles h.0 refl h.1,
-            h.1,
-          ) refl,
-          rw h.2 (symbol_no_keyword symbols.BangEqual word.In h.0 h.1),
-          rw h.2 (symbol_no_keyword symbols.BangEqual word.Like h.0 h.1),
-        )
-relation_complete ts relation.Less left f =
-    let h = first_of (is_symbol symbols.Less) ts left f in (
-      rw (
-        h.2,
-        symbol_other symbols.Less symbols.Equal h.0 refl h.1,
-        symbol_other symbols.Less symbols.Angles h.0 refl h.1,
-        symbol_other symbols.Less symbols.BangEqual h.0 refl h.1,
-        h.1,
-      ) refl,
-      rw h.2 (symbol_no_keyword symbols.Less word.In h.0 h.1),
-      rw h.2 (symbol_no_keyword symbols.Less word.Like h.0 h.1),
+-- A symbol is read as a relation where no symbol before it is in the way.
+reads_relation : (s : Symbol) (r : Relation) (ts left : List Terminal) → Front (One (is_symbol s)) ts left
+    → ((t : Terminal) → is_symbol s t ≡ true → ((other : Symbol) → symbol_eq s other ≡ false → is_symbol other t ≡ false)
+    → relation_at (t ∷ left) ≡ Ok (r, left))
+    → ReadsRelation ts r left
+reads_relation s r ts left f reads =
+    let h = first_of (is_symbol s) ts left f in (
+      rw h.2 (reads h.0 h.1 (λ other differ. symbol_other s other h.0 differ h.1)),
+      rw h.2 (symbol_no_keyword s word.In h.0 h.1),
+      rw h.2 (symbol_no_keyword s word.Like h.0 h.1),
     )
-relation_complete ts relation.LessOrEqual left f =
-    let h = first_of (is_symbol symbols.LessEqual) ts left f in (
-      rw (
-        h.2,
-        symbol_other symbols.LessEqual symbols.Equal h.0 refl h.1,
-        symbol_other symbols.LessEqual symbols.Angles h.0 refl h.1,
-        symbol_other symbols.LessEqual symbols.BangEqual h.0 refl h.1,
-        symbol_other symbols.LessEqual symbols.Less h.0 refl h.1,
-        h.1,
-      ) refl,
-      rw h.2 (symbol_no_keyword symbols.LessEqual word.In h.0 h.1),
-      rw h.2 (symbol_no_keyword symbols.LessEqual word.Like h.0 h.1),
-    )
-relation_complete ts relation.Greater left f =
-    let h = first_of (is_symbol symbols.Greater) ts left f in (
-      rw (
-        h.2,
-        symbol_other symbols.Greater symbols.Equal h.0 refl h.1,
-        symbol_other symbols.Greater symbols.Angles h.0 refl h.1,
-        symbol_other symbols.Greater symbols.BangEqual h.0 refl h.1,
-        symbol_other symbols.Greater symbols.Less h.0 refl h.1,
-        symbol_other symbols.Greater symbols.LessEqual h.0 refl h.1,
-        h.1,
-      ) refl,
-      rw h.2 (symbol_no_keyword symbols.Greater word.In h.0 h.1),
-      rw h.2 (symbol_no_keyword symbols.Greater word.Like h.0 h.1),
-    )
-relation_complete ts relation.GreaterOrEqual left f =
-    let h = first_of (is_symbol symbols.GreaterEqual) ts left f in (
-      rw (
-        h.2,
-        symbol_other symbols.GreaterEqual symbols.Equal h.0 refl h.1,
-        symbol_other symbols.GreaterEqual symbols.Angles h.0 refl h.1,
-        symbol_other symbols.GreaterEqual symbols.BangEqual h.0 refl h.1,
-        symbol_other symbols.GreaterEqual symbols.Less h.0 refl h.1,
-        symbol_other symbols.GreaterEqual symbols.LessEqual h.0 refl h.1,
-        symbol_other symbols.GreaterEqual symbols.Greater h.0 refl h.1,
-        h.1,
-      ) refl,
-      rw h.2 (symbol_no_keyword symbols.GreaterEqual word.In h.0 h.1),
-      rw h.2 (symbol_no_keyword symbols.GreaterEqual word.Like h.0 h.1),
-    )
+
+relation_complete : (ts : List Terminal) (r : Relation) (left : List Terminal) → Front (IsRelation r) ts left → ReadsRelation ts r left
+relation_complete ts relation.Equal left f = reads_relation symbols.Equal relation.Equal ts left f (λ t is no. rw is refl)
+relation_complete ts relation.Different left f =
+    ⊎_elim
+    (λ angles. reads_relation symbols.Angles relation.Different ts left
+    (seen (IsRelation relation.Different) (One (is_symbol symbols.Angles)) ts left f angles)
+    (λ t is no. rw (no symbols.Equal refl, is) refl))
+    (λ bang. reads_relation symbols.BangEqual relation.Different ts left
+    (seen (IsRelation relation.Different) (One (is_symbol symbols.BangEqual)) ts left f bang)
+    (λ t is no. rw (no symbols.Equal refl, no symbols.Angles refl, is) refl))
+    f.holds
+relation_complete ts relation.Less left f = reads_relation symbols.Less relation.Less ts left f
+    (λ t is no. rw (no symbols.Equal refl, no symbols.Angles refl, no symbols.BangEqual refl, is) refl)
+relation_complete ts relation.LessOrEqual left f = reads_relation symbols.LessEqual relation.LessOrEqual ts left f
+    (λ t is no. rw (no symbols.Equal refl, no symbols.Angles refl, no symbols.BangEqual refl, no symbols.Less refl, is) refl)
+relation_complete ts relation.Greater left f = reads_relation symbols.Greater relation.Greater ts left f
+    (λ t is no. rw (
+      no symbols.Equal refl,
+      no symbols.Angles refl,
+      no symbols.BangEqual refl,
+      no symbols.Less refl,
+      no symbols.LessEqual refl,
+      is,
+    ) refl)
+relation_complete ts relation.GreaterOrEqual left f = reads_relation symbols.GreaterEqual relation.GreaterOrEqual ts left f
+    (λ t is no. rw (
+      no symbols.Equal refl,
+      no symbols.Angles refl,
+      no symbols.BangEqual refl,
+      no symbols.Less refl,
+      no symbols.LessEqual refl,
+      no symbols.Greater refl,
+      is,
+    ) refl)
 
 -- Nothing but an operand, a test or a condition of another sort begins with these.
 pub record Plain (ts : List Terminal) : Type 0 where

@@ -1,6 +1,6 @@
 -- What is read is spelled so.
 use Rattle.std.proofs.Common.{◌≡◌, ℕ, zero, suc, pos, neg_ℤ, List, [], ◌∷◌, ◌++◌, length, Ok, Option, Some, None, Bool, true, false, leb}
-use Rattle.std.proofs.Common.{ltb, inl, inr, ⊎_elim, refl, sym, ap, ◌∙◌, subst, append_assoc, append-nil}
+use Rattle.std.proofs.Common.{if◌then◌else◌, ltb, inl, inr, ⊎_elim, refl, sym, ap, ◌∙◌, subst, append_assoc, append-nil}
 use Rattle.std.proofs.lemmas.Bool.{leb-true, ltb-true}
 use Rattle.gr_value.specs.declared.scalar.Scalar.{Scalar}
 use Rattle.gr_value.specs.declared.scalar.Scalar.TheVariants as scalar
@@ -12,7 +12,19 @@ use Rattle.gr_oql.specs.declared.keyword.Keyword.TheVariants as word
 use Rattle.gr_oql.specs.declared.condition.Operand.{Operand}
 use Rattle.gr_oql.specs.declared.condition.Operand.TheVariants as operand
 use Rattle.gr_oql.specs.Terminals.{Terminal, begins, front, rest, is_symbol, is_keyword, as_name, as_word, as_number, as_quoted}
-use Rattle.gr_oql.specs.Reader.Reading.{Reading, symbol_at, keyword_at, word_by, name_at, field_of_name, field_by, field_at, negative_by}
+use Rattle.gr_oql.specs.declared.halt.Wrong.TheVariants.{Expected}
+use Rattle.gr_oql.specs.Reader.Reading.{
+  Reading,
+  stop,
+  symbol_at,
+  keyword_at,
+  word_by,
+  name_at,
+  field_of_name,
+  field_by,
+  field_at,
+  negative_by,
+}
 use Rattle.gr_oql.specs.Reader.Reading.{negative_at, plain_by, literal_at, operand_by, operand_at, more_at, separated_at}
 use Rattle.gr_oql.specs.Grammar.{One, Is, ◌then◌, Row, Field, Literal, IsOperand, is_alias}
 use Rattle.gr_oql.proofs.Readings.{chosen, bound, made_of, value_is, left_is}
@@ -49,19 +61,20 @@ pub one_has : {A : Type 0} (part : Terminal → Option A) (x : A) (ts : List Ter
 one_has part x [] is = absurd (cc)
 one_has part x (t ∷ ts) is = record { spelled = t ∷ []; split = refl; holds = (t, is, refl) }
 
-pub symbol_sound : (s : Symbol) → Sound (λ _. One (is_symbol s)) (symbol_at s)
-symbol_sound s ts x left read =
+-- one terminal that is due
+due_sound : (passes : Terminal → Bool)
+    → Sound (λ (x : Unit {0}). One passes) (λ ts. if begins passes ts then Ok (tt, rest ts) else stop Expected ts)
+due_sound passes ts x left read =
     ⊎_elim
-    (λ h. subst (Front (One (is_symbol s)) ts) (left_is h.1) (one_begins (is_symbol s) ts h.0))
+    (λ h. subst (Front (One passes) ts) (left_is h.1) (one_begins passes ts h.0))
     (λ h. absurd (cc h.1))
-    (chosen (begins (is_symbol s) ts) _ _ _ read)
+    (chosen (begins passes ts) _ _ _ read)
+
+pub symbol_sound : (s : Symbol) → Sound (λ _. One (is_symbol s)) (symbol_at s)
+symbol_sound s = due_sound (is_symbol s)
 
 pub keyword_sound : (k : Keyword) → Sound (λ _. One (is_keyword k)) (keyword_at k)
-keyword_sound k ts x left read =
-    ⊎_elim
-    (λ h. subst (Front (One (is_keyword k)) ts) (left_is h.1) (one_begins (is_keyword k) ts h.0))
-    (λ h. absurd (cc h.1))
-    (chosen (begins (is_keyword k) ts) _ _ _ read)
+keyword_sound k = due_sound (is_keyword k)
 
 word_sound : (part : Terminal → Option (List ℕ)) (ts : List Terminal) (o : Option (List ℕ)) (w : List ℕ) (left : List Terminal)
     → o ≡ front part ts → word_by o ts ≡ Ok (w, left) → Front (Is part w) ts left

@@ -3,6 +3,7 @@ use Rattle.std.proofs.Common.{◌≡◌, ℕ, zero, suc, List, [], ◌∷◌, �
 use Rattle.std.proofs.Common.{⊎_elim, refl, sym, ap, ◌∙◌, subst, append-nil}
 use Rattle.std.proofs.lemmas.Bool.{leb-true}
 use Rattle.gr_lex.specs.declared.token.Symbol.TheVariants as symbols
+use Rattle.gr_oql.specs.declared.keyword.Keyword.{Keyword}
 use Rattle.gr_oql.specs.declared.keyword.Keyword.TheVariants as word
 use Rattle.gr_oql.specs.declared.condition.Relation.TheVariants as relation
 use Rattle.gr_oql.specs.declared.condition.Operand.{Operand}
@@ -119,21 +120,23 @@ module _ (alias : Option (List ℕ)) where
       (chosen (begins (is_keyword word.Like) ts) _ _ _ read)
   first_sound (operand.Literal l) start ts left x found read = behind_sound (operand.Literal l) start ts left x found read
 
+  -- a word and a field in brackets, which make a test
+  named_sound : (k : Keyword) (make : List ℕ → Test) (ts : List Terminal) (x : Test) (left : List Terminal)
+      → ((f : List ℕ) → Front (One (is_keyword k) then Bracketed (Field alias f)) ts left → Front (IsTest alias (make f)) ts left)
+      → begins (is_keyword k) ts ≡ true → read_as make (bracketed_at alias (rest ts)) ≡ Ok (x, left) → Front (IsTest alias x) ts left
+  named_sound k make ts x left spells is read =
+      let m = made_of make (bracketed_at alias (rest ts)) x left read in
+      subst (λ (y : Test). Front (IsTest alias y) ts left) m.2
+      (spells m.0 (joined (One (is_keyword k)) (Bracketed (Field alias m.0)) ts (rest ts) left (one_begins (is_keyword k) ts is)
+      (bracketed_sound (rest ts) m.0 left m.1)))
+
   pub test_sound : Sound (IsTest alias) (test_at alias)
   test_sound ts x left read =
       ⊎_elim
-      (λ h.
-      let m = made_of tests.Defined (bracketed_at alias (rest ts)) x left h.1 in
-      subst (λ (y : Test). Front (IsTest alias y) ts left) m.2
-      (joined (One (is_keyword word.IsDefined)) (Bracketed (Field alias m.0)) ts (rest ts) left
-      (one_begins (is_keyword word.IsDefined) ts h.0) (bracketed_sound (rest ts) m.0 left m.1)))
+      (λ h. named_sound word.IsDefined tests.Defined ts x left (λ f found. found) h.0 h.1)
       (λ r1.
       ⊎_elim
-      (λ h.
-      let m = made_of tests.Undefined (bracketed_at alias (rest ts)) x left h.1 in
-      subst (λ (y : Test). Front (IsTest alias y) ts left) m.2
-      (joined (One (is_keyword word.IsUndefined)) (Bracketed (Field alias m.0)) ts (rest ts) left
-      (one_begins (is_keyword word.IsUndefined) ts h.0) (bracketed_sound (rest ts) m.0 left m.1)))
+      (λ h. named_sound word.IsUndefined tests.Undefined ts x left (λ f found. found) h.0 h.1)
       (λ r2.
       let o = bound (operand_at alias ts) _ x left r2.1 in
       first_sound o.0 ts o.1 left x (operand_sound alias ts o.0 o.1 o.2) o.3)

@@ -1,10 +1,10 @@
 //! Tests of one value: a relation, a pattern, a set, and whether a field is there.
 
-ghost use Rattle.std.specs.Prelude.{◌≡◌, ◌≤◌, length, List, ℕ, IfOk};
-ghost use Rattle.gr_value.specs.declared.scalar.Scalar.{Scalar};
+ghost use Rattle.std.specs.Prelude.{◌≡◌};
 ghost use Rattle.gr_oql.specs.Grammar.{has_backslash};
-ghost use Rattle.gr_oql.specs.Reader.Gives.{Gives, alias_of};
-ghost use Rattle.gr_oql.specs.Reader.Reading.{relation_at, pattern_by, like_at, separated_at, literal_at, among_at, compare_at, behind_operand, behind_first, bracketed_at, test_at};
+ghost use Rattle.gr_oql.specs.Reader.Gives.{Reads, alias_of};
+ghost use Rattle.gr_oql.specs.Reader.Reading.{relation_at, pattern_by, like_at, separated_at, literal_at, among_at, compare_at};
+ghost use Rattle.gr_oql.specs.Reader.Reading.{behind_operand, behind_first, bracketed_at, test_at};
 ghost use Rattle.gr_oql.specs.Terminals.{is_symbol, front, as_quoted};
 ghost use Rattle.gr_lex.specs.declared.token.Symbol.TheVariants as symbols;
 
@@ -13,33 +13,9 @@ use crate::condition::{Operand, Relation, Test};
 use crate::cursor::TokenCursor;
 use crate::halt::{Halt, Wrong};
 use crate::keyword::Keyword;
-use crate::terms::{field, keyword_due, literal, operand, symbol_due, unquoted};
+use crate::terms::unquoted;
 use gr_lex::Symbol;
 use gr_value::{ItemList, Scalar, Text};
-use std::alloc::Global;
-
-fn relation(cursor: &mut TokenCursor) -> Result<Relation, Halt>
-    ensures exact { Gives (λ x. x) result cursor.new (relation_at cursor.old) }
-    ensures within { length cursor.new ≤ length cursor.old }
-{
-    if cursor.takes_symbol(Symbol::Equal) {
-        Ok(Relation::Equal)
-    } else if cursor.takes_symbol(Symbol::Angles) {
-        Ok(Relation::Different)
-    } else if cursor.takes_symbol(Symbol::BangEqual) {
-        Ok(Relation::Different)
-    } else if cursor.takes_symbol(Symbol::Less) {
-        Ok(Relation::Less)
-    } else if cursor.takes_symbol(Symbol::LessEqual) {
-        Ok(Relation::LessOrEqual)
-    } else if cursor.takes_symbol(Symbol::Greater) {
-        Ok(Relation::Greater)
-    } else if cursor.takes_symbol(Symbol::GreaterEqual) {
-        Ok(Relation::GreaterOrEqual)
-    } else {
-        Err(Halt::Wrong(Wrong::Expected))
-    }
-}
 
 fn has_backslash(text: &str) -> bool
     ensures { result ≡ has_backslash text.now }
@@ -47,146 +23,137 @@ fn has_backslash(text: &str) -> bool
     text.as_bytes().contains(&b'\\')
 }
 
-// The pattern behind LIKE.
-fn pattern(cursor: &mut TokenCursor, alloc: Global) -> Result<Text, Halt>
-    ensures exact { Gives (λ x. x) result cursor.new (pattern_by (front as_quoted cursor.old) cursor.old) }
-    ensures within { length cursor.new ≤ length cursor.old }
-{
-    match cursor.quoted() {
-        Some(inside) => {
-            let text = unquoted(alloc, inside)?;
-            if has_backslash(text.as_str()) {
-                Err(Halt::Wrong(Wrong::NotACq(Part::Escape)))
-            } else {
-                cursor.advance();
-                Ok(text)
-            }
+impl<'a> TokenCursor<'a> {
+    fn relation(&mut self) -> Result<Relation, Halt>
+        ensures { Reads (λ x. x) result self.old self.new (relation_at self.old) }
+    {
+        if self.takes_symbol(Symbol::Equal) {
+            Ok(Relation::Equal)
+        } else if self.takes_symbol(Symbol::Angles) {
+            Ok(Relation::Different)
+        } else if self.takes_symbol(Symbol::BangEqual) {
+            Ok(Relation::Different)
+        } else if self.takes_symbol(Symbol::Less) {
+            Ok(Relation::Less)
+        } else if self.takes_symbol(Symbol::LessEqual) {
+            Ok(Relation::LessOrEqual)
+        } else if self.takes_symbol(Symbol::Greater) {
+            Ok(Relation::Greater)
+        } else if self.takes_symbol(Symbol::GreaterEqual) {
+            Ok(Relation::GreaterOrEqual)
+        } else {
+            Err(Halt::Wrong(Wrong::Expected))
         }
-        None => Err(Halt::Wrong(Wrong::Expected)),
     }
-}
 
-fn like(cursor: &mut TokenCursor, alloc: Global, field: Text) -> Result<Test, Halt>
-    ensures exact { Gives (λ x. x) result cursor.new (like_at field cursor.old) }
-    ensures within { length cursor.new ≤ length cursor.old }
-{
-    let pattern = pattern(cursor, alloc)?;
-    Ok(Test::Like { field, pattern })
-}
-
-// Literals with commas between them.
-fn literals(cursor: &mut TokenCursor, alloc: Global) -> Result<ItemList<Scalar>, Halt>
-    ensures exact { Gives (λ x. x) result cursor.new (separated_at (is_symbol symbols.Comma) literal_at cursor.old) }
-    ensures within { length cursor.new ≤ length cursor.old }
-{
-    let mut found = ItemList::new(alloc)?;
-    let first = literal(cursor, alloc)?;
-    found.push(first)?;
-    'items: while cursor.takes_symbol(Symbol::Comma) {
-        let next = literal(cursor, alloc)?;
-        found.push(next)?;
-    }
-    Ok(found)
-}
-
-// The set that an operand is to be among.
-fn among(cursor: &mut TokenCursor, alloc: Global, operand: Operand) -> Result<Test, Halt>
-    ensures exact { Gives (λ x. x) result cursor.new (among_at operand cursor.old) }
-    ensures within { length cursor.new ≤ length cursor.old }
-{
-    keyword_due(cursor, Keyword::Set)?;
-    symbol_due(cursor, Symbol::LeftBracket)?;
-    let literals = literals(cursor, alloc)?;
-    symbol_due(cursor, Symbol::RightBracket)?;
-    Ok(Test::Among { operand, literals })
-}
-
-fn compare(
-    cursor: &mut TokenCursor,
-    alloc: Global,
-    alias: Option<&str>,
-    left: Operand,
-) -> Result<Test, Halt>
-    ensures exact { Gives (λ x. x) result cursor.new (compare_at (alias_of alias.entry) left cursor.old) }
-    ensures within { length cursor.new ≤ length cursor.old }
-{
-    let relation = relation(cursor)?;
-    let right = operand(cursor, alloc, alias)?;
-    Ok(Test::Compare {
-        left,
-        relation,
-        right,
-    })
-}
-
-fn behind_operand(
-    cursor: &mut TokenCursor,
-    alloc: Global,
-    alias: Option<&str>,
-    left: Operand,
-) -> Result<Test, Halt>
-    ensures exact { Gives (λ x. x) result cursor.new (behind_operand (alias_of alias.entry) left cursor.old) }
-    ensures within { length cursor.new ≤ length cursor.old }
-{
-    if cursor.takes_keyword(Keyword::In) {
-        among(cursor, alloc, left)
-    } else {
-        compare(cursor, alloc, alias, left)
-    }
-}
-
-// What stands behind a test's first operand.
-fn behind_first(
-    cursor: &mut TokenCursor,
-    alloc: Global,
-    alias: Option<&str>,
-    left: Operand,
-) -> Result<Test, Halt>
-    ensures exact { Gives (λ x. x) result cursor.new (behind_first (alias_of alias.entry) left cursor.old) }
-    ensures within { length cursor.new ≤ length cursor.old }
-{
-    match left {
-        Operand::Field(field) => {
-            if cursor.takes_keyword(Keyword::Like) {
-                like(cursor, alloc, field)
-            } else {
-                behind_operand(cursor, alloc, alias, Operand::Field(field))
+    // The pattern behind LIKE.
+    fn pattern(&mut self) -> Result<Text, Halt>
+        ensures { Reads (λ x. x) result self.old self.new (pattern_by (front as_quoted self.old) self.old) }
+    {
+        match self.quoted() {
+            Some(inside) => {
+                let text = unquoted(self.alloc, inside)?;
+                if has_backslash(text.as_str()) {
+                    Err(Halt::Wrong(Wrong::NotACq(Part::Escape)))
+                } else {
+                    self.advance();
+                    Ok(text)
+                }
             }
+            None => Err(Halt::Wrong(Wrong::Expected)),
         }
-        Operand::Literal(literal) => behind_operand(
-            cursor,
-            alloc,
-            alias,
-            Operand::Literal(literal),
-        ),
     }
-}
 
-// A field in brackets.
-fn bracketed(cursor: &mut TokenCursor, alloc: Global, alias: Option<&str>) -> Result<Text, Halt>
-    ensures exact { Gives (λ x. x) result cursor.new (bracketed_at (alias_of alias.entry) cursor.old) }
-    ensures within { length cursor.new ≤ length cursor.old }
-{
-    symbol_due(cursor, Symbol::LeftBracket)?;
-    let field = Text::new(alloc, field(cursor, alias)?)?;
-    symbol_due(cursor, Symbol::RightBracket)?;
-    Ok(field)
-}
+    fn like(&mut self, field: Text) -> Result<Test, Halt>
+        ensures { Reads (λ x. x) result self.old self.new (like_at field self.old) }
+    {
+        let pattern = self.pattern()?;
+        Ok(Test::Like { field, pattern })
+    }
 
-pub(crate) fn test(
-    cursor: &mut TokenCursor,
-    alloc: Global,
-    alias: Option<&str>,
-) -> Result<Test, Halt>
-    ensures exact { Gives (λ x. x) result cursor.new (test_at (alias_of alias.entry) cursor.old) }
-    ensures within { length cursor.new ≤ length cursor.old }
-{
-    if cursor.takes_keyword(Keyword::IsDefined) {
-        Ok(Test::Defined(bracketed(cursor, alloc, alias)?))
-    } else if cursor.takes_keyword(Keyword::IsUndefined) {
-        Ok(Test::Undefined(bracketed(cursor, alloc, alias)?))
-    } else {
-        let left = operand(cursor, alloc, alias)?;
-        behind_first(cursor, alloc, alias, left)
+    // Literals with commas between them.
+    fn literals(&mut self) -> Result<ItemList<Scalar>, Halt>
+        ensures { Reads (λ x. x) result self.old self.new (separated_at (is_symbol symbols.Comma) literal_at self.old) }
+    {
+        let mut found = ItemList::new(self.alloc)?;
+        let first = self.literal()?;
+        found.push(first)?;
+        'items: while self.takes_symbol(Symbol::Comma) {
+            let next = self.literal()?;
+            found.push(next)?;
+        }
+        Ok(found)
+    }
+
+    // The set that an operand is to be among.
+    fn among(&mut self, operand: Operand) -> Result<Test, Halt>
+        ensures { Reads (λ x. x) result self.old self.new (among_at operand self.old) }
+    {
+        self.keyword_due(Keyword::Set)?;
+        self.symbol_due(Symbol::LeftBracket)?;
+        let literals = self.literals()?;
+        self.symbol_due(Symbol::RightBracket)?;
+        Ok(Test::Among { operand, literals })
+    }
+
+    fn compare(&mut self, alias: Option<&str>, left: Operand) -> Result<Test, Halt>
+        ensures { Reads (λ x. x) result self.old self.new (compare_at (alias_of alias.entry) left self.old) }
+    {
+        let relation = self.relation()?;
+        let right = self.operand(alias)?;
+        Ok(Test::Compare {
+            left,
+            relation,
+            right,
+        })
+    }
+
+    fn behind_operand(&mut self, alias: Option<&str>, left: Operand) -> Result<Test, Halt>
+        ensures { Reads (λ x. x) result self.old self.new (behind_operand (alias_of alias.entry) left self.old) }
+    {
+        if self.takes_keyword(Keyword::In) {
+            self.among(left)
+        } else {
+            self.compare(alias, left)
+        }
+    }
+
+    // What stands behind a test's first operand.
+    fn behind_first(&mut self, alias: Option<&str>, left: Operand) -> Result<Test, Halt>
+        ensures { Reads (λ x. x) result self.old self.new (behind_first (alias_of alias.entry) left self.old) }
+    {
+        match left {
+            Operand::Field(field) => {
+                if self.takes_keyword(Keyword::Like) {
+                    self.like(field)
+                } else {
+                    self.behind_operand(alias, Operand::Field(field))
+                }
+            }
+            Operand::Literal(literal) => self.behind_operand(alias, Operand::Literal(literal)),
+        }
+    }
+
+    // A field in brackets.
+    fn bracketed(&mut self, alias: Option<&str>) -> Result<Text, Halt>
+        ensures { Reads (λ x. x) result self.old self.new (bracketed_at (alias_of alias.entry) self.old) }
+    {
+        self.symbol_due(Symbol::LeftBracket)?;
+        let field = Text::new(self.alloc, self.field(alias)?)?;
+        self.symbol_due(Symbol::RightBracket)?;
+        Ok(field)
+    }
+
+    pub(crate) fn test(&mut self, alias: Option<&str>) -> Result<Test, Halt>
+        ensures { Reads (λ x. x) result self.old self.new (test_at (alias_of alias.entry) self.old) }
+    {
+        if self.takes_keyword(Keyword::IsDefined) {
+            Ok(Test::Defined(self.bracketed(alias)?))
+        } else if self.takes_keyword(Keyword::IsUndefined) {
+            Ok(Test::Undefined(self.bracketed(alias)?))
+        } else {
+            let left = self.operand(alias)?;
+            self.behind_first(alias, left)
+        }
     }
 }

@@ -1,18 +1,20 @@
-ghost use Rattle.std.specs.Prelude.{◌≡◌, ◌<◌, ◌≤◌, length, if◌then◌else◌, option_map, IfSome};
-ghost use Rattle.std.specs.Bool.{OnTrue};
+ghost use Rattle.std.specs.Prelude.{◌≡◌, ◌≤◌, length, if◌then◌else◌, option_map, IfSome};
 ghost use Rattle.gr_oql.specs.Reader.Lexemes.{terminals};
+ghost use Rattle.gr_oql.specs.Reader.Gives.{Passes};
 ghost use Rattle.gr_oql.specs.Reader.Names.{AreNamed, HasWordBytes};
 ghost use Rattle.gr_oql.specs.Terminals.{symbol_eq, is_symbol, is_keyword, begins, front, rest, as_name, as_word, as_number, as_quoted, undoubled};
 
 use crate::keyword::Keyword;
 use crate::lexeme::Lexeme;
 use gr_lex::Symbol;
+use std::alloc::Global;
 use std::marker::Model;
 
 /// What is left of a query's tokens. Contracts see it as their list.
 #[derive(Drop)]
 pub(crate) struct TokenCursor<'a> {
     left: &'a [Lexeme<'a>],
+    pub(crate) alloc: Global,
 }
 
 impl<'a> Model for TokenCursor<'a> {
@@ -35,11 +37,11 @@ fn same_symbol(one: Symbol, other: Symbol) -> bool
 }
 
 impl<'a> TokenCursor<'a> {
-    pub(crate) fn new(left: &'a [Lexeme<'a>]) -> TokenCursor<'a>
+    pub(crate) fn new(alloc: Global, left: &'a [Lexeme<'a>]) -> TokenCursor<'a>
         requires { AreNamed (terminals left.now) }
         ensures { result ≡ terminals left.now }
     {
-        TokenCursor { left }
+        TokenCursor { left, alloc }
     }
 
     /// How many tokens are left.
@@ -117,31 +119,29 @@ impl<'a> TokenCursor<'a> {
         }
     }
 
-    /// Passes the symbol, where it is the next token.
-    pub(crate) fn takes_symbol(&mut self, symbol: Symbol) -> bool
-        ensures test { result ≡ begins (is_symbol symbol) self.old }
-        ensures after { self.new ≡ (if result then rest self.old else self.old) }
+    // Passes one token, where it is wanted and one is left.
+    fn advance_where(&mut self, wanted: bool) -> bool
+        ensures same { result ≡ wanted }
+        ensures after { self.new ≡ (if wanted then rest self.old else self.old) }
         ensures within { length self.new ≤ length self.old }
-        ensures shorter { OnTrue result (length self.new < length self.old) }
     {
-        let found = self.is_symbol(symbol);
-        if found {
+        if wanted {
             self.advance();
         }
-        found
+        wanted
+    }
+
+    /// Passes the symbol, where it is the next token.
+    pub(crate) fn takes_symbol(&mut self, symbol: Symbol) -> bool
+        ensures { Passes (is_symbol symbol) result self.old self.new }
+    {
+        self.advance_where(self.is_symbol(symbol))
     }
 
     /// Passes the keyword, where it is the next token.
     pub(crate) fn takes_keyword(&mut self, keyword: Keyword) -> bool
-        ensures test { result ≡ begins (is_keyword keyword) self.old }
-        ensures after { self.new ≡ (if result then rest self.old else self.old) }
-        ensures within { length self.new ≤ length self.old }
-        ensures shorter { OnTrue result (length self.new < length self.old) }
+        ensures { Passes (is_keyword keyword) result self.old self.new }
     {
-        let found = self.is_keyword(keyword);
-        if found {
-            self.advance();
-        }
-        found
+        self.advance_where(self.is_keyword(keyword))
     }
 }

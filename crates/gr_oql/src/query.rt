@@ -11,7 +11,7 @@ ghost use Rattle.gr_oql.specs.Reader.Asking.{question};
 ghost use Rattle.gr_oql.specs.declared.fault.OqlFault.TheVariants as oql_fault;
 
 use crate::OqlFault;
-use crate::clauses::{Clauses, query};
+use crate::clauses::Clauses;
 use crate::cursor::TokenCursor;
 use crate::halt::{Halt, Wrong};
 use crate::lexeme::lexemes;
@@ -110,8 +110,8 @@ fn asked_by(alloc: Global, text: &str, tokens: &[Token]) -> Result<Query, OqlFau
     ensures { Answers result (answer text.now tokens.now (query_at (terminals_of text.now tokens.now))) }
 {
     let lexemes = lexemes(alloc, text, tokens)?;
-    let mut cursor = TokenCursor::new(&lexemes);
-    match query(&mut cursor, alloc) {
+    let mut cursor = TokenCursor::new(alloc, &lexemes);
+    match cursor.query() {
         Ok(clauses) => Ok(query_of(alloc, text, clauses)?),
         Err(Halt::Memory) => Err(OqlFault::Memory),
         Err(Halt::Wrong(wrong)) => Err(fault_of(text, tokens, &cursor, wrong)),

@@ -1,10 +1,13 @@
 //! Fields, literals and operands.
 
-ghost use Rattle.std.specs.Prelude.{◌≡◌, ◌≤◌, length, ℤ, pos, neg_ℤ, nat_le, nat_lt, if◌then◌else◌, Some, None, Option, IfOk, List, ℕ, MatchOption};
+ghost use Rattle.std.specs.Prelude.{◌≡◌, ℤ, pos, neg_ℤ, nat_le, if◌then◌else◌, Some, None, Ok, Err, IfOk, MatchOption};
 ghost use Rattle.gr_lex.specs.Bytes.{greatest_number};
 ghost use Rattle.gr_oql.specs.Grammar.{is_alias};
-ghost use Rattle.gr_oql.specs.Reader.Gives.{Gives, alias_of};
-ghost use Rattle.gr_oql.specs.Reader.Reading.{symbol_at, keyword_at, name_at, member_at, field_of_name, field_at, negative_at, literal_at, operand_at, missing, plain_by};
+ghost use Rattle.gr_oql.specs.Reader.Gives.{Reads, alias_of};
+ghost use Rattle.gr_oql.specs.Reader.Reading.{symbol_at, keyword_at, word_by, name_at, member_at, field_of_name, field_at};
+ghost use Rattle.gr_oql.specs.Reader.Reading.{negative_at, literal_at, operand_at, missing, plain_by};
+ghost use Rattle.gr_oql.specs.declared.halt.Halt.TheVariants as halts;
+ghost use Rattle.gr_oql.specs.declared.halt.Wrong.TheVariants.{Expected};
 ghost use Rattle.gr_oql.specs.Terminals.{undoubled, front, as_number, as_quoted, SplitsAtQuotes};
 
 use crate::Part;
@@ -16,38 +19,14 @@ use gr_lex::{Symbol, Token};
 use gr_value::{Memory, Scalar, Text};
 use std::alloc::Global;
 
-pub(crate) fn symbol_due(cursor: &mut TokenCursor, symbol: Symbol) -> Result<(), Halt>
-    ensures exact { Gives (λ x. x) result cursor.new (symbol_at symbol cursor.old) }
-    ensures within { length cursor.new ≤ length cursor.old }
+// Nothing, where what is due was found.
+fn due(found: bool) -> Result<(), Halt>
+    ensures { result ≡ (if found then Ok tt else Err (halts.Wrong Expected)) }
 {
-    if cursor.takes_symbol(symbol) {
+    if found {
         Ok(())
     } else {
         Err(Halt::Wrong(Wrong::Expected))
-    }
-}
-
-pub(crate) fn keyword_due(cursor: &mut TokenCursor, keyword: Keyword) -> Result<(), Halt>
-    ensures exact { Gives (λ x. x) result cursor.new (keyword_at keyword cursor.old) }
-    ensures within { length cursor.new ≤ length cursor.old }
-{
-    if cursor.takes_keyword(keyword) {
-        Ok(())
-    } else {
-        Err(Halt::Wrong(Wrong::Expected))
-    }
-}
-
-pub(crate) fn name_due<'a>(cursor: &mut TokenCursor<'a>) -> Result<&'a str, Halt>
-    ensures exact { Gives (λ x. x.now) result cursor.new (name_at cursor.old) }
-    ensures within { length cursor.new ≤ length cursor.old }
-{
-    match cursor.name() {
-        Some(word) => {
-            cursor.advance();
-            Ok(word)
-        }
-        None => Err(Halt::Wrong(Wrong::Expected)),
     }
 }
 
@@ -57,50 +36,6 @@ fn is_alias(alias: Option<&str>, word: &str) -> bool
     match alias {
         Some(alias) => alias == word,
         None => false,
-    }
-}
-
-// The member behind an alias.
-fn member<'a>(cursor: &mut TokenCursor<'a>) -> Result<&'a str, Halt>
-    ensures exact { Gives (λ x. x.now) result cursor.new (member_at cursor.old) }
-    ensures within { length cursor.new ≤ length cursor.old }
-{
-    symbol_due(cursor, Symbol::Dot)?;
-    match cursor.word() {
-        Some(word) => {
-            cursor.advance();
-            Ok(word)
-        }
-        None => Err(Halt::Wrong(Wrong::Expected)),
-    }
-}
-
-// The field that a name begins.
-fn field_of_name<'a>(
-    cursor: &mut TokenCursor<'a>,
-    alias: Option<&str>,
-    word: &'a str,
-) -> Result<&'a str, Halt>
-    ensures exact { Gives (λ x. x.now) result cursor.new (field_of_name (alias_of alias.entry) word.now cursor.old) }
-    ensures within { length cursor.new ≤ length cursor.old }
-{
-    if is_alias(alias, word) {
-        member(cursor)
-    } else {
-        Ok(word)
-    }
-}
-
-pub(crate) fn field<'a>(cursor: &mut TokenCursor<'a>, alias: Option<&str>) -> Result<&'a str, Halt>
-    ensures exact { Gives (λ x. x.now) result cursor.new (field_at (alias_of alias.entry) cursor.old) }
-    ensures within { length cursor.new ≤ length cursor.old }
-{
-    match cursor.name() {
-        Some(word) => {
-            cursor.advance();
-            field_of_name(cursor, alias, word)
-        }
-        None => Err(Halt::Wrong(Wrong::Expected)),
     }
 }
 
@@ -145,85 +80,143 @@ fn negated(number: u64) -> Option<i64>
     }
 }
 
-fn negative(cursor: &mut TokenCursor) -> Result<Scalar, Halt>
-    ensures exact { Gives (λ x. x) result cursor.new (negative_at cursor.old) }
-    ensures within { length cursor.new ≤ length cursor.old }
-{
-    match cursor.number() {
-        Some(number) => match negated(number) {
-            Some(whole) => {
-                cursor.advance();
-                Ok(Scalar::Int(whole))
+impl<'a> TokenCursor<'a> {
+    pub(crate) fn symbol_due(&mut self, symbol: Symbol) -> Result<(), Halt>
+        ensures { Reads (λ x. x) result self.old self.new (symbol_at symbol self.old) }
+    {
+        due(self.takes_symbol(symbol))
+    }
+
+    pub(crate) fn keyword_due(&mut self, keyword: Keyword) -> Result<(), Halt>
+        ensures { Reads (λ x. x) result self.old self.new (keyword_at keyword self.old) }
+    {
+        due(self.takes_keyword(keyword))
+    }
+
+    // The word that stands there, if one does, which is due.
+    fn word_due(&mut self, word: Option<&'a str>) -> Result<&'a str, Halt>
+        ensures { Reads (λ x. x.now) result self.old self.new (word_by (alias_of word.entry) self.old) }
+    {
+        match word {
+            Some(word) => {
+                self.advance();
+                Ok(word)
             }
             None => Err(Halt::Wrong(Wrong::Expected)),
-        },
-        None => Err(Halt::Wrong(Wrong::Expected)),
+        }
     }
-}
 
-// What is wrong where an operand or a literal is due.
-fn missing(cursor: &TokenCursor) -> Wrong
-    ensures { result ≡ missing cursor.now }
-{
-    if cursor.is_symbol(Symbol::Dollar) {
-        Wrong::NotACq(Part::Bind)
-    } else {
-        Wrong::Expected
+    pub(crate) fn name_due(&mut self) -> Result<&'a str, Halt>
+        ensures { Reads (λ x. x.now) result self.old self.new (name_at self.old) }
+    {
+        let word = self.name();
+        self.word_due(word)
     }
-}
 
-// A number or a text.
-fn plain(cursor: &mut TokenCursor, alloc: Global) -> Result<Scalar, Halt>
-    ensures exact { Gives (λ x. x) result cursor.new (plain_by (front as_number cursor.old) (front as_quoted cursor.old) cursor.old) }
-    ensures within { length cursor.new ≤ length cursor.old }
-{
-    if let Some(number) = cursor.number() {
-        if number < Token::GREATEST_NUMBER {
-            cursor.advance();
-            Ok(Scalar::Int(number as i64))
+    // The member behind an alias.
+    fn member(&mut self) -> Result<&'a str, Halt>
+        ensures { Reads (λ x. x.now) result self.old self.new (member_at self.old) }
+    {
+        self.symbol_due(Symbol::Dot)?;
+        let word = self.word();
+        self.word_due(word)
+    }
+
+    // The field that a name begins.
+    fn field_of_name(&mut self, alias: Option<&str>, word: &'a str) -> Result<&'a str, Halt>
+        ensures { Reads (λ x. x.now) result self.old self.new (field_of_name (alias_of alias.entry) word.now self.old) }
+    {
+        if is_alias(alias, word) {
+            self.member()
         } else {
-            Err(Halt::Wrong(Wrong::Expected))
+            Ok(word)
         }
-    } else if let Some(inside) = cursor.quoted() {
-        let text = unquoted(alloc, inside)?;
-        cursor.advance();
-        Ok(Scalar::Text(text))
-    } else {
-        Err(Halt::Wrong(missing(cursor)))
     }
-}
 
-pub(crate) fn literal(cursor: &mut TokenCursor, alloc: Global) -> Result<Scalar, Halt>
-    ensures exact { Gives (λ x. x) result cursor.new (literal_at cursor.old) }
-    ensures within { length cursor.new ≤ length cursor.old }
-{
-    if cursor.takes_symbol(Symbol::Minus) {
-        negative(cursor)
-    } else if cursor.takes_keyword(Keyword::True) {
-        Ok(Scalar::Bool(true))
-    } else if cursor.takes_keyword(Keyword::False) {
-        Ok(Scalar::Bool(false))
-    } else if cursor.takes_keyword(Keyword::Null) {
-        Ok(Scalar::Null)
-    } else {
-        plain(cursor, alloc)
-    }
-}
-
-pub(crate) fn operand(
-    cursor: &mut TokenCursor,
-    alloc: Global,
-    alias: Option<&str>,
-) -> Result<Operand, Halt>
-    ensures exact { Gives (λ x. x) result cursor.new (operand_at (alias_of alias.entry) cursor.old) }
-    ensures within { length cursor.new ≤ length cursor.old }
-{
-    match cursor.name() {
-        Some(word) => {
-            cursor.advance();
-            let field = field_of_name(cursor, alias, word)?;
-            Ok(Operand::Field(Text::new(alloc, field)?))
+    pub(crate) fn field(&mut self, alias: Option<&str>) -> Result<&'a str, Halt>
+        ensures { Reads (λ x. x.now) result self.old self.new (field_at (alias_of alias.entry) self.old) }
+    {
+        match self.name() {
+            Some(word) => {
+                self.advance();
+                self.field_of_name(alias, word)
+            }
+            None => Err(Halt::Wrong(Wrong::Expected)),
         }
-        None => Ok(Operand::Literal(literal(cursor, alloc)?)),
+    }
+
+    fn negative(&mut self) -> Result<Scalar, Halt>
+        ensures { Reads (λ x. x) result self.old self.new (negative_at self.old) }
+    {
+        match self.number() {
+            Some(number) => match negated(number) {
+                Some(whole) => {
+                    self.advance();
+                    Ok(Scalar::Int(whole))
+                }
+                None => Err(Halt::Wrong(Wrong::Expected)),
+            },
+            None => Err(Halt::Wrong(Wrong::Expected)),
+        }
+    }
+
+    // What is wrong where an operand or a literal is due.
+    fn missing(&self) -> Wrong
+        ensures { result ≡ missing self.now }
+    {
+        if self.is_symbol(Symbol::Dollar) {
+            Wrong::NotACq(Part::Bind)
+        } else {
+            Wrong::Expected
+        }
+    }
+
+    // A number or a text.
+    fn plain(&mut self) -> Result<Scalar, Halt>
+        ensures { Reads (λ x. x) result self.old self.new (plain_by (front as_number self.old) (front as_quoted self.old) self.old) }
+    {
+        if let Some(number) = self.number() {
+            if number < Token::GREATEST_NUMBER {
+                self.advance();
+                Ok(Scalar::Int(number as i64))
+            } else {
+                Err(Halt::Wrong(Wrong::Expected))
+            }
+        } else if let Some(inside) = self.quoted() {
+            let text = unquoted(self.alloc, inside)?;
+            self.advance();
+            Ok(Scalar::Text(text))
+        } else {
+            Err(Halt::Wrong(self.missing()))
+        }
+    }
+
+    pub(crate) fn literal(&mut self) -> Result<Scalar, Halt>
+        ensures { Reads (λ x. x) result self.old self.new (literal_at self.old) }
+    {
+        if self.takes_symbol(Symbol::Minus) {
+            self.negative()
+        } else if self.takes_keyword(Keyword::True) {
+            Ok(Scalar::Bool(true))
+        } else if self.takes_keyword(Keyword::False) {
+            Ok(Scalar::Bool(false))
+        } else if self.takes_keyword(Keyword::Null) {
+            Ok(Scalar::Null)
+        } else {
+            self.plain()
+        }
+    }
+
+    pub(crate) fn operand(&mut self, alias: Option<&str>) -> Result<Operand, Halt>
+        ensures { Reads (λ x. x) result self.old self.new (operand_at (alias_of alias.entry) self.old) }
+    {
+        match self.name() {
+            Some(word) => {
+                self.advance();
+                let field = self.field_of_name(alias, word)?;
+                Ok(Operand::Field(Text::new(self.alloc, field)?))
+            }
+            None => Ok(Operand::Literal(self.literal()?)),
+        }
     }
 }

@@ -52,13 +52,7 @@ impl Numbered for Answer {
     ghost text = { answer_line };
 
     #[tactic(auto, unfolding(crate::specs::Answers::answer_line))]
-    fn put_as(
-        &self,
-        alloc: Global,
-        out: &mut Vec<u8>,
-        owner: u8,
-        number: u64,
-    ) -> Result<(), Memory> {
+    fn put(&self, alloc: Global, out: &mut Vec<u8>, owner: u8, number: u64) -> Result<(), Memory> {
         put_number(out, u128::from(owner))?;
         put_text(out, ".")?;
         put_number(out, u128::from(number))?;

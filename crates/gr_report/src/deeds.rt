@@ -181,11 +181,11 @@ fn put_deed(alloc: Global, out: &mut Vec<u8>, deed: &Deed) -> Result<(), Memory>
             seq,
             ask,
             reply,
-            made,
+            made: change,
             to,
         } => {
             put_asked(alloc, out, *client, *seq, ask)?;
-            put_told(alloc, out, reply, made.as_ref(), *to)
+            put_told(alloc, out, reply, change.as_ref(), *to)
         }
         Deed::Taken { change, verdict } => put_taken(alloc, out, change, *verdict),
         Deed::Gave { to, what } => {

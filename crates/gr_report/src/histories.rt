@@ -20,13 +20,7 @@ fn put_history_line(out: &mut Vec<u8>, member: u8, shard: u64, deeds: u64) -> Re
 impl Numbered for ShardRecord {
     ghost text = { history_text };
 
-    fn put_as(
-        &self,
-        alloc: Global,
-        out: &mut Vec<u8>,
-        owner: u8,
-        number: u64,
-    ) -> Result<(), Memory> {
+    fn put(&self, alloc: Global, out: &mut Vec<u8>, owner: u8, number: u64) -> Result<(), Memory> {
         put_history_line(out, owner, number, self.history.len())?;
         put_all(alloc, out, self.history.as_slice())
     }

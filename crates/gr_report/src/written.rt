@@ -30,7 +30,7 @@ pub trait Numbered {
     ghost text: { ℕ → ℕ → Self → List ℕ };
 
     /// Puts its text last.
-    fn put_as(&self, alloc: Global, out: &mut Vec<u8>, owner: u8, number: u64) -> Result<(), Memory>
+    fn put(&self, alloc: Global, out: &mut Vec<u8>, owner: u8, number: u64) -> Result<(), Memory>
         ensures { OnOk result (out.new.items ≡ out.old.items ++ text owner number self.now) };
 }
 
@@ -46,7 +46,7 @@ pub fn put_numbered<T: Numbered>(
     ensures { OnOk result (out.new.items ≡ out.old.items ++ texts_from (T.text owner) first items.now) }
 {
     for (place, item) in items.iter().enumerate() {
-        item.put_as(alloc, out, owner, place as u64 + first)?;
+        item.put(alloc, out, owner, place as u64 + first)?;
     }
     Ok(())
 }

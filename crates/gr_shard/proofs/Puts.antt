@@ -1,5 +1,5 @@
 -- The puts and the removals among changes.
-use Rattle.std.proofs.Common.{◌≡◌, ◌∙◌, ap, sym, refl, ℕ, ◌+◌, List, [], ◌∷◌, ◌++◌, length, not, Bool, true, false}
+use Rattle.std.proofs.Common.{◌≡◌, ◌∙◌, ap, sym, refl, arith, ℕ, ◌+◌, ◌-◌, ◌≤◌, List, [], ◌∷◌, ◌++◌, length, not, Bool, true, false}
 use Rattle.std.proofs.lemmas.List.{map-append, length-map}
 use Rattle.std.proofs.lemmas.List.Elements.{filter-append}
 use Rattle.std.proofs.lemmas.List.Filters.{length-filter_both}
@@ -27,3 +27,12 @@ pub length-puts_of : (changes : List Change) → length (puts_of changes) + remo
 length-puts_of changes =
     ap (λ n. length (puts_of changes) + n) (sym (length-filter (λ c. is_removal c.kind) changes))
     ∙ length-filter_both (λ c. not (is_removal c.kind)) (λ c. is_removal c.kind) (λ c. sym (not_not (is_removal c.kind))) changes
+
+-- Where the rows are all the puts, what is left is the removals.
+pub left_over : (entries : List (List ℕ × Slot)) (rows : List Change) {all kept : ℕ} → rows ≡ puts_of (changes_in entries)
+    → all ≡ length entries → kept ≡ length rows → (kept ≤ all) × (all - kept ≡ removals_of (changes_in entries))
+left_over entries rows put every kept =
+    let rows = ap length put in
+    let parted = length-puts_of (changes_in entries) in
+    let changes = length-changes_in entries in
+    (omega arith, omega arith)

@@ -33,39 +33,38 @@ module _ {T E B : Type 0} (entries : T → List E) (base_of : T → B) where
           let has = all n (omega arith) in
           absurd (omega arith)
 
-  -- the word of the last state
-  last_word : (id : ℕ) (v : View E B) (ws : List ℕ) (xs : List (Option T)) (word : ℕ)
+  -- what follows from the last state, whether a turn is out or not
+  at_last : {G : Type 0} (id : ℕ) (v : View E B) (ws : List ℕ) (xs : List (Option T)) (word : ℕ)
       (final : Final (Seen (Holds entries base_of) id v) ws xs)
-      → v.opened ≡ true → get_elem? ws 0 ≡ some word → (o : Opened entries base_of final.0) × (word ≡ length o.list * 2 + bit o.out)
-  last_word id v ws xs word final op at =
-      let o = opened_by entries base_of final.0 id v final.1.0 final.1.1 op in
-      (o, some-injective _ _ (sym at ∙ ap (λ (l : List ℕ). get_elem? l 0) (sym final.2 ∙ o.word)))
+      → v.opened ≡ true → get_elem? ws 0 ≡ some word
+      → ((o : Opened entries base_of final.0) → o.out ≡ false → word ≡ length o.list * 2 + 0 → G)
+      → ((o : Opened entries base_of final.0) → o.out ≡ true → word ≡ length o.list * 2 + 1 → G) → G
+  at_last {G = G} id v ws xs word final op at home away = go o.out refl
+    where
+      o : Opened entries base_of final.0
+      o = opened_by entries base_of final.0 id v final.1.0 final.1.1 op
+
+      found_word : word ≡ length o.list * 2 + bit o.out
+      found_word = some-injective _ _ (sym at ∙ ap (λ (l : List ℕ). get_elem? l 0) (sym final.2 ∙ o.word))
+
+      go : (b : Bool) → o.out ≡ b → G
+      go false e = home o e (found_word ∙ ap (λ (b : Bool). length o.list * 2 + bit b) e)
+      go true e = away o e (found_word ∙ ap (λ (b : Bool). length o.list * 2 + bit b) e)
 
   -- where all numbers are with a seat that has no turn, no turn is out
   pub all_home : (id : ℕ) (v : View E B) (ws : List ℕ) (xs : List (Option T)) (word : ℕ)
       → Final (Seen (Holds entries base_of) id v) ws xs → v.opened ≡ true → v.turn ≡ None → HasAll v → get_elem? ws 0 ≡ some word
       → word % 2 ≡ 1 → ⊥
-  all_home id v ws xs word final op none all at odd = go o.out refl
-    where
-      s : State (Option T) (View E B)
-      s = final.0
-
-      o : Opened entries base_of s
-      o = (last_word id v ws xs word final op at).0
-
-      found_word : word ≡ length o.list * 2 + bit o.out
-      found_word = (last_word id v ws xs word final op at).1
-
-      go : (b : Bool) → o.out ≡ b → ⊥
-      go false e = let w : word ≡ length o.list * 2 + 0 = found_word ∙ ap (λ (b : Bool). length o.list * 2 + bit b) e in omega arith
-      go true e =
-          let t = o.taken e in
-          dite (ℕ_discrete o.holder id)
-          (λ (same : o.holder ≡ id). none_some o.list (sym none
-          ∙ ap (λ (u : View E B). u.turn) (some-injective v t.0 (sym final.1.1
-          ∙ subst (λ (i : ℕ). get_elem? s.views i ≡ some t.0) same t.1)) ∙ t.2))
-          (λ ne. none_some o.list (sym ((o.sound o.holder t.0 t.1).0 (others_bare s o id v final.1.1 op all o.holder t.0 ne t.1)).1
-          ∙ t.2))
+  all_home id v ws xs word final op none all at odd = at_last id v ws xs word final op at
+      (λ o e w. omega arith)
+      (λ o e w.
+      let t = o.taken e in
+      dite (ℕ_discrete o.holder id)
+      (λ (same : o.holder ≡ id). none_some o.list (sym none
+      ∙ ap (λ (u : View E B). u.turn) (some-injective v t.0 (sym final.1.1
+      ∙ subst (λ (i : ℕ). get_elem? final.0.views i ≡ some t.0) same t.1)) ∙ t.2))
+      (λ ne. none_some o.list (sym ((o.sound o.holder t.0 t.1).0 (others_bare final.0 o id v final.1.1 op all o.holder t.0 ne t.1)).1
+      ∙ t.2)))
 
   made_all : (s : State (Option T) (View E B)) (o : Opened entries base_of s) (id : ℕ) (v : View E B)
       → get_elem? s.views id ≡ some v → v.opened ≡ true → MadeAll v (length o.list)
@@ -124,28 +123,16 @@ module _ {T E B : Type 0} (entries : T → List E) (base_of : T → B) where
       → Final (Seen (Holds entries base_of) id v) ws xs → v.opened ≡ true → get_elem? ws 0 ≡ some word → word % 2 ≢ 1
       → get_elem? xs 0 ≡ some (Some x)
       → (v.base ≡ Some (base_of x)) × StartsWith (entries x) v.seen × MadeAll v (length (entries x))
-  ended id v ws xs word x final op at even there = go o.out refl
-    where
-      s : State (Option T) (View E B)
-      s = final.0
-
-      o : Opened entries base_of s
-      o = (last_word id v ws xs word final op at).0
-
-      found_word : word ≡ length o.list * 2 + bit o.out
-      found_word = (last_word id v ws xs word final op at).1
-
-      go : (b : Bool) → o.out ≡ b → (v.base ≡ Some (base_of x)) × StartsWith (entries x) v.seen × MadeAll v (length (entries x))
-      go true e = let w : word ≡ length o.list * 2 + 1 = found_word ∙ ap (λ (b : Bool). length o.list * 2 + bit b) e in
-          absurd (even (omega arith))
-      go false e =
-          let h = o.home e in
-          let same : h.0 ≡ x = some_same h.0 x (some-injective _ _ (sym (final.4 0 (Some h.0) h.1) ∙ there)) in
-          let f = o.each id v final.1.1 op in
-          let P : T → Type 0 = λ y. (v.base ≡ Some (base_of y)) × StartsWith (entries y) v.seen × MadeAll v (length (entries y)) in
-          subst P same (
-            f.based
-                ∙ ap Some (sym h.3),
-            subst (λ (l : List E). StartsWith l v.seen) (sym h.2) f.saw,
-            subst (λ (l : List E). MadeAll v (length l)) (sym h.2) (made_all s o id v final.1.1 op),
-          )
+  ended id v ws xs word x final op at even there = at_last id v ws xs word final op at
+      (λ o e w.
+      let h = o.home e in
+      let same : h.0 ≡ x = some_same h.0 x (some-injective _ _ (sym (final.4 0 (Some h.0) h.1) ∙ there)) in
+      let f = o.each id v final.1.1 op in
+      let P : T → Type 0 = λ y. (v.base ≡ Some (base_of y)) × StartsWith (entries y) v.seen × MadeAll v (length (entries y)) in
+      subst P same (
+        f.based
+            ∙ ap Some (sym h.3),
+        subst (λ (l : List E). StartsWith l v.seen) (sym h.2) f.saw,
+        subst (λ (l : List E). MadeAll v (length l)) (sym h.2) (made_all final.0 o id v final.1.1 op),
+      ))
+      (λ o e w. absurd (even (omega arith)))

@@ -9,7 +9,7 @@ use Rattle.gr_turn.specs.declared.view.View.{View}
 use Rattle.gr_turn.specs.Views.{StartsWith, IsIdle, times, bit, won_by, lost_by}
 use Rattle.gr_turn.specs.Rule.{Opened, Holds, Grabbed}
 use Rattle.gr_turn.proofs.Counts.{total_same, even_or, odd_or}
-use Rattle.gr_turn.proofs.Opened.{refit_near, some_same, each_set, sound_set, mine_sound, set_at, refit, opened_by, keeps_taken}
+use Rattle.gr_turn.proofs.Opened.{refit_near, some_same, each_set, sound_set, mine_sound, set_at, refit, opened_by, keeps_taken, gone_on}
 
 module _ {T E B : Type 0} (entries : T → List E) (base_of : T → B) where
   abbrev CanGrab : ℕ → View E B → State (Option T) (View E B) → Type 0
@@ -29,15 +29,7 @@ module _ {T E B : Type 0} (entries : T → List E) (base_of : T → B) where
         w,
         takes 0 (Some h.0),
         h.1,
-        inr (record {
-          list = o.list;
-          base = o.base;
-          seats = o.seats;
-          opening = o.opening;
-          dealt = o.dealt;
-          out = true;
-          holder = id;
-          root = o.root;
+        inr (gone_on entries base_of o o.list o.dealt true id (record {
           word = ap (λ (ws : List ℕ). set ws 0 (bit_or (get_or s.words 0 0) 1)) o.word
               ∙ ap (λ (n : ℕ). n ∷ []) (ap (λ (n : ℕ). bit_or n 1) found ∙ even_or (length o.list));
           slot = length-set s.homes 0 _ ∙ o.slot;
@@ -52,7 +44,7 @@ module _ {T E B : Type 0} (entries : T → List E) (base_of : T → B) where
               (λ _. refit_near f (refl, refl, refl, refl, refl, refl) f.saw (λ l e. (refl, refl, sym (some_same o.list l e))) f.deals);
           places = λ p. total_same (λ (u : View E B). times p u.made) s.views id v w at refl ∙ o.places p;
           numbers = λ p. total_same (λ (u : View E B). times p u.parts) s.views id v w at refl ∙ o.numbers p;
-        }),
+        })),
         (
           (λ _. (
             h.0,
@@ -79,15 +71,7 @@ module _ {T E B : Type 0} (entries : T → List E) (base_of : T → B) where
         w,
         keeps,
         tt,
-        inr (record {
-          list = o.list;
-          base = o.base;
-          seats = o.seats;
-          opening = o.opening;
-          dealt = o.dealt;
-          out = true;
-          holder = o.holder;
-          root = o.root;
+        inr (gone_on entries base_of o o.list o.dealt true o.holder (record {
           word = ap (λ (ws : List ℕ). set ws 0 (bit_or (get_or s.words 0 0) 1)) o.word
               ∙ ap (λ (n : ℕ). n ∷ []) (ap (λ (n : ℕ). bit_or n 1) found ∙ odd_or (length o.list));
           slot = o.slot;
@@ -101,7 +85,7 @@ module _ {T E B : Type 0} (entries : T → List E) (base_of : T → B) where
               (λ _. refit_near f (refl, refl, refl, refl, refl, refl) f.saw (λ l e. (refl, (f.held l e).1, (f.held l e).2)) f.deals);
           places = λ p. total_same (λ (u : View E B). times p u.made) s.views id v w at refl ∙ o.places p;
           numbers = λ p. total_same (λ (u : View E B). times p u.parts) s.views id v w at refl ∙ o.numbers p;
-        }),
+        })),
         (
           (λ even. absurd (let e : (length o.list * 2 + 1) % 2 ≡ 0 = rw found at even in omega arith)),
           (λ _. (refl, refl)),

@@ -9,7 +9,7 @@ use Rattle.gr_turn.specs.declared.view.View.{View}
 use Rattle.gr_turn.specs.Views.{IsIdle, times, total, both, longer, unopened}
 use Rattle.gr_turn.specs.Rule.{Holds}
 use Rattle.gr_turn.proofs.Counts.{total_set, times-append, longer_starts, longer_length, longer_shorter}
-use Rattle.gr_turn.proofs.Opened.{none_some, append_none, each_set, sound_set, opened_by, keeps_taken}
+use Rattle.gr_turn.proofs.Opened.{none_some, append_none, each_set, sound_set, opened_by, keeps_taken, gone_on}
 
 module _ {T E B : Type 0} (entries : T → List E) (base_of : T → B) where
   -- a seat takes in what another knows
@@ -30,15 +30,7 @@ module _ {T E B : Type 0} (entries : T → List E) (base_of : T → B) where
       (let x = total_set h s.views id v b at in
       let y = total_set h views' other w spent there in
       let z : total h (set views' other spent) ≡ total h s.views = omega arith in z) in
-      inr (record {
-        list = o.list;
-        base = o.base;
-        seats = o.seats;
-        opening = o.opening;
-        dealt = o.dealt;
-        out = o.out;
-        holder = o.holder;
-        root = o.root;
+      inr (gone_on entries base_of o o.list o.dealt o.out o.holder (record {
         word = o.word;
         slot = o.slot;
         home = o.home;
@@ -71,7 +63,7 @@ module _ {T E B : Type 0} (entries : T → List E) (base_of : T → B) where
             (λ shut. absurd (true≢false (sym shut)));
         places = λ p. totals (λ (u : View E B). times p u.made) (times-append p v.made w.made) refl ∙ o.places p;
         numbers = λ p. totals (λ (u : View E B). times p u.parts) (times-append p v.parts w.parts) refl ∙ o.numbers p;
-      })
+      }))
     where
       joined_own : (p : ℕ) → 0 < times p (v.made ++ w.made) → (0 < times p v.made → p < length v.seen)
           → (0 < times p w.made → p < length w.seen)

@@ -1,13 +1,13 @@
 -- What is known of the views of an open lock, and of one view that changes.
-use Rattle.std.proofs.Common.{◌<◌, ◌≤◌, length, ◌≡◌, ◌≢◌, ℕ, zero, suc, Bool, true, false, true≢false, List, [], ◌∷◌, ◌++◌, set, Option}
+use Rattle.std.proofs.Common.{◌+◌, ◌-◌, ◌*◌, ◌<◌, ◌≤◌, length, ◌≡◌, ◌≢◌, ℕ, zero, suc, Bool, true, false, true≢false, List, [], ◌∷◌, ◌++◌, set, Option}
 use Rattle.std.proofs.Common.{Some, None, refl, sym, ap, ◌∙◌, subst, ⊎_elim}
 use mathlib.Core.Option.{some, some-injective, some-ne-none}
 use lib.ListN.{get_elem?}
 use Rattle.atomic_table.specs.Table.{State}
 use Rattle.atomic_table.proofs.Lists.{at_set, set_else}
 use Rattle.gr_turn.specs.declared.view.View.{View}
-use Rattle.gr_turn.specs.Views.{times, StartsWith}
-use Rattle.gr_turn.specs.Rule.{Fits, IsSound, Opened, Shut, Holds}
+use Rattle.gr_turn.specs.Views.{StartsWith, times, total, count_from, bit}
+use Rattle.gr_turn.specs.Rule.{Fits, IsSound, IsHome, Opened, Shut, Holds}
 
 pub none_some : {X : Type 0} (x : X) → None ≡ Some x → ⊥
 none_some x e = cc
@@ -114,3 +114,42 @@ module _ {T E B : Type 0} (entries : T → List E) (base_of : T → B) where
       ∙ ap (λ (u : View E B). u.turn) (some-injective v t.0 (sym at ∙ subst (λ (i : ℕ). get_elem? s.views i ≡ some t.0) e t.1))
       ∙ t.2) in
       (t.0, set_else s.views id o.holder w apart ∙ t.1, t.2)
+
+  -- what a step of an open lock to the state s has to show: all that doesn't stay as it was
+  pub record GoesOn {before : State (Option T) (View E B)} (o : Opened entries base_of before) (s : State (Option T) (View E B))
+      (list : List E) (dealt : ℕ) (out : Bool) (holder : ℕ) : Type 0 where
+    pub word : s.words ≡ (length list * 2 + bit out) ∷ []
+    pub slot : length s.homes ≡ 1
+    pub home : out ≡ false → IsHome entries base_of s list o.base
+    pub taken : out ≡ true → (v : View E B) × (get_elem? s.views holder ≡ some v) × (v.turn ≡ Some list)
+    pub started : o.opening ≤ length list
+    pub few : dealt ≤ o.seats
+    pub sound : (by : ℕ) (v : View E B) → get_elem? s.views by ≡ some v → IsSound v
+    pub each : (by : ℕ) (v : View E B) → get_elem? s.views by ≡ some v → v.opened ≡ true
+        → Fits list o.base o.seats o.opening dealt out holder o.root by v
+    pub places : (p : ℕ) → total (λ (v : View E B). times p v.made) s.views ≡ times p (count_from o.opening (length list - o.opening))
+    pub numbers : (p : ℕ) → total (λ (v : View E B). times p v.parts) s.views ≡ times p (count_from 0 dealt)
+
+  pub gone_on : {before s : State (Option T) (View E B)} (o : Opened entries base_of before) (list : List E) (dealt : ℕ) (out : Bool)
+      (holder : ℕ)
+      → GoesOn o s list dealt out holder → Opened entries base_of s
+  gone_on o list dealt out holder g = record {
+    list = list;
+    base = o.base;
+    seats = o.seats;
+    opening = o.opening;
+    dealt = dealt;
+    out = out;
+    holder = holder;
+    root = o.root;
+    word = g.word;
+    slot = g.slot;
+    home = g.home;
+    taken = g.taken;
+    started = g.started;
+    few = g.few;
+    sound = g.sound;
+    each = g.each;
+    places = g.places;
+    numbers = g.numbers;
+  }

@@ -9,7 +9,7 @@ use Rattle.gr_turn.specs.declared.view.View.{View}
 use Rattle.gr_turn.specs.Views.{IsRoot, times, total, count_from, is_out, fresh, claimed, root_view, deal_left, deal_right, dealt_of}
 use Rattle.gr_turn.specs.Rule.{Fits, IsSound, Opened, Shut, Holds, Claimed, Opens}
 use Rattle.gr_turn.proofs.Counts.{total_same, times-append, count_split, starts_self, total_snoc}
-use Rattle.gr_turn.proofs.Opened.{refit_near, none_some, some_same, cons_none, each_set, sound_set, refit, opened_by, keeps_taken}
+use Rattle.gr_turn.proofs.Opened.{refit_near, none_some, some_same, cons_none, each_set, sound_set, refit, opened_by, keeps_taken, gone_on}
 use Rattle.gr_turn.proofs.Releasing.{slot_same}
 
 module _ {T E B : Type 0} (entries : T → List E) (base_of : T → B) where
@@ -120,15 +120,7 @@ module _ {T E B : Type 0} (entries : T → List E) (base_of : T → B) where
       let right : View E B = deal_right v in
       let is : dealt_of v.next ≡ k = ap dealt_of next in
       let no_made : (p : ℕ) → times p v.made ≡ 0 = λ p. ap (times p) clean in
-      inr (record {
-        list = o.list;
-        base = o.base;
-        seats = o.seats;
-        opening = o.opening;
-        dealt = suc o.dealt;
-        out = o.out;
-        holder = o.holder;
-        root = o.root;
+      inr (gone_on entries base_of o o.list (suc o.dealt) o.out o.holder (record {
         word = o.word;
         slot = o.slot;
         home = o.home;
@@ -171,7 +163,7 @@ module _ {T E B : Type 0} (entries : T → List E) (base_of : T → B) where
             ap (λ (n : ℕ). times p (count_from 0 n)) e ∙ ap (times p) (count_split 0 o.dealt 1) ∙ times-append p _ _
             ∙ ap (λ (n : ℕ). times p (count_from 0 o.dealt) + times p (n ∷ [])) z in
             omega arith;
-      })
+      }))
 
   -- the steps, at what a seat is known to be
   abbrev Token : Type 0

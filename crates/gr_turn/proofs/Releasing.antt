@@ -8,7 +8,7 @@ use Rattle.gr_turn.specs.declared.view.View.{View}
 use Rattle.gr_turn.specs.Views.{StartsWith, times, count_from, left_by, found, is_out, list_in}
 use Rattle.gr_turn.specs.Rule.{Holds, Released}
 use Rattle.gr_turn.proofs.Counts.{total_set, total_same, times-append, starts_long, starts_trans, starts_self, places_split, below_both}
-use Rattle.gr_turn.proofs.Opened.{none_some, some_same, each_set, sound_set, mine_sound, refit, opened_by}
+use Rattle.gr_turn.proofs.Opened.{none_some, some_same, each_set, sound_set, mine_sound, refit, opened_by, gone_on}
 
 module _ {T E B : Type 0} (entries : T → List E) (base_of : T → B) where
   abbrev slot : T → List (ℕ × Option T)
@@ -45,15 +45,7 @@ module _ {T E B : Type 0} (entries : T → List E) (base_of : T → B) where
         w,
         gives,
         tt,
-        inr (record {
-          list = now;
-          base = o.base;
-          seats = o.seats;
-          opening = o.opening;
-          dealt = o.dealt;
-          out = false;
-          holder = o.holder;
-          root = o.root;
+        inr (gone_on entries base_of o now o.dealt false o.holder (record {
           word = ap (λ (ws : List ℕ). set ws 0 new) o.word ∙ ap (λ (n : ℕ). n ∷ []) (is ∙ omega arith);
           slot = length-set s.homes 0 _ ∙ o.slot;
           home = λ _. (
@@ -88,6 +80,6 @@ module _ {T E B : Type 0} (entries : T → List E) (base_of : T → B) where
               let q = places_split p o.opening (length o.list) (length now) o.started longer in
               omega arith;
           numbers = λ p. total_same (λ (u : View E B). times p u.parts) s.views id v w at refl ∙ o.numbers p;
-        }),
+        })),
         λ x' e. (ap (λ (y : T). left_by v (entries y)) (slot_same x x' e), refl),
       )

@@ -12,5 +12,5 @@ new-cursor-requires c = rw (c.deref.ensures.value, c.in_ok-lexemes.ensures)
 pub query_of-requires : goal.query_of-requires
 query_of-requires c =
     let all = c.new-cursor.ensures ∙ ap terminals c.deref.ensures.value ∙ c.in_ok-lexemes.ensures in
-    clauses_spelled c.args.text.now c.args.tokens.now c.in-Ok.clauses c.query.new.cursor c.requires.laid_out (ap query_at (sym all)
+    clauses_spelled c.args.text.now c.args.tokens.now c.in-Ok.clauses c.query.new.self c.requires.laid_out (ap query_at (sym all)
     ∙ c.in-Ok.ensures.exact)

@@ -17,7 +17,7 @@ loop-place-preserved g c =
     let longer : take (place + 1) all ≡ take place all ++ item ∷ [] =
     take_more all place item within ∙ ap (λ x. take place all ++ x ∷ []) (sym c.index-items-place.is) in
     let numbered : c.args.first + length (take place all) ≡ place + c.args.first = omega (arith, length-take-le place all within-le) in
-    c.in_ok-put_as.ensures
+    c.in_ok-put.ensures
     ∙ ap (λ out. out ++ text (place + c.args.first) item) c.loop-place.invariant
     ∙ append_assoc before (texts_from text c.args.first (take place all)) (text (place + c.args.first) item)
     ∙ ap (λ lines. before ++ lines)

@@ -1,9 +1,9 @@
-use Rattle.std.proofs.Common.{◌≡◌, ◌∙◌, ap, sym, map, length, ◌++◌, ◌∷◌, [], rules, arith}
+use Rattle.std.proofs.Common.{◌≡◌, ◌∙◌, ap, sym, map, length, ◌++◌, ◌∷◌, [], rules}
 use Rattle.std.specs.Map.Iter.{deref_pair}
 use Rattle.std.proofs.lemmas.Map.Iter.{iter_end}
 use Rattle.std.proofs.lemmas.List.{map-append}
 use Rattle.gr_shard.specs.Entries.{changes_in, change_of, puts_of}
-use Rattle.gr_shard.proofs.Puts.{puts_of-push, length-puts_of, changes_in-push, length-changes_in}
+use Rattle.gr_shard.proofs.Puts.{puts_of-push, changes_in-push, left_over}
 use Rattle.gr_shard.proofs.regions.region.Goals as goal
 
 pub loop-key-preserved : goal.loop-key-preserved
@@ -16,37 +16,19 @@ loop-key-preserved c =
     ∙ ap puts_of (sym (changes_in-push before c.in-Some.key.now c.in-Some.slot.now))
     ∙ ap (λ entries. puts_of (changes_in entries)) (sym (map-append deref_pair c.loop-key.yielded ((c.in-Some.key, c.in-Some.slot) ∷ [])))
 
-pub overflow_sub-tombstones : goal.overflow_sub-tombstones
-overflow_sub-tombstones c =
-    let whole : map deref_pair c.loop-key.yielded ≡ c.args.slots.now = search (rules, iter_end) in
-    let rows : c.loop-key.rows ≡ puts_of (changes_in c.args.slots.now) = c.loop-key.invariant
-    ∙ ap (λ entries. puts_of (changes_in entries)) whole in
-    omega (
-      arith,
-      ap length c.rows-entries.ensures,
-      c.len.ensures.len,
-      c.len-2.ensures,
-      ap length rows,
-      length-puts_of (changes_in c.args.slots.now),
-      length-changes_in c.args.slots.now,
-    )
-
 pub returns-clause-rows : goal.returns-clause-rows
 returns-clause-rows c =
     let whole : map deref_pair c.loop-key.yielded ≡ c.args.slots.now = search (rules, iter_end) in
     c.loop-key.invariant ∙ ap (λ entries. puts_of (changes_in entries)) whole
 
+pub overflow_sub-tombstones : goal.overflow_sub-tombstones
+overflow_sub-tombstones c =
+    let whole : map deref_pair c.loop-key.yielded ≡ c.args.slots.now = search (rules, iter_end) in
+    (left_over c.args.slots.now c.loop-key.rows (c.loop-key.invariant ∙ ap (λ entries. puts_of (changes_in entries)) whole)
+    (c.len.ensures.len ∙ ap length c.rows-entries.ensures) c.len-2.ensures).0
+
 pub returns-clause-tombstones : goal.returns-clause-tombstones
 returns-clause-tombstones c =
     let whole : map deref_pair c.loop-key.yielded ≡ c.args.slots.now = search (rules, iter_end) in
-    let rows : c.loop-key.rows ≡ puts_of (changes_in c.args.slots.now) = c.loop-key.invariant
-    ∙ ap (λ entries. puts_of (changes_in entries)) whole in
-    omega (
-      arith,
-      ap length c.rows-entries.ensures,
-      c.len.ensures.len,
-      c.len-2.ensures,
-      ap length rows,
-      length-puts_of (changes_in c.args.slots.now),
-      length-changes_in c.args.slots.now,
-    )
+    (left_over c.args.slots.now c.loop-key.rows (c.loop-key.invariant ∙ ap (λ entries. puts_of (changes_in entries)) whole)
+    (c.len.ensures.len ∙ ap length c.rows-entries.ensures) c.len-2.ensures).1

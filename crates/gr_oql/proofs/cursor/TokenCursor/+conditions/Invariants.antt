@@ -5,7 +5,7 @@ use Rattle.gr_oql.specs.Terminals.{is_keyword}
 use Rattle.gr_oql.specs.View.{tree_of}
 use Rattle.gr_oql.specs.Reader.Reading.{all_at, part_at}
 use Rattle.gr_oql.proofs.Rows.{SoFar}
-use Rattle.gr_oql.proofs.conditions.+conditions.Given as goal
+use Rattle.gr_oql.proofs.cursor.TokenCursor.+conditions.Given as goal
 
 abbrev pub decreases-part : goal.decreases-part
 decreases-part l = 4 * l.depth
@@ -20,14 +20,14 @@ abbrev pub decreases-all : goal.decreases-all
 decreases-all l = 4 * l.depth + 1
 
 abbrev pub invariant-all-parts : goal.invariant-all-parts
-invariant-all-parts l = SoFar (is_keyword word.And) (part_at (alias_of l.alias) l.depth) l.fn.cursor (map tree_of l.parts.items) l.cursor
+invariant-all-parts l = SoFar (is_keyword word.And) (part_at (alias_of l.alias) l.depth) l.fn.self (map tree_of l.parts.items) l.self
 
 abbrev pub decreases-all-parts : goal.decreases-all-parts
-decreases-all-parts l = length l.cursor
+decreases-all-parts l = length l.self
 
 abbrev pub invariant-any-parts : goal.invariant-any-parts
-invariant-any-parts l = SoFar (is_keyword word.Or) (all_at (part_at (alias_of l.alias) l.depth)) l.fn.cursor
-    (map tree_of l.parts.items) l.cursor
+invariant-any-parts l = SoFar (is_keyword word.Or) (all_at (part_at (alias_of l.alias) l.depth)) l.fn.self
+    (map tree_of l.parts.items) l.self
 
 abbrev pub decreases-any-parts : goal.decreases-any-parts
-decreases-any-parts l = length l.cursor
+decreases-any-parts l = length l.self
