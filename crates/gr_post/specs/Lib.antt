@@ -1,0 +1,4 @@
+pub mod Mails
+pub mod Views
+pub mod Rule
+pub mod Passes
