@@ -1,4 +1,5 @@
-ghost use Rattle.std.specs.Prelude.{◌≡◌, ◌==◌, ◌≤◌, ◌+◌, [], ◌∷◌, ◌++◌, length, IsOk, IfOk, OnOk, OnErr, option_copied, slice_get, count_by};
+ghost use Rattle.std.specs.Prelude.{◌≡◌, ◌==◌, ◌≤◌, ◌+◌, [], ◌∷◌, ◌++◌, length};
+ghost use Rattle.std.specs.Prelude.{IsOk, IfOk, OnOk, OnErr, option_copied, slice_get, count_by};
 ghost use Rattle.gr_history.specs.Deeds.{is_of_client, is_discarded, is_repeat};
 
 use crate::Deed;

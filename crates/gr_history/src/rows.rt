@@ -10,7 +10,8 @@ ghost use Rattle.gr_history.specs.Floor.{floor};
 ghost use Rattle.gr_history.specs.Ids.{known};
 ghost use Rattle.gr_history.specs.Lawful.{IsLawful};
 ghost use Rattle.gr_history.specs.Recipients.{recipients};
-ghost use Rattle.gr_history.specs.Rows.{member_in, one_key, some_value, id_number, last_put, second_report, first_early, first_swept, first_whole, second_swept, second_whole};
+ghost use Rattle.gr_history.specs.Rows.{member_in, one_key, some_value, id_number, last_put, second_report, first_early, first_swept};
+ghost use Rattle.gr_history.specs.Rows.{first_whole, second_swept, second_whole};
 ghost use Rattle.gr_history.specs.Stable.{due, last_heard};
 ghost use Rattle.gr_history.specs.Standing.{standing, present};
 

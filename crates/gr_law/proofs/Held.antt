@@ -124,13 +124,8 @@ founder_orderly grid me (deed ∷ past) le own late = (
 )
   where
     at_deed : (d : Deed) → IsGenuineDeed grid me d → IsOrderlyDeed grid d past
-    at_deed (Call client seq ask reply one to) own = tt
-    at_deed (Taken c how) own = tt
-    at_deed (Gave to what) own = tt
     at_deed (Imaged image) own = absurd (omega (arith, le, own.0))
-    at_deed (Reported report) own = tt
-    at_deed (Heard report) own = tt
-    at_deed (Swept moment named) own = tt
+    at_deed d own = tt
 
 giver_settled : (grid : Grid) → IsSound grid → (me : ℕ) (image : Image) → IsGift grid me image → IsLate (giver_of grid image)
     → (key : List ℕ)

@@ -219,13 +219,8 @@ founder_carried grid me [] le own = tt
 founder_carried grid me (deed ∷ past) le own = (at_deed deed own.0, founder_carried grid me past le own.1)
   where
     at_deed : (d : Deed) → IsGenuineDeed grid me d → IsCarriedDeed grid d
-    at_deed (Call client seq ask reply own_ to) own = tt
-    at_deed (Taken change how) own = tt
-    at_deed (Gave to what) own = tt
     at_deed (Imaged image) own = absurd (omega (arith, le, own.0))
-    at_deed (Reported report) own = tt
-    at_deed (Heard report) own = tt
-    at_deed (Swept moment named) own = tt
+    at_deed d own = tt
 
 -- What a founder gave.
 gift_carried : (grid : Grid) → IsSound grid → (me : ℕ) (image : Image) → IsGift grid me image → IsCarried grid image

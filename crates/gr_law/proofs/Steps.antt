@@ -9,6 +9,7 @@ use Rattle.gr_history.specs.Regions.{keys_of}
 use Rattle.gr_stamp.specs.declared.change.Change.{Change}
 use Rattle.gr_stamp.specs.Version.{beats}
 use Rattle.gr_history.specs.declared.image.Image.{Image}
+use Rattle.gr_history.specs.declared.verdict.Verdict.{Verdict}
 use Rattle.gr_history.specs.declared.verdict.Verdict.TheVariants.{Applied, Discarded, Repeat}
 use Rattle.gr_history.specs.declared.deed.Deed.{Deed}
 use Rattle.gr_history.specs.declared.deed.Deed.TheVariants.{Call, Taken, Imaged, Swept}
@@ -82,19 +83,11 @@ not_isnt : (b : Bool) → not b ≡ true → b ≡ false
 not_isnt true h = absurd (true_isnt_false (sym h))
 not_isnt false h = refl
 
-applied_new : (known : Bool) (held : Option Change) (change : Change) → Applied ≡ verdict_over known held change → known ≡ false
-applied_new true held change h = absurd (no h)
-  where
-    no : Applied ≡ Repeat → ⊥
-    no e = cc
-applied_new false held change h = refl
-
-discarded_new : (known : Bool) (held : Option Change) (change : Change) → Discarded ≡ verdict_over known held change → known ≡ false
-discarded_new true held change h = absurd (no h)
-  where
-    no : Discarded ≡ Repeat → ⊥
-    no e = cc
-discarded_new false held change h = refl
+-- what was told of a change was told of a new one, unless it is a repeat
+new_told : (told : Verdict) → (told ≡ Repeat → ⊥) → (known : Bool) (held : Option Change) (change : Change)
+    → told ≡ verdict_over known held change → known ≡ false
+new_told told other true held change h = absurd (other h)
+new_told told other false held change h = refl
 
 pub repeat_known : (known : Bool) (held : Option Change) (change : Change) → Repeat ≡ verdict_over known held change → known ≡ true
 repeat_known true held change h = refl
@@ -119,9 +112,9 @@ came_fresh id opening (Call client seq ask reply own to) past law change a =
           (subst (λ m. has_id (record { member = m; rv = change.stamp.rv }) (ids past) ≡ true) s.member_is has),
       s.rv_is,
     ))
-came_fresh id opening (Taken c Applied) past law change (inl is) = rw is (applied_new _ _ c law)
+came_fresh id opening (Taken c Applied) past law change (inl is) = rw is (new_told Applied (λ e. cc) _ _ c law)
 came_fresh id opening (Taken c Applied) past law change (inr a) = absurd a
-came_fresh id opening (Taken c Discarded) past law change (inl is) = rw is (discarded_new _ _ c law)
+came_fresh id opening (Taken c Discarded) past law change (inl is) = rw is (new_told Discarded (λ e. cc) _ _ c law)
 came_fresh id opening (Taken c Discarded) past law change (inr a) = absurd a
 came_fresh id opening (Imaged image) past law change a =
     not_isnt _ (among_filter (λ row. not (has_id (id_of row) (ids past))) change image.rows a).1

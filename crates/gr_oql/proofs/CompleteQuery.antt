@@ -65,24 +65,11 @@ relation_complete ts relation.Less left f = reads_relation symbols.Less relation
 relation_complete ts relation.LessOrEqual left f = reads_relation symbols.LessEqual relation.LessOrEqual ts left f
     (λ t is no. rw (no symbols.Equal refl, no symbols.Angles refl, no symbols.BangEqual refl, no symbols.Less refl, is) refl)
 relation_complete ts relation.Greater left f = reads_relation symbols.Greater relation.Greater ts left f
-    (λ t is no. rw (
-      no symbols.Equal refl,
-      no symbols.Angles refl,
-      no symbols.BangEqual refl,
-      no symbols.Less refl,
-      no symbols.LessEqual refl,
-      is,
-    ) refl)
+    (λ t is no. rw (no symbols.Equal refl, no symbols.Angles refl, no symbols.BangEqual refl)
+    (rw (no symbols.Less refl, no symbols.LessEqual refl, is) refl))
 relation_complete ts relation.GreaterOrEqual left f = reads_relation symbols.GreaterEqual relation.GreaterOrEqual ts left f
-    (λ t is no. rw (
-      no symbols.Equal refl,
-      no symbols.Angles refl,
-      no symbols.BangEqual refl,
-      no symbols.Less refl,
-      no symbols.LessEqual refl,
-      no symbols.Greater refl,
-      is,
-    ) refl)
+    (λ t is no. rw (no symbols.Equal refl, no symbols.Angles refl, no symbols.BangEqual refl)
+    (rw (no symbols.Less refl, no symbols.LessEqual refl, no symbols.Greater refl, is) refl))
 
 -- Nothing but an operand, a test or a condition of another sort begins with these.
 pub record Plain (ts : List Terminal) : Type 0 where

@@ -3,7 +3,7 @@ use Rattle.std.proofs.Common.{◌≡◌, ℕ, zero, suc, ◌≤◌, List, [], �
 use Rattle.std.proofs.Common.{append-nil, append_assoc}
 use Rattle.gr_oql.specs.Terminals.{Terminal, begins, rest}
 use Rattle.gr_oql.specs.Reader.Reading.{Reading, read_as, more_at, separated_at}
-use Rattle.gr_oql.specs.Reader.Gives.{Stops}
+use Rattle.gr_oql.specs.Reader.Gives.{Stops, Reads, Passes}
 use Rattle.gr_oql.specs.declared.halt.Wrong.{Wrong}
 use Rattle.gr_oql.specs.declared.halt.Halt.{Halt}
 use Rattle.gr_oql.specs.declared.halt.Halt.TheVariants as stops
@@ -16,6 +16,14 @@ read_as_twice f g (Err e) = refl
 read_as_same : {A B : Type 0} (f g : A → B) → ((x : A) → f x ≡ g x) → (read : Reading A) → read_as f read ≡ read_as g read
 read_as_same f g same (Ok x) = ap (λ y. Ok (y, x.1)) (same x.0)
 read_as_same f g same (Err e) = refl
+
+module _ {A B : Type 0} (make : A → B) where
+  pub made : (read : Reading A) (x : A) (left : List Terminal) → read ≡ Ok (x, left) → read_as make read ≡ Ok (make x, left)
+  made read x left is = rw is refl
+
+  pub made_stops : (stop : Halt) (left : List Terminal) (read : Reading A) → Stops stop left read → Stops stop left (read_as make read)
+  made_stops stops.Memory left read is = tt
+  made_stops (stops.Wrong wrong) left read is = rw is refl
 
 module _ {A : Type 0} (separator : Terminal → Bool) (item : List Terminal → Reading A) where
   -- the items so far, and those that come
@@ -103,3 +111,28 @@ module _ {A : Type 0} (separator : Terminal → Bool) (item : List Terminal → 
       → Stops stop after (separated_at separator item start)
   stops_first start after stops.Memory read = tt
   stops_first start after (stops.Wrong wrong) read = broken_first start (wrong, after) read
+
+  -- what a loop over the items tells of them, where the cursor stood behind the items found so far
+  module _ {X : Type 0} (view : X → A) (start left next : List Terminal) (found : List A) where
+    pub row_grows : (after : List Terminal) (x : X) (longer : List A) → SoFar start found left → Passes separator true left next
+        → Reads view (Ok x) next after (item next) → longer ≡ found ++ view x ∷ [] → SoFar start longer after
+    row_grows after x longer so_far passes read is =
+        stepped start left next after (view x) found longer so_far (sym passes.test) passes.after read.exact read.within is
+
+    pub row_stops : {Y B : Type 0} (seen : Y → B) (make : List A → B) (after : List Terminal) (stop : Halt) → SoFar start found left
+        → Passes separator true left next → Reads view (Err stop) next after (item next)
+        → Reads seen (Err stop) start after (read_as make (separated_at separator item start))
+    row_stops seen make after stop so_far passes read = record {
+      exact = made_stops make stop after _
+          (stops_within start left next after found stop so_far (sym passes.test) passes.after read.exact);
+      within = omega (arith, so_far.within, passes.within, read.within);
+    }
+
+  pub row_ends : {Y B : Type 0} (seen : Y → B) (make : List A → B) (start left next : List Terminal) (found : List A) (y : Y)
+      → SoFar start found left → Passes separator false left next → seen y ≡ make found
+      → Reads seen (Ok y) start next (read_as make (separated_at separator item start))
+  row_ends seen make start left next found y so_far passes is = record {
+    exact = made make _ found left (finished start left found so_far (sym passes.test))
+        ∙ ap (λ z. Ok (z, left)) (sym is) ∙ ap (λ l. Ok (seen y, l)) (sym passes.after);
+    within = omega (arith, so_far.within, passes.within);
+  }

@@ -31,11 +31,3 @@ pushed parts longer c is = ap (map tree_of) is ∙ map_push tree_of parts c
 pub first_pushed : (parts longer : List Condition) (c : Condition) → parts ≡ [] → longer ≡ parts ++ c ∷ []
     → map tree_of longer ≡ tree_of c ∷ []
 first_pushed parts longer c none is = ap (map tree_of) (is ∙ ap (λ (l : List Condition). l ++ c ∷ []) none)
-
-module _ {A B : Type 0} (make : A → B) where
-  pub made : (read : Reading A) (x : A) (left : List Terminal) → read ≡ Ok (x, left) → read_as make read ≡ Ok (make x, left)
-  made read x left is = rw is refl
-
-  pub made_stops : (stop : Halt) (left : List Terminal) (read : Reading A) → Stops stop left read → Stops stop left (read_as make read)
-  made_stops stops.Memory left read is = tt
-  made_stops (stops.Wrong wrong) left read is = rw is refl

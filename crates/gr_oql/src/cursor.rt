@@ -2,7 +2,8 @@ ghost use Rattle.std.specs.Prelude.{◌≡◌, ◌≤◌, length, if◌then◌el
 ghost use Rattle.gr_oql.specs.Reader.Lexemes.{terminals};
 ghost use Rattle.gr_oql.specs.Reader.Gives.{Passes};
 ghost use Rattle.gr_oql.specs.Reader.Names.{AreNamed, HasWordBytes};
-ghost use Rattle.gr_oql.specs.Terminals.{symbol_eq, is_symbol, is_keyword, begins, front, rest, as_name, as_word, as_number, as_quoted, undoubled};
+ghost use Rattle.gr_oql.specs.Terminals.{symbol_eq, is_symbol, is_keyword, begins, front, rest};
+ghost use Rattle.gr_oql.specs.Terminals.{as_name, as_word, as_number, as_quoted, undoubled};
 
 use crate::keyword::Keyword;
 use crate::lexeme::Lexeme;

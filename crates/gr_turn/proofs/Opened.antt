@@ -138,18 +138,18 @@ module _ {T E B : Type 0} (entries : T → List E) (base_of : T → B) where
     base = o.base;
     seats = o.seats;
     opening = o.opening;
+    started = g.started;
     dealt = dealt;
+    few = g.few;
+    places = g.places;
+    numbers = g.numbers;
     out = out;
-    holder = holder;
-    root = o.root;
     word = g.word;
     slot = g.slot;
     home = g.home;
+    holder = holder;
     taken = g.taken;
-    started = g.started;
-    few = g.few;
+    root = o.root;
     sound = g.sound;
     each = g.each;
-    places = g.places;
-    numbers = g.numbers;
   }

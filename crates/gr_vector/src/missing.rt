@@ -1,7 +1,9 @@
-ghost use Rattle.std.specs.Prelude.{◌≡◌, ◌==◌, ◌≤◌, ◌<◌, ◌+◌, ◌++◌, ℕ, false, true, not, ◌||◌, length, IsOk, IfOk, IfSome, OnOk, OnErr, MatchOption, vec_len, vec_capacity, ◌-◌};
+ghost use Rattle.std.specs.Prelude.{◌≡◌, ◌==◌, ◌≤◌, ◌<◌, ◌+◌, ◌++◌, ℕ, false, true, not, ◌||◌, length, IsOk, IfOk, IfSome, OnOk, OnErr};
+ghost use Rattle.std.specs.Prelude.{MatchOption, vec_len, vec_capacity, ◌-◌};
 ghost use Rattle.std.specs.List.{HoldsAt};
 ghost use Rattle.gr_vector.specs.declared.gap.TheConstants.{END};
-ghost use Rattle.gr_vector.specs.Gaps.{is_in, is_missing, AreApart, AreGaps, greatest, holds, holds_upto, ends_upto, without, overlap, common};
+ghost use Rattle.gr_vector.specs.Gaps.{is_in, is_missing, AreApart, AreGaps, greatest, holds};
+ghost use Rattle.gr_vector.specs.Gaps.{holds_upto, ends_upto, without, overlap, common};
 
 use crate::gap::{END, Gap};
 use gr_value::Memory;
