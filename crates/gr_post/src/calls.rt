@@ -49,6 +49,7 @@ impl Inbox {
         ensures sent { IfOk result (λ _. pass.new ≡ sent_by pass.old mail) }
         ensures back { IfErr result (λ full. full.mail ≡ mail) }
         ensures refused { IfErr result (λ _. (pass.new ≡ refused_by pass.old) × Rose pass.old.refused pass.new.refused) }
+        ensures never_falls { pass.old.refused ≤ pass.new.refused }
         ensures full { IfErr result (λ _. Held self.now.capacity (λ mails. EndsWith pass.old.sent (of pass.old.number mails))) }
     {
         let posted = Posted {

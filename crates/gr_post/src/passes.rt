@@ -114,6 +114,12 @@ impl SendPassList {
         self.passes.get(place)
     }
 
+    pub(crate) fn into_vec(self) -> Vec<SendPass>
+        ensures { result.items ≡ self }
+    {
+        self.passes
+    }
+
     /// Takes the last pass out.
     pub fn pop(&mut self) -> Option<SendPass>
         ensures pass { self.old ≡ self.new ++ option_to_list result }
