@@ -25,6 +25,7 @@ use Rattle.gr_history.specs.Recipients.{recipients}
 use Rattle.gr_history.specs.Standing.{standing}
 use Rattle.gr_history.specs.Verdicts.{verdict, verdict_over}
 use Rattle.gr_history.specs.Calls.{call_gives, ver_of, reach, last_rv}
+use Rattle.gr_stable.proofs.Counting.{heard_next}
 use Rattle.gr_shard.specs.Entries.{with_change, with_made, applied}
 use Rattle.gr_shard.specs.View.{IsKept, Kept}
 use Rattle.gr_shard.proofs.Made.{IsMade, made_by_call}
@@ -131,6 +132,7 @@ module _ (id : Identity) (opening : ℕ) (now : Kept) (past : List Deed) where
     clocked = kept.clocked;
     imaged = kept.imaged;
     aimed = kept.aimed;
+    told = kept.told ∙ sym (heard_next (Call client seq ask reply None to) past);
   }
   kept_called client seq ask reply (Some change) to kept here gives =
       let is = made_by_call id opening past ask reply change to gives in
@@ -147,6 +149,7 @@ module _ (id : Identity) (opening : ℕ) (now : Kept) (past : List Deed) where
         clocked = kept.clocked;
         imaged = kept.imaged;
         aimed = kept.aimed;
+        told = kept.told ∙ sym (heard_next (Call client seq ask reply (Some change) to) past);
       }
 
   -- Kept before a change is taken in, all is kept after it.
@@ -168,4 +171,5 @@ module _ (id : Identity) (opening : ℕ) (now : Kept) (past : List Deed) where
     clocked = kept.clocked;
     imaged = kept.imaged;
     aimed = kept.aimed;
+    told = kept.told ∙ sym (heard_next (Taken change told) past);
   }

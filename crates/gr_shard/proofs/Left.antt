@@ -114,12 +114,19 @@ found_stands past (key ∷ keys) = at_standing (standing key past) refl (found_s
         rw e (ap (λ k. record { key = k; kind = change.kind; stamp = change.stamp } ∷ changes_in (found_at find keys)) (sym same)
         ∙ ap (λ changes. change ∷ changes) rest)
 
+-- The slots are those that the history has at the keys of its changes.
+pub slots-kept : (id : Identity) (opening : ℕ) (now : Kept) (past : List Deed) → IsKept id opening now past
+    → IsStrictlySortedBy (slice_cmp nat_cmp) (keys_in now.slots)
+    → now.slots ≡ found_at (λ key. slot_of (standing key past) (since key past)) (keys_of (changes past))
+slots-kept id opening now past kept ordered =
+    tabulated (slice_cmp nat_cmp) total same_key now.slots (keys_of (changes past))
+    (λ key. slot_of (standing key past) (since key past)) ordered (keys_of-sorted (changes past)) kept.stands
+    (slot_stands past)
+
 pub changes_in-kept : (id : Identity) (opening : ℕ) (now : Kept) (past : List Deed) → IsKept id opening now past
     → IsStrictlySortedBy (slice_cmp nat_cmp) (keys_in now.slots) → changes_in now.slots ≡ all_standing past
 changes_in-kept id opening now past kept ordered =
-    ap changes_in (tabulated (slice_cmp nat_cmp) total same_key now.slots (keys_of (changes past))
-    (λ key. slot_of (standing key past) (since key past)) ordered (keys_of-sorted (changes past)) kept.stands
-    (slot_stands past))
+    ap changes_in (slots-kept id opening now past kept ordered)
     ∙ found_stands past (keys_of (changes past))
 
 pub region-kept : (id : Identity) (opening : ℕ) (now : Kept) (past : List Deed) → IsKept id opening now past

@@ -30,7 +30,7 @@ same_slot None now before = refl
 same_slot (Some change) now before = rw (same_stamp change) refl
 
 -- Nothing changes at a key where the same stands.
-unchanged : (key : List ℕ) (deed : Deed) (past : List Deed) → standing key (deed ∷ past) ≡ standing key past
+pub unchanged : (key : List ℕ) (deed : Deed) (past : List Deed) → standing key (deed ∷ past) ≡ standing key past
     → slot_of (standing key (deed ∷ past)) (since key (deed ∷ past)) ≡ slot_of (standing key past) (since key past)
 unchanged key deed past same =
     ap (λ stands. slot_of stands (if is_same_standing stands (standing key past) then since key past else clock past)) same

@@ -11,6 +11,7 @@ use Rattle.gr_history.specs.Clock.{clock as clock_of, since}
 use Rattle.gr_history.specs.Recipients.{has_image, recipients}
 use Rattle.gr_history.specs.Lawful.{IsLawful, IsOfShard}
 use Rattle.gr_slots.specs.Slots.{Entries, slot_at}
+use Rattle.gr_stable.specs.Heard.{Reports, heard}
 use Rattle.gr_shard.specs.Entries.{slot_of}
 
 -- whose shard it is, the floor that it began with, and its deeds, the oldest first
@@ -39,15 +40,18 @@ pub record Kept : Type 0 where
   pub joined : Bool
   -- the members that a change goes to
   pub to : ℕ
+  -- of each member the report that counts
+  pub heard : Reports
 
-abbrev pub kept : Entries → List Id → ℕ → ℕ → Bool → ℕ → Kept
-kept slots vector floor clock joined to = record {
+abbrev pub kept : Entries → List Id → ℕ → ℕ → Bool → ℕ → Reports → Kept
+kept slots vector floor clock joined to heard = record {
   slots = slots;
   vector = vector;
   floor = floor;
   clock = clock;
   joined = joined;
   to = to;
+  heard = heard;
 }
 
 -- What is kept is what the history says, which is lawful and of this shard's keys.
@@ -63,3 +67,4 @@ pub record IsKept (id : Identity) (opening : ℕ) (now : Kept) (past : List Deed
   pub clocked : now.clock ≡ clock_of past
   pub imaged : now.joined ≡ has_image past
   pub aimed : now.to ≡ recipients id past
+  pub told : now.heard ≡ heard past

@@ -5,6 +5,7 @@ mod entering;
 mod making;
 mod regions;
 mod shard;
+mod sweeping;
 #[cfg(test)]
 mod tests;
 mod told;

@@ -1,5 +1,5 @@
-ghost use Rattle.std.specs.Prelude.{◌≡◌, ◌≤◌, ◌<◌, ◌==◌, [], ◌∷◌, ◌++◌, reverse, max, Some, IfOk, OnOk, OnErr, option_copied};
-ghost use Rattle.std.specs.Prelude.{option_and_then, nat_le, List, ℕ};
+ghost use Rattle.std.specs.Prelude.{◌≡◌, ◌≤◌, ◌<◌, ◌==◌, [], ◌∷◌, ◌++◌, reverse, max, Some, IfOk, OnOk, OnErr, option_copied, length};
+ghost use Rattle.std.specs.Prelude.{option_and_then, nat_le, filter, List, ℕ};
 ghost use Rattle.gr_value.specs.Shard.{shard_of};
 ghost use Rattle.gr_history.specs.declared.deed.Deed.TheVariants as deed;
 ghost use Rattle.gr_slots.specs.Slots.{slot_at};
@@ -12,20 +12,25 @@ ghost use Rattle.gr_history.specs.Floor.{floor};
 ghost use Rattle.gr_history.specs.Clock.{since};
 ghost use Rattle.gr_history.specs.Verdicts.{verdict};
 ghost use Rattle.gr_history.specs.Recipients.{is_ready};
+ghost use Rattle.gr_history.specs.Gifts.{IsReportOf};
 ghost use Rattle.gr_stamp.specs.Winner.{put_value};
 ghost use Rattle.gr_shard.specs.Entries.{slot_of, slot_ver};
+ghost use Rattle.gr_history.specs.Stable.{due};
 ghost use Rattle.gr_shard.specs.Records.{IsRecordOf};
+ghost use Rattle.gr_shard.specs.Sweeps.{stands_stable};
 ghost use Rattle.gr_shard.specs.View.{IsPlace};
 
 use crate::entering::{applied, enter, value_of, ver_of, verdict_at};
 use crate::making::{deed_of, note, nothing_made, recipients};
 use crate::regions::region;
+use crate::sweeping::{drop_all, risen};
 use crate::told::tells;
 use gr_history::{Ask, Deed, Done, History, Identity, Reply, ShardRecord, Told, Verdict};
 use gr_slots::{Slot, Slots};
+use gr_stable::Heard;
 use gr_stamp::{Change, Kind, LIMIT, Stamp};
-use gr_value::{Copied, Key, Memory, Value};
-use gr_vector::Vector;
+use gr_value::{Copied, Key, KeyList, Memory, Value};
+use gr_vector::{Report, SharedVector, Vector};
 use std::alloc::Global;
 use std::marker::Model;
 
@@ -40,6 +45,7 @@ pub struct Shard {
     to: u8,
     slots: Slots,
     vector: Vector,
+    heard: Heard,
     history: History,
 }
 
@@ -51,8 +57,8 @@ impl Model for Shard {
 
     ghost view = { λ shard. record { id = shard.id; opening = shard.opening; deeds = shard.history.deeds } };
 
-    ghost invariant = { λ shard. IsKept shard.id shard.opening (kept shard.slots shard.vector.ids shard.floor shard.clock shard.joined shard.to)
-        (reverse shard.history.deeds) };
+    ghost invariant = { λ shard. IsKept shard.id shard.opening (kept shard.slots shard.vector.ids shard.floor shard.clock shard.joined shard.to
+        shard.heard) (reverse shard.history.deeds) };
 }
 
 impl Shard {
@@ -70,6 +76,7 @@ impl Shard {
             to: recipients(id),
             slots: Slots::new(alloc),
             vector: Vector::new(alloc)?,
+            heard: Heard::new(alloc)?,
             history: History::new(alloc)?,
         })
     }
@@ -115,6 +122,64 @@ impl Shard {
         note(&mut self.vector, Some(change));
         let _ = self.history.push(deed);
         Ok(verdict)
+    }
+
+    /// Says what this member knows of the shard, and adds that to the history.
+    pub fn report(&mut self, alloc: Global) -> Result<Report, Memory>
+        ensures report { IfOk result (IsReportOf self.old.id.member (reverse self.old.deeds)) }
+        ensures room { IfOk result (λ report. report.vector.spare ≡ 0) }
+        ensures added { IfOk result (λ report. self.new ≡ record self.old { deeds = self.old.deeds ++ deed.Reported report ∷ [] }) }
+        ensures err { OnErr result (self.new ≡ self.old) }
+    {
+        let report = Report {
+            member: self.id.member,
+            at: self.history.len(),
+            own: self.vector.top(self.id.member),
+            vector: SharedVector::new(alloc, self.vector.copy(alloc)?)?,
+        };
+        let deed = Deed::Reported {
+            report: report.copy(alloc)?,
+        };
+        self.history.reserve(1)?;
+        let _ = self.history.push(deed);
+        Ok(report)
+    }
+
+    /// Hears a report that another member made of this shard, and adds that to the history.
+    pub fn hear(&mut self, alloc: Global, report: &Report) -> Result<(), Memory>
+        ensures added { OnOk result (self.new ≡ record self.old { deeds = self.old.deeds ++ deed.Heard report.now ∷ [] }) }
+        ensures err { OnErr result (self.new ≡ self.old) }
+    {
+        let deed = Deed::Heard {
+            report: report.copy(alloc)?,
+        };
+        self.history.reserve(1)?;
+        self.heard.hear(alloc, report)?;
+        let _ = self.history.push(deed);
+        Ok(())
+    }
+
+    /// Drops the tombstones that have timed out at a moment, in seconds, or at the greatest moment so
+    /// far, and are stable. Adds that to the history, and answers how many they are.
+    pub fn sweep(&mut self, alloc: Global, moment: u64) -> Result<u64, Memory>
+        ensures expired { IfOk result (λ count. count ≡ length (due self.old.id moment (reverse self.old.deeds))) }
+        ensures added { OnOk result
+            (self.new ≡ record self.old {
+              deeds = self.old.deeds
+                  ++ deed.Swept moment (due self.old.id moment (reverse self.old.deeds)) ∷ [];
+            }) }
+        ensures err { OnErr result (self.new ≡ self.old) }
+    {
+        let clock = moment.max(self.clock);
+        let timed_out = self.slots.timed_out(alloc, clock)?;
+        let expired = self.stable_among(alloc, timed_out.as_slice())?;
+        self.history.reserve(1)?;
+        self.floor = risen(&self.slots, self.floor, expired.as_slice());
+        drop_all(&mut self.slots, expired.as_slice());
+        self.clock = clock;
+        let count = expired.len() as u64;
+        let _ = self.history.push(Deed::Swept { moment, expired });
+        Ok(count)
     }
 
     /// Whether calls are answered here.
@@ -198,6 +263,37 @@ impl Shard {
             None => Ok(nothing_made(reply)),
             Some(kind) => self.makes(alloc, ask.key(), ver_of(held), reply, kind),
         }
+    }
+
+    // Those of the keys at which what stands is stable.
+    fn stable_among(&self, alloc: Global, keys: &[Key]) -> Result<KeyList, Memory>
+        ensures { IfOk result
+            (λ stable. stable
+            ≡ filter (λ key. stands_stable self.now.id (reverse self.now.deeds) (standing key (reverse self.now.deeds))) keys.now) }
+    {
+        let mut stable = KeyList::new(alloc)?;
+        for key in keys {
+            if self.is_stable(key) {
+                stable.push(key.copy(alloc)?)?;
+            }
+        }
+        Ok(stable)
+    }
+
+    // Whether what stands at the key is stable.
+    fn is_stable(&self, key: &Key) -> bool
+        ensures { result ≡ stands_stable self.now.id (reverse self.now.deeds) (standing key.now (reverse self.now.deeds)) }
+    {
+        let Some(slot) = self.find(key) else {
+            return false;
+        };
+        let Identity {
+            member,
+            members,
+            ..
+        } = self.id;
+        self.heard
+            .stable(&slot.stamp, member, members, &self.vector)
     }
 
     // What becomes of a change that is taken in now.

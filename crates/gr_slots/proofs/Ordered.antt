@@ -18,7 +18,7 @@ use Rattle.std.proofs.lemmas.Map.Keys.{sorted_tail, IsDistinct-from_sorted}
 abbrev pub found_at : {K X : Type 0} → (K → Option X) → List K → List (K × X)
 found_at find ks = filter_map (λ k. option_map (λ x. (k, x)) (find k)) ks
 
-is_equal : (o : Ordering) → is_eq o ≡ true → o ≡ Equal
+pub is_equal : (o : Ordering) → is_eq o ≡ true → o ≡ Equal
 is_equal Less e = absurd cc
 is_equal Equal e = refl
 is_equal Greater e = absurd cc

@@ -1,0 +1,49 @@
+-- What a shard keeps stays tied to its history by a report that it makes, and by one that it hears.
+use Rattle.std.proofs.Common.{◌∙◌, ap, sym, refl, ℕ, List, ◌∷◌}
+use Rattle.gr_vector.specs.declared.report.Report.{Report}
+use Rattle.gr_history.specs.declared.identity.Identity.{Identity}
+use Rattle.gr_history.specs.declared.deed.Deed.{Deed}
+use Rattle.gr_history.specs.declared.deed.Deed.TheVariants.{Reported, Heard}
+use Rattle.gr_history.specs.Gifts.{IsReportOf}
+use Rattle.gr_history.specs.Recipients.{recipients}
+use Rattle.gr_stable.specs.Heard.{with_report}
+use Rattle.gr_stable.proofs.Counting.{heard_next}
+use Rattle.gr_shard.specs.View.{IsKept, Kept}
+use Rattle.gr_shard.proofs.Slots.{stands_unchanged}
+
+module _ (id : Identity) (opening : ℕ) (now : Kept) (past : List Deed) where
+  pub kept_reported : (report : Report) → IsKept id opening now past → IsReportOf id.member past report
+      → IsKept id opening now (Reported report ∷ past)
+  unfolding recipients
+  kept_reported report kept is = record {
+    place = kept.place;
+    lawful = (is, kept.lawful);
+    of_shard = kept.of_shard;
+    stands = stands_unchanged now.slots (Reported report) past (λ key. refl) kept.stands;
+    noted = kept.noted;
+    within = kept.within;
+    floored = kept.floored;
+    low = kept.low;
+    clocked = kept.clocked;
+    imaged = kept.imaged;
+    aimed = kept.aimed;
+    told = kept.told ∙ sym (heard_next (Reported report) past);
+  }
+
+  pub kept_heard : (report : Report) → IsKept id opening now past
+      → IsKept id opening (record now { heard = with_report report now.heard }) (Heard report ∷ past)
+  unfolding recipients
+  kept_heard report kept = record {
+    place = kept.place;
+    lawful = (tt, kept.lawful);
+    of_shard = kept.of_shard;
+    stands = stands_unchanged now.slots (Heard report) past (λ key. refl) kept.stands;
+    noted = kept.noted;
+    within = kept.within;
+    floored = kept.floored;
+    low = kept.low;
+    clocked = kept.clocked;
+    imaged = kept.imaged;
+    aimed = kept.aimed;
+    told = ap (with_report report) kept.told ∙ sym (heard_next (Heard report) past);
+  }

@@ -1,0 +1,29 @@
+ghost use Rattle.std.specs.Prelude.{◌≡◌, ◌≤◌};
+ghost use Rattle.gr_stamp.specs.declared.stamp.TheConstants.{LIMIT};
+ghost use Rattle.gr_shard.specs.Sweeps.{without_all, risen};
+
+use crate::entering::ver_of;
+use gr_slots::Slots;
+use gr_value::Key;
+
+/// Drops the slots of the keys.
+pub fn drop_all(slots: &mut Slots, keys: &[Key])
+    ensures { slots.new ≡ without_all keys.now slots.old }
+{
+    for key in keys {
+        slots.drop_slot(key);
+    }
+}
+
+/// The floor, risen to the versions of what stands at the keys.
+pub fn risen(slots: &Slots, floor: u64, keys: &[Key]) -> u64
+    requires { floor ≤ LIMIT }
+    ensures risen { result ≡ risen slots.now floor keys.now }
+    ensures within { result ≤ LIMIT }
+{
+    let mut risen = floor;
+    for key in keys {
+        risen = risen.max(ver_of(slots.find(key)));
+    }
+    risen
+}

@@ -1,0 +1,105 @@
+ghost use Rattle.std.specs.Prelude.{◌≡◌, [], IfOk, OnOk, option_copied, reverse};
+ghost use Rattle.gr_shard.specs.View.{IsPlace};
+ghost use Rattle.gr_world.specs.Doings.{Calls, Reports, call_with};
+ghost use Rattle.gr_world.specs.Named.{numbered, reports};
+ghost use Rattle.gr_world.specs.Tasks.{BelongsTo, doing_of};
+ghost use Rattle.gr_world.specs.Worlds.{deed_at, longer};
+
+use crate::task::Task;
+use gr_history::{Ask, Done, Identity};
+use gr_shard::Shard;
+use gr_value::Memory;
+use gr_vector::Report;
+use std::alloc::Global;
+use std::marker::Model;
+
+/// A member's shard, with the reports that were made there, the oldest first.
+#[derive(Drop)]
+pub struct Cell {
+    shard: Shard,
+    reports: Vec<Report>,
+}
+
+impl Model for Cell {
+    ghost use Rattle.std.specs.Prelude.{◌≡◌, reverse};
+    ghost use Rattle.gr_shard.specs.View.{Account};
+    ghost use Rattle.gr_world.specs.Named.{reports};
+
+    ghost Value = { Account };
+
+    ghost view = { λ cell. cell.shard };
+
+    ghost invariant = { λ cell. cell.reports.items ≡ reverse (reports (reverse cell.shard.deeds)) };
+}
+
+impl Cell {
+    pub fn new(alloc: Global, id: Identity, floor: u64) -> Result<Cell, Memory>
+        requires { IsPlace id floor }
+        ensures { IfOk result (λ cell. cell ≡ record { id = id; opening = floor; deeds = [] }) }
+    {
+        Ok(Cell {
+            shard: Shard::new(alloc, id, floor)?,
+            reports: Vec::new(alloc),
+        })
+    }
+
+    pub fn shard(&self) -> &Shard
+        ensures { result.now ≡ self.now }
+    {
+        &self.shard
+    }
+
+    pub fn into_shard(self) -> Shard
+        ensures { result ≡ self }
+    {
+        self.shard
+    }
+
+    /// The report of a number, counted from 1 at the oldest.
+    pub fn reported(&self, number: u32) -> Option<&Report>
+        ensures { option_copied result ≡ numbered number (reports (reverse self.now.deeds)) }
+    {
+        if number == 0 {
+            return None;
+        }
+        self.reports.get(number as usize - 1)
+    }
+
+    pub fn call(&mut self, alloc: Global, client: u8, seq: u32, ask: &Ask) -> Result<Done, Memory>
+        requires { BelongsTo self.old (Calls client seq ask.now) }
+        ensures given { IfOk result
+            (λ done. call_with client seq ask.now done ≡ deed_at self.old (Calls client seq ask.now)) }
+        ensures added { IfOk result (λ done. self.new ≡ longer self.old (call_with client seq ask.now done)) }
+    {
+        self.shard.call(alloc, client, seq, ask)
+    }
+
+    /// Does one thing, which adds its deed.
+    pub fn does(&mut self, alloc: Global, task: Task) -> Result<(), Memory>
+        requires { BelongsTo self.old (doing_of task) }
+        ensures { OnOk result (self.new ≡ longer self.old (deed_at self.old (doing_of task))) }
+    {
+        match task {
+            Task::Take(change) => {
+                let _ = self.shard.take_in(alloc, change)?;
+                Ok(())
+            }
+            Task::Report => self.report(alloc),
+            Task::Hear(report) => self.shard.hear(alloc, report),
+            Task::Sweep(moment) => {
+                let _ = self.shard.sweep(alloc, moment)?;
+                Ok(())
+            }
+        }
+    }
+
+    // Makes a report, and keeps it.
+    fn report(&mut self, alloc: Global) -> Result<(), Memory>
+        ensures { OnOk result (self.new ≡ longer self.old (deed_at self.old Reports)) }
+    {
+        self.reports.reserve(1)?;
+        let report = self.shard.report(alloc)?;
+        let _ = self.reports.push(report);
+        Ok(())
+    }
+}
