@@ -16,3 +16,4 @@ pub mod Worlds
 pub mod Leaving
 pub mod Playable
 pub mod Scripts
+pub mod Numbering

@@ -74,17 +74,17 @@ lines_built lines i d built less = turned _ (no_position test lines i d built le
 abbrev HasStated : Heading → Line → Type 0
 HasStated heading (Step client seq act) = IsStated client heading
 HasStated heading (Deliver to client seq) = IsMember heading to
-HasStated heading (line.Report member) = Unit {0}
-HasStated heading (Hear by of number) = Unit {0}
-HasStated heading (Sweep member moment) = Unit {0}
+HasStated heading (line.Report member) = IsMember heading member
+HasStated heading (Hear by of number) = IsMember heading by × IsMember heading of
+HasStated heading (Sweep member moment) = IsMember heading member
 HasStated heading (Join joiner provider) = Unit {0}
 
 line_stated : (heading : Heading) (line : Line) (past : List Line) → StandsAfter heading past line → HasStated heading line
 line_stated heading (Step client seq act) past stands = stands.0
 line_stated heading (Deliver to client seq) past stands = stands.0
-line_stated heading (line.Report member) past stands = tt
-line_stated heading (Hear by of number) past stands = tt
-line_stated heading (Sweep member moment) past stands = tt
+line_stated heading (line.Report member) past stands = stands.0
+line_stated heading (Hear by of number) past stands = (stands.0, stands.1)
+line_stated heading (Sweep member moment) past stands = stands.0
 line_stated heading (Join joiner provider) past stands = tt
 
 all_stated : (heading : Heading) (past : List Line) → AllStand heading past → AllByRecursion (HasStated heading) past
@@ -109,9 +109,9 @@ lines_stated heading lines is =
 playable : (heading : Heading) (line : Line) → HasStated heading line → is_built_line line ≡ true → CanPlay heading line
 playable heading (Step client seq act) stated built = (stated, built)
 playable heading (Deliver to client seq) stated built = stated
-playable heading (line.Report member) stated built = absurd (cc)
-playable heading (Hear by of number) stated built = absurd (cc)
-playable heading (Sweep member moment) stated built = absurd (cc)
+playable heading (line.Report member) stated built = stated
+playable heading (Hear by of number) stated built = stated
+playable heading (Sweep member moment) stated built = stated
 playable heading (Join joiner provider) stated built = absurd (cc)
 
 pub can_play : (heading : Heading) (lines : List Line) → IsScript heading lines → is_built lines ≡ true

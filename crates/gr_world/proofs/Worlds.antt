@@ -1,7 +1,7 @@
 -- One event more leaves one deed and one answer more.
 use Rattle.std.proofs.Common.{◌≡◌, ◌∙◌, ap, sym, subst, refl, ℕ, ◌+◌, ◌-◌, ◌≤◌, ◌<◌, List, [], ◌∷◌, ◌++◌, length, reverse, map}
-use Rattle.std.proofs.Common.{Bool, true, false, ◌&&◌, ◌==◌, arith, get_or, set, if◌then◌else◌}
-use Rattle.std.specs.Prelude.{Some, None}
+use Rattle.std.proofs.Common.{Bool, true, false, ◌&&◌, ◌==◌, add-one, arith, get_or, set, if◌then◌else◌}
+use Rattle.std.specs.Prelude.{Option, Some, None}
 use Rattle.std.proofs.lemmas.Bool.Decides.{nat_tests}
 use Rattle.std.proofs.lemmas.Grind.{reverse_onto}
 use Rattle.std.proofs.lemmas.List.{reverse-reverse, length-reverse}
@@ -20,19 +20,22 @@ use Rattle.gr_script.specs.declared.line.Line.TheVariants.{Step, Deliver}
 use Rattle.gr_script.specs.Rules.{Heading, IsMember, IsStated, home_of}
 use Rattle.gr_world.specs.declared.world.World.{World}
 use Rattle.gr_world.specs.Events.{Event, Did, Peeked, put_if, history}
-use Rattle.gr_world.specs.Clients.{Numbered, add_some, told, told_by}
+use Rattle.gr_world.specs.Clients.{Numbered, add_some, told, told_by, told_by_deed}
 use Rattle.gr_world.specs.Numbered.{numbers_from}
 use Rattle.gr_world.specs.Records.{answers}
 use Rattle.gr_world.specs.Doings.{Doing, Calls, Takes, call_with, deed_of}
-use Rattle.gr_world.specs.Named.{or_else}
-use Rattle.gr_world.specs.Courses.{identity_at, does, delivers, after}
+use Rattle.gr_world.specs.Named.{made_by, made_by_deed, numbered, or_else, reports}
+use Rattle.gr_world.specs.Tasks.{doing_of}
+use Rattle.gr_world.specs.declared.task.Task.{Task}
+use Rattle.gr_world.specs.declared.task.Task.TheVariants as task
+use Rattle.gr_world.specs.Courses.{identity_at, does, delivers, for_each, hears, hears_of, after}
 use Rattle.gr_world.specs.Worlds.{HasMade, IsAtWork, IsCell, IsDone, IsWorld, Notes, Plays, account_at, account_in, account_left, deed_at}
 use Rattle.gr_world.specs.Worlds.{grid_left, grid_with, longer, no_account, number_of, row_with, tellings_left, told_also}
 use Rattle.std.specs.Ordering.{nat_cmp}
 use Rattle.std.specs.BTreeMap.{get}
 use Rattle.gr_stamp.specs.declared.change.Change.{Change}
-use Rattle.gr_history.specs.declared.deed.Deed.TheVariants.{Taken}
-use Rattle.gr_history.specs.declared.verdict.Verdict.{Verdict}
+use Rattle.gr_history.specs.declared.identity.Identity.{Identity}
+use Rattle.gr_vector.specs.declared.report.Report.{Report}
 use Rattle.gr_world.proofs.Events.{history_here, same_number}
 use Rattle.gr_world.proofs.Lists.{numbers_get, numbers_length, numbers_same, numbers_set}
 
@@ -198,22 +201,67 @@ call_plays heading old new member shard client seq ask done is stated at_home at
     subst (λ s. IsWorld heading (does heading (home_of heading client) s doing events) new) at_shard
     (subst (λ m. IsWorld heading (does heading m shard doing events) new) at_home here)
 
--- What was made is taken in, in the shard of its key.
-pub deliver_plays : (heading : Heading) (old new : World) (to client seq shard : ℕ) (change : Change) (told_now : Verdict) → seq < 2 ^ 32
-    → get nat_cmp old.made (number_of client seq) ≡ Some change
-    → IsMember heading to → shard ≡ shard_of change.key heading.shards → shard < heading.shards
-    → IsDone old.grid new.grid to shard (Takes change) (Taken change told_now)
+-- A deed that makes nothing, and tells no client anything.
+record IsQuiet (deed : Deed) : Type 0 where
+  unmade : (client number : ℕ) → made_by_deed client number deed ≡ None
+  untold : (client : ℕ) → told_by_deed client deed ≡ None
+
+quiet_task : (id : Identity) (opening : ℕ) (past : List Deed) (task_ : Task) → IsQuiet (deed_of id opening past (doing_of task_))
+quiet_task id opening past (task.Take change) = record { unmade = λ client number. refl; untold = λ client. refl }
+quiet_task id opening past task.Report = record { unmade = λ client number. refl; untold = λ client. refl }
+quiet_task id opening past (task.Hear report) = record { unmade = λ client number. refl; untold = λ client. refl }
+quiet_task id opening past (task.Sweep moment) = record { unmade = λ client number. refl; untold = λ client. refl }
+
+untold_left : (heading : Heading) (events : List Event) (member shard : ℕ) (deed : Deed) → IsQuiet deed
+    → tellings_left heading events ≡ tellings_left heading (Did member shard deed ∷ events)
+unfolding numbered_answers
+untold_left heading events member shard deed quiet =
+    numbers_same 1 (length heading.clients) (λ client. answers client events) (λ client. answers client (Did member shard deed ∷ events))
+    (λ client low high. ap (λ o. numbered_answers (add_some o (told client events))) (sym (quiet.untold client)))
+
+-- A task adds its deed.
+pub task_plays : (heading : Heading) (old new : World) (member shard : ℕ) (task_ : Task) (deed : Deed)
+    → IsMember heading member → shard < heading.shards
+    → IsDone old.grid new.grid member shard (doing_of task_) deed
     → new.tellings ≡ old.tellings → new.made ≡ old.made
-    → Plays heading (after heading (Deliver to client seq)) old new
-deliver_plays heading old new to client seq shard change told_now low found is at_shard within taken tells made_same events world =
-    let done = done_left heading events old.grid new.grid to shard (Takes change) (Taken change told_now) is within world.grid_is taken in
-    let here : IsWorld heading (does heading to shard (Takes change) events) new = record {
+    → Plays heading (does heading member shard (doing_of task_)) old new
+task_plays heading old new member shard task_ deed is within did tells made_same events world =
+    let past = history member shard events in
+    let done = done_left heading events old.grid new.grid member shard (doing_of task_) deed is within world.grid_is did in
+    let added = deed_of (identity_at heading member shard) heading.floor past (doing_of task_) in
+    let quiet = quiet_task (identity_at heading member shard) heading.floor past task_ in
+    record {
       grid_is = done.1;
-      tellings_are = tells ∙ world.tellings_are;
-      made_are = subst (HasMade (does heading to shard (Takes change) events)) (sym made_same) world.made_are;
-    } in
+      tellings_are = tells ∙ world.tellings_are ∙ untold_left heading events member shard added quiet;
+      made_are =
+          λ client number low. ap (λ table. get nat_cmp table (number_of client number)) made_same ∙ world.made_are client number low
+          ∙ ap (λ o. or_else o (made_by client number events)) (sym (quiet.unmade client number));
+    }
+
+-- What was made is taken in, in the shard of its key.
+pub deliver_plays : (heading : Heading) (old new : World) (to client seq shard : ℕ) (change : Change) → seq < 2 ^ 32
+    → get nat_cmp old.made (number_of client seq) ≡ Some change
+    → shard ≡ shard_of change.key heading.shards
+    → Plays heading (does heading to shard (Takes change)) old new
+    → Plays heading (after heading (Deliver to client seq)) old new
+deliver_plays heading old new to client seq shard change low found at_shard plays events world =
     subst (λ o. IsWorld heading (delivers heading to o events) new) (sym found ∙ world.made_are client seq low)
-    (subst (λ s. IsWorld heading (does heading to s (Takes change) events) new) at_shard here)
+    (subst (λ s. IsWorld heading (does heading to s (Takes change) events) new) at_shard (plays events world))
+
+-- The report of the number is heard, where there is one.
+pub hear_plays : (heading : Heading) (old new : World) (by of number shard : ℕ) (found : Option Report) → IsMember heading of
+    → shard < heading.shards
+    → found ≡ numbered number (reports (reverse (account_at old.grid of shard).deeds))
+    → Plays heading (hears heading by shard found) old new
+    → Plays heading (hears_of heading by of number shard) old new
+hear_plays heading old new by of number shard found is within is_found plays events world =
+    let past = history of shard events in
+    let deeds : (account_at old.grid of shard).deeds ≡ reverse past =
+    ap (λ grid. (account_at grid of shard).deeds) world.grid_is
+    ∙ ap (λ account. account.deeds) (cell_left heading events of shard is within) in
+    let here : found ≡ numbered number (reports past) =
+    is_found ∙ ap (λ ds. numbered number (reports (reverse ds))) deeds ∙ ap (λ ds. numbered number (reports ds)) (reverse-reverse past) in
+    subst (λ o. IsWorld heading (hears heading by shard o events) new) here (plays events world)
 
 -- A step that made nothing delivers nothing.
 pub nothing_plays : (heading : Heading) (world : World) (to client seq : ℕ) → seq < 2 ^ 32
@@ -267,7 +315,7 @@ pub work_cell : (heading : Heading) (world : World) (member shard : ℕ) → IsA
 work_cell heading world member shard (events, left) is within =
     subst (λ grid. IsCell grid member shard) (sym left.grid_is) (is_cell heading events member shard is within)
 
--- and its identity is that of the place
+-- and a key's change belongs to the shard of its key
 pub work_shard : (heading : Heading) (world : World) (member shard : ℕ) (key : List ℕ) → IsAtWork heading world → IsMember heading member
     → shard < heading.shards → shard ≡ shard_of key heading.shards
     → shard_of key (account_at world.grid member shard).id.shards ≡ (account_at world.grid member shard).id.shard
@@ -275,6 +323,17 @@ work_shard heading world member shard key (events, left) is within at_shard =
     let cell : account_at world.grid member shard ≡ account_left heading events member shard =
     ap (λ grid. account_at grid member shard) left.grid_is ∙ cell_left heading events member shard is within in
     ap (λ account. shard_of key account.id.shards) cell ∙ sym at_shard ∙ sym (ap (λ account. account.id.shard) cell)
+
+-- What plays leaves a world that is at work.
+pub work_on : (heading : Heading) (act : List Event → List Event) (old new : World) → IsAtWork heading old → Plays heading act old new
+    → IsAtWork heading new
+work_on heading act old new (events, left) plays = (act events, plays events left)
+
+-- one shard more
+pub for_each_plays : (heading : Heading) (act : ℕ → List Event → List Event) (n : ℕ) (first now next : World)
+    → Plays heading (for_each n act) first now → Plays heading (act n) now next → Plays heading (for_each (n + 1) act) first next
+for_each_plays heading act n first now next so_far more events is =
+    rw add-one (more (for_each n act events) (so_far events is))
 
 pub work_clients : (heading : Heading) (world : World) → IsAtWork heading world → length world.tellings ≡ length heading.clients
 work_clients heading world (events, left) =

@@ -7,15 +7,15 @@ use Rattle.gr_script.specs.declared.line.Line.{Line}
 use Rattle.gr_script.specs.declared.line.Line.TheVariants.{Step, Deliver, Hear, Sweep, Join}
 use Rattle.gr_script.specs.declared.line.Line.TheVariants as line
 
--- Calls, peeks and deliveries.
+-- All but queries and joins.
 abbrev pub is_built_line : Line → Bool
 is_built_line (Step client seq (act.Call ask)) = true
 is_built_line (Step client seq (act.Query ask)) = false
 is_built_line (Step client seq (act.Peek key)) = true
 is_built_line (Deliver to client seq) = true
-is_built_line (line.Report member) = false
-is_built_line (Hear by of number) = false
-is_built_line (Sweep member moment) = false
+is_built_line (line.Report member) = true
+is_built_line (Hear by of number) = true
+is_built_line (Sweep member moment) = true
 is_built_line (Join joiner provider) = false
 
 -- the place of the first line that isn't built, counted from 0

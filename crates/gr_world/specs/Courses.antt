@@ -52,6 +52,10 @@ abbrev pub hears : Heading → ℕ → ℕ → Option Report → List Event → 
 hears heading member shard None before = before
 hears heading member shard (Some report) before = does heading member shard (Hears report) before
 
+-- the same of the report of this number that another member made at the shard
+abbrev pub hears_of : Heading → ℕ → ℕ → ℕ → ℕ → List Event → List Event
+hears_of heading member of number shard now = hears heading member shard (numbered number (reports (history of shard now))) now
+
 abbrev pub takes_all : Heading → ℕ → ℕ → List Change → List Event → List Event
 takes_all heading member shard [] before = before
 takes_all heading member shard (change ∷ rest) before =
@@ -89,7 +93,7 @@ after heading (Step client number (act.Peek key)) before = looks heading client 
 after heading (Deliver member client number) before = delivers heading member (made_by client number before) before
 after heading (line.Report member) before = for_each heading.shards (λ shard. does heading member shard Reports) before
 after heading (Hear member of number) before =
-    for_each heading.shards (λ shard now. hears heading member shard (numbered number (reports (history of shard now))) now) before
+    for_each heading.shards (hears_of heading member of number) before
 after heading (Sweep member moment) before = for_each heading.shards (λ shard. does heading member shard (Sweeps moment)) before
 after heading (Join joiner provider) before = for_each heading.shards (joins_at heading joiner provider) before
 

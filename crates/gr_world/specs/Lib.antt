@@ -9,4 +9,5 @@ pub mod Named
 pub mod Numbered
 pub mod Records
 pub mod Rows
+pub mod Tasks
 pub mod Worlds

@@ -1,12 +1,11 @@
 -- What a task does at a shard.
-use Rattle.std.specs.Prelude.{◌≡◌, ℕ, Unit, reverse}
+use Rattle.std.specs.Prelude.{◌≡◌}
 use Rattle.gr_value.specs.Shard.{shard_of}
 use Rattle.gr_history.specs.Asks.{key_of}
-use Rattle.gr_history.specs.declared.deed.Deed.{Deed}
 use Rattle.gr_shard.specs.View.{Account}
 use Rattle.gr_world.specs.declared.task.Task.{Task}
 use Rattle.gr_world.specs.declared.task.Task.TheVariants as task
-use Rattle.gr_world.specs.Doings.{Doing, Calls, Takes, Gives, Merges, Reports, Hears, Sweeps, deed_of}
+use Rattle.gr_world.specs.Doings.{Doing, Calls, Takes, Gives, Merges, Reports, Hears, Sweeps}
 
 abbrev pub doing_of : Task → Doing
 doing_of (task.Take change) = Takes change.now

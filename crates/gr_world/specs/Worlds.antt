@@ -120,11 +120,11 @@ IsAtWork heading world = (events : List Event) × IsWorld heading events world
 abbrev pub Plays : Heading → (List Event → List Event) → World → World → Type 0
 Plays heading act old new = (events : List Event) → IsWorld heading events old → IsWorld heading (act events) new
 
--- A call or a peek of a client that is stated, or a delivery to a member.
+-- A call or a peek of a client that is stated, or what members do.
 abbrev pub CanPlay : Heading → Line → Type 0
 CanPlay heading (Step client seq act) = IsStated client heading × (is_built_line (Step client seq act) ≡ true)
 CanPlay heading (Deliver to client seq) = IsMember heading to
-CanPlay heading (line.Report member) = ⊥
-CanPlay heading (Hear by of number) = ⊥
-CanPlay heading (Sweep member moment) = ⊥
+CanPlay heading (line.Report member) = IsMember heading member
+CanPlay heading (Hear by of number) = IsMember heading by × IsMember heading of
+CanPlay heading (Sweep member moment) = IsMember heading member
 CanPlay heading (Join joiner provider) = ⊥

@@ -12,6 +12,9 @@ fn is_built(line: &Line) -> bool
             act: Act::Call(_) | Act::Peek(_),
             ..
         } | Line::Deliver { .. }
+            | Line::Report { .. }
+            | Line::Hear { .. }
+            | Line::Sweep { .. }
     )
 }
 

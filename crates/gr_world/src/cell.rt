@@ -1,4 +1,4 @@
-ghost use Rattle.std.specs.Prelude.{◌≡◌, [], IfOk, OnOk, option_copied, reverse};
+ghost use Rattle.std.specs.Prelude.{◌≡◌, [], IfOk, OnOk, option_copied, reverse, slice_get};
 ghost use Rattle.gr_shard.specs.View.{IsPlace};
 ghost use Rattle.gr_world.specs.Doings.{Calls, Reports, call_with};
 ghost use Rattle.gr_world.specs.Named.{numbered, reports};
@@ -17,7 +17,7 @@ use std::marker::Model;
 #[derive(Drop)]
 pub struct Cell {
     shard: Shard,
-    reports: Vec<Report>,
+    reported: Vec<Report>,
 }
 
 impl Model for Cell {
@@ -29,7 +29,14 @@ impl Model for Cell {
 
     ghost view = { λ cell. cell.shard };
 
-    ghost invariant = { λ cell. cell.reports.items ≡ reverse (reports (reverse cell.shard.deeds)) };
+    ghost invariant = { λ cell. cell.reported.items ≡ reverse (reports (reverse cell.shard.deeds)) };
+}
+
+// The report at a place, counted from 0.
+fn at(reports: &[Report], place: usize) -> Option<&Report>
+    ensures { option_copied result ≡ slice_get reports.now place }
+{
+    reports.get(place)
 }
 
 impl Cell {
@@ -39,7 +46,7 @@ impl Cell {
     {
         Ok(Cell {
             shard: Shard::new(alloc, id, floor)?,
-            reports: Vec::new(alloc),
+            reported: Vec::new(alloc),
         })
     }
 
@@ -62,7 +69,7 @@ impl Cell {
         if number == 0 {
             return None;
         }
-        self.reports.get(number as usize - 1)
+        at(&self.reported, number as usize - 1)
     }
 
     pub fn call(&mut self, alloc: Global, client: u8, seq: u32, ask: &Ask) -> Result<Done, Memory>
@@ -77,7 +84,7 @@ impl Cell {
     /// Does one thing, which adds its deed.
     pub fn does(&mut self, alloc: Global, task: Task) -> Result<(), Memory>
         requires { BelongsTo self.old (doing_of task) }
-        ensures { OnOk result (self.new ≡ longer self.old (deed_at self.old (doing_of task))) }
+        ensures { OnOk result (self.new ≡ longer self.old (deed_at self.old (doing_of task.entry))) }
     {
         match task {
             Task::Take(change) => {
@@ -97,9 +104,9 @@ impl Cell {
     fn report(&mut self, alloc: Global) -> Result<(), Memory>
         ensures { OnOk result (self.new ≡ longer self.old (deed_at self.old Reports)) }
     {
-        self.reports.reserve(1)?;
+        self.reported.reserve(1)?;
         let report = self.shard.report(alloc)?;
-        let _ = self.reports.push(report);
+        let _ = self.reported.push(report);
         Ok(())
     }
 }

@@ -1,16 +1,14 @@
-ghost use Rattle.std.specs.Prelude.{◌≡◌, ◌≤◌, IfOk, length};
-ghost use Rattle.gr_value.specs.Shard.{shard_of};
-ghost use Rattle.gr_history.specs.declared.deed.Deed.TheVariants as deed;
-ghost use Rattle.gr_history.specs.Asks.{key_of};
-ghost use Rattle.gr_world.specs.Doings.{Calls, Takes, call_with};
+ghost use Rattle.std.specs.Prelude.{◌≡◌, ◌≤◌, IfOk, OnOk, length};
+ghost use Rattle.gr_world.specs.Doings.{Calls, call_with};
 ghost use Rattle.gr_shard.specs.View.{IsPlace};
 ghost use Rattle.gr_world.specs.Numbered.{numbers_from, PairsFrom};
-ghost use Rattle.gr_world.specs.Worlds.{IsCell, IsDone, IsMemberOf, account_at, new_row};
+ghost use Rattle.gr_world.specs.Tasks.{BelongsTo, doing_of};
+ghost use Rattle.gr_world.specs.Worlds.{IsCell, IsDone, IsMemberOf, account_at, deed_at, new_row};
 
+use crate::cell::Cell;
 use crate::row::Row;
-use gr_history::{Ask, Done, Identity, MemberRecordList, Verdict};
-use gr_shard::Shard;
-use gr_stamp::Change;
+use crate::task::Task;
+use gr_history::{Ask, Done, Identity, MemberRecordList};
 use gr_value::Memory;
 use std::alloc::Global;
 use std::marker::Model;
@@ -45,11 +43,11 @@ impl Grid {
     }
 
     /// A member's shard.
-    pub fn shard(&self, member: u8, shard: u8) -> &Shard
+    pub fn cell(&self, member: u8, shard: u8) -> &Cell
         requires { IsCell self.now member shard }
         ensures { result.now ≡ account_at self.now member shard }
     {
-        self.rows[usize::from(member) - 1].shard(shard)
+        self.rows[usize::from(member) - 1].cell(shard)
     }
 
     pub fn call(
@@ -62,8 +60,7 @@ impl Grid {
         ask: &Ask,
     ) -> Result<Done, Memory>
         requires cell { IsCell self.old member shard }
-        requires here { shard_of (key_of ask.now) (account_at self.old member shard).id.shards ≡
-            (account_at self.old member shard).id.shard }
+        requires here { BelongsTo (account_at self.old member shard) (Calls client seq ask.now) }
         ensures { IfOk result
             (λ done. IsDone self.old self.new member shard (Calls client seq ask.now) (call_with client seq ask.now done)) }
     {
@@ -71,20 +68,15 @@ impl Grid {
         row.call(alloc, shard, client, seq, ask)
     }
 
-    pub fn take_in(
-        &mut self,
-        alloc: Global,
-        member: u8,
-        shard: u8,
-        change: &Change,
-    ) -> Result<Verdict, Memory>
+    /// Does one thing at a member's shard, which adds its deed.
+    pub fn does(&mut self, alloc: Global, member: u8, shard: u8, task: Task) -> Result<(), Memory>
         requires cell { IsCell self.old member shard }
-        requires here { shard_of change.now.key (account_at self.old member shard).id.shards ≡
-            (account_at self.old member shard).id.shard }
-        ensures { IfOk result (λ told. IsDone self.old self.new member shard (Takes change.now) (deed.Taken change.now told)) }
+        requires here { BelongsTo (account_at self.old member shard) (doing_of task) }
+        ensures { OnOk result
+            (IsDone self.old self.new member shard (doing_of task.entry) (deed_at (account_at self.old member shard) (doing_of task.entry))) }
     {
         let row = &mut self.rows[usize::from(member) - 1];
-        row.take_in(alloc, shard, change)
+        row.does(alloc, shard, task)
     }
 
     /// What all members leave.

@@ -2,11 +2,13 @@
 #![tactic(auto)]
 
 mod built;
+mod cell;
 mod grid;
 mod laws;
 mod replaying;
 mod row;
 mod rows;
+mod task;
 mod tellings;
 mod world;
 

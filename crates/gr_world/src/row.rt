@@ -1,16 +1,14 @@
-ghost use Rattle.std.specs.Prelude.{◌≡◌, ◌<◌, IfOk, OnErr, length};
-ghost use Rattle.gr_value.specs.Shard.{shard_of};
-ghost use Rattle.gr_history.specs.declared.deed.Deed.TheVariants as deed;
-ghost use Rattle.gr_history.specs.Asks.{key_of};
+ghost use Rattle.std.specs.Prelude.{◌≡◌, ◌<◌, IfOk, OnOk, length};
 ghost use Rattle.gr_shard.specs.Records.{IsRecordOf};
 ghost use Rattle.gr_shard.specs.View.{IsPlace};
-ghost use Rattle.gr_world.specs.Doings.{Calls, Takes, call_with};
+ghost use Rattle.gr_world.specs.Doings.{Calls, call_with};
 ghost use Rattle.gr_world.specs.Numbered.{PairsFrom};
+ghost use Rattle.gr_world.specs.Tasks.{BelongsTo, doing_of};
 ghost use Rattle.gr_world.specs.Worlds.{account_in, deed_at, new_row, row_with};
 
-use gr_history::{Ask, Done, Identity, MemberRecord, ShardRecordList, Verdict};
-use gr_shard::Shard;
-use gr_stamp::Change;
+use crate::cell::Cell;
+use crate::task::Task;
+use gr_history::{Ask, Done, Identity, MemberRecord, ShardRecordList};
 use gr_value::Memory;
 use std::alloc::Global;
 use std::marker::Model;
@@ -18,7 +16,7 @@ use std::marker::Model;
 /// A member's shards.
 #[derive(Drop)]
 pub struct Row {
-    shards: Vec<Shard>,
+    cells: Vec<Cell>,
 }
 
 impl Model for Row {
@@ -27,7 +25,7 @@ impl Model for Row {
 
     ghost Value = { List Account };
 
-    ghost view = { λ row. row.shards.items };
+    ghost view = { λ row. row.cells.items };
 }
 
 impl Row {
@@ -36,18 +34,18 @@ impl Row {
         requires { IsPlace id floor }
         ensures { IfOk result (λ row. row ≡ new_row id floor id.member) }
     {
-        let mut shards = Vec::new(alloc);
+        let mut cells = Vec::new(alloc);
         for shard in 0..id.shards {
-            shards.push(Shard::new(alloc, Identity { shard, ..id }, floor)?)?;
+            cells.push(Cell::new(alloc, Identity { shard, ..id }, floor)?)?;
         }
-        Ok(Row { shards })
+        Ok(Row { cells })
     }
 
-    pub fn shard(&self, shard: u8) -> &Shard
+    pub fn cell(&self, shard: u8) -> &Cell
         requires { shard < length self.now }
         ensures { result.now ≡ account_in self.now shard }
     {
-        &self.shards[usize::from(shard)]
+        &self.cells[usize::from(shard)]
     }
 
     pub fn call(
@@ -59,23 +57,23 @@ impl Row {
         ask: &Ask,
     ) -> Result<Done, Memory>
         requires within { shard < length self.old }
-        requires here { shard_of (key_of ask.now) (account_in self.old shard).id.shards ≡ (account_in self.old shard).id.shard }
+        requires here { BelongsTo (account_in self.old shard) (Calls client seq ask.now) }
         ensures given { IfOk result
             (λ done. call_with client seq ask.now done ≡ deed_at (account_in self.old shard) (Calls client seq ask.now)) }
         ensures added { IfOk result (λ done. self.new ≡ row_with self.old shard (call_with client seq ask.now done)) }
     {
-        let shard = &mut self.shards[usize::from(shard)];
-        shard.call(alloc, client, seq, ask)
+        let cell = &mut self.cells[usize::from(shard)];
+        cell.call(alloc, client, seq, ask)
     }
 
-    pub fn take_in(&mut self, alloc: Global, shard: u8, change: &Change) -> Result<Verdict, Memory>
+    /// Does one thing at a shard, which adds its deed.
+    pub fn does(&mut self, alloc: Global, shard: u8, task: Task) -> Result<(), Memory>
         requires within { shard < length self.old }
-        requires here { shard_of change.now.key (account_in self.old shard).id.shards ≡ (account_in self.old shard).id.shard }
-        ensures given { IfOk result (λ told. deed.Taken change.now told ≡ deed_at (account_in self.old shard) (Takes change.now)) }
-        ensures added { IfOk result (λ told. self.new ≡ row_with self.old shard (deed.Taken change.now told)) }
+        requires here { BelongsTo (account_in self.old shard) (doing_of task) }
+        ensures { OnOk result (self.new ≡ row_with self.old shard (deed_at (account_in self.old shard) (doing_of task.entry))) }
     {
-        let shard = &mut self.shards[usize::from(shard)];
-        shard.take_in(alloc, change)
+        let cell = &mut self.cells[usize::from(shard)];
+        cell.does(alloc, task)
     }
 
     /// What the member leaves.
@@ -84,8 +82,8 @@ impl Row {
         ensures shards { IfOk result (λ left. PairsFrom (λ _. IsRecordOf) 0 self left.shards) }
     {
         let mut shards = ShardRecordList::new(alloc)?;
-        for shard in self.shards {
-            shards.push(shard.into_record(alloc)?)?;
+        for cell in self.cells {
+            shards.push(cell.into_shard().into_record(alloc)?)?;
         }
         Ok(MemberRecord { member, shards })
     }

@@ -1,16 +1,17 @@
-ghost use Rattle.std.specs.Prelude.{◌≡◌, ℕ, List, [], length, reverse, IfOk};
+ghost use Rattle.std.specs.Prelude.{◌≡◌, ◌<◌, ℕ, List, [], length, reverse, IfOk};
 ghost use Rattle.gr_script.specs.declared.line.Act.TheVariants as act;
 ghost use Rattle.gr_script.specs.declared.line.Line.TheVariants as line;
 ghost use Rattle.gr_script.specs.Rules.{IsMember, IsStated, home_of};
 ghost use Rattle.gr_script.specs.Scripts.{heading_of};
 ghost use Rattle.gr_history.specs.declared.record.Answer.TheVariants as answer;
 ghost use Rattle.gr_history.specs.Standing.{present};
-ghost use Rattle.gr_world.specs.Courses.{after};
+ghost use Rattle.gr_world.specs.Courses.{after, hears_of};
 ghost use Rattle.gr_world.specs.Events.{Event};
 ghost use Rattle.gr_world.specs.Records.{IsLeft};
 ghost use Rattle.gr_world.specs.Worlds.{CanPlay, IsAtWork, IsWorld, Notes, Plays, number_of};
 
 use crate::grid::Grid;
+use crate::task::Task;
 use crate::tellings::Tellings;
 use gr_history::{Answer, Ask, Identity, Record};
 use gr_script::{Act, Line, Script};
@@ -121,7 +122,7 @@ impl World {
     {
         let member = home(script, client);
         let shard = key.shard(script.shards);
-        let answer = seen(alloc, self.grid.shard(member, shard), key)?;
+        let answer = seen(alloc, self.grid.cell(member, shard).shard(), key)?;
         Ok(self.tellings.tell(client, answer)?)
     }
 
@@ -160,7 +161,78 @@ impl World {
     {
         if let Some(change) = self.made.get(&number_of(client, seq)) {
             let shard = change.key.shard(script.shards);
-            let _ = self.grid.take_in(alloc, to, shard, change)?;
+            self.grid.does(alloc, to, shard, Task::Take(change))?;
+        }
+        Ok(())
+    }
+
+    fn report(&mut self, alloc: Global, script: &Script, member: u8) -> Result<(), Memory>
+        requires work { IsAtWork (heading_of script.now) self.old }
+        requires member { IsMember (heading_of script.now) member }
+        ensures { IfOk result (λ _. Plays (heading_of script.now) (after (heading_of script.now) (line.Report member)) self.old self.new) }
+    {
+        for shard in 0..script.shards {
+            self.grid.does(alloc, member, shard, Task::Report)?;
+        }
+        Ok(())
+    }
+
+    fn hear(
+        &mut self,
+        alloc: Global,
+        script: &Script,
+        by: u8,
+        of: u8,
+        number: u32,
+    ) -> Result<(), Memory>
+        requires work { IsAtWork (heading_of script.now) self.old }
+        requires by { IsMember (heading_of script.now) by }
+        requires of { IsMember (heading_of script.now) of }
+        ensures { IfOk result (λ _. Plays (heading_of script.now) (after (heading_of script.now) (line.Hear by of number)) self.old self.new) }
+    {
+        for shard in 0..script.shards {
+            self.hear_at(alloc, script, by, of, number, shard)?;
+        }
+        Ok(())
+    }
+
+    // Hears one shard's report.
+    fn hear_at(
+        &mut self,
+        alloc: Global,
+        script: &Script,
+        by: u8,
+        of: u8,
+        number: u32,
+        shard: u8,
+    ) -> Result<(), Memory>
+        requires work { IsAtWork (heading_of script.now) self.old }
+        requires by { IsMember (heading_of script.now) by }
+        requires of { IsMember (heading_of script.now) of }
+        requires shard { shard < script.now.shards }
+        ensures { IfOk result (λ _. Plays (heading_of script.now) (hears_of (heading_of script.now) by of number shard) self.old self.new) }
+    {
+        let Some(report) = self.grid.cell(of, shard).reported(number) else {
+            return Ok(());
+        };
+        let report = report.copy(alloc)?;
+        Ok(self.grid.does(alloc, by, shard, Task::Hear(&report))?)
+    }
+
+    fn sweep(
+        &mut self,
+        alloc: Global,
+        script: &Script,
+        member: u8,
+        moment: u64,
+    ) -> Result<(), Memory>
+        requires work { IsAtWork (heading_of script.now) self.old }
+        requires member { IsMember (heading_of script.now) member }
+        ensures { IfOk result
+            (λ _. Plays (heading_of script.now) (after (heading_of script.now) (line.Sweep member moment)) self.old self.new) }
+    {
+        for shard in 0..script.shards {
+            self.grid.does(alloc, member, shard, Task::Sweep(moment))?;
         }
         Ok(())
     }
@@ -176,7 +248,10 @@ impl World {
             Line::Deliver { to, client, seq } => {
                 Ok(self.deliver(alloc, script, *to, *client, *seq)?)
             }
-            _ => Ok(()),
+            Line::Report { member } => Ok(self.report(alloc, script, *member)?),
+            Line::Hear { by, of, number } => Ok(self.hear(alloc, script, *by, *of, *number)?),
+            Line::Sweep { member, moment } => Ok(self.sweep(alloc, script, *member, *moment)?),
+            Line::Join { .. } => Ok(()),
         }
     }
 

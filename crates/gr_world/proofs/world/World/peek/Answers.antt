@@ -5,8 +5,8 @@ use Rattle.gr_script.specs.Scripts.{heading_of}
 use Rattle.gr_world.proofs.Worlds.{peek_plays, shard_within, work_cell, work_clients}
 use Rattle.gr_world.proofs.world.World.peek.Goals as goal
 
-pub shard-requires : goal.shard-requires
-shard-requires c =
+pub cell-requires : goal.cell-requires
+cell-requires c =
     let script = c.args.script.now in
     let shard = c.shard-shard.result in
     work_cell (heading_of script) c.args.self.now c.home-member.result shard c.requires.work c.home-member.ensures.member
@@ -25,5 +25,6 @@ returns c seq =
     c.in_ok-answer.answer c.home-member.ensures.member c.requires.stated c.home-member.ensures.home c.shard-shard.ensures
     (shard_within c.args.key.now shard script.shards script.ruled.heading.shards.0 c.shard-shard.ensures)
     (c.in_ok-answer.ensures
-    ∙ ap (λ account. answer.Peeked (present c.args.key.now (reverse account.deeds)) (length account.deeds)) c.shard.ensures) refl
+    ∙ ap (λ account. answer.Peeked (present c.args.key.now (reverse account.deeds)) (length account.deeds))
+    (c.shard.ensures ∙ c.cell.ensures)) refl
     c.in_ok-tell.ensures refl

@@ -1,0 +1,8 @@
+use Rattle.gr_script.specs.Scripts.{heading_of}
+use Rattle.gr_world.specs.Courses.{for_each, hears_of}
+use Rattle.gr_world.specs.Worlds.{Plays}
+use Rattle.gr_world.proofs.world.World.hear.Given as goal
+
+abbrev pub invariant-loop-shard : goal.invariant-loop-shard
+invariant-loop-shard l =
+    Plays (heading_of l.fn.script) (for_each l.shard (hears_of (heading_of l.fn.script) l.fn.by l.fn.of l.fn.number)) l.fn.self l.self

@@ -1,0 +1,23 @@
+use Rattle.std.proofs.Common.{refl}
+use Rattle.gr_script.specs.Scripts.{heading_of}
+use Rattle.gr_world.specs.Courses.{does, for_each}
+use Rattle.gr_world.specs.Doings.{Reports}
+use Rattle.gr_world.specs.declared.task.Task.TheVariants.{Report}
+use Rattle.gr_world.proofs.Worlds.{for_each_plays, task_plays, work_cell, work_on}
+use Rattle.gr_world.proofs.world.World.report.Goals as goal
+
+pub does-requires-clause-cell : goal.does-requires-clause-cell
+does-requires-clause-cell c =
+    let heading = heading_of c.args.script.now in
+    work_cell heading c.loop-shard.self c.args.member c.loop-shard.shard
+    (work_on heading (for_each c.loop-shard.shard (λ shard. does heading c.args.member shard Reports)) c.args.self.now c.loop-shard.self
+    c.requires.work c.loop-shard.invariant)
+    c.requires.member c.loop-shard-test.true
+
+pub loop-shard-preserved : goal.loop-shard-preserved
+loop-shard-preserved c =
+    let heading = heading_of c.args.script.now in
+    for_each_plays heading (λ shard. does heading c.args.member shard Reports) c.loop-shard.shard c.args.self.now c.loop-shard.self _
+    c.loop-shard.invariant
+    (task_plays heading c.loop-shard.self _ c.args.member c.loop-shard.shard Report _ c.requires.member c.loop-shard-test.true
+    c.in_ok-does.ensures refl refl)
