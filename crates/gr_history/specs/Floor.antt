@@ -1,16 +1,11 @@
 -- The tombstones that expired, and the floor of versions.
-use Rattle.std.specs.Prelude.{ℕ, List, [], ◌∷◌, ◌++◌, Bool, true, false, max, Option, Some, None, if◌then◌else◌}
+use Rattle.std.specs.Prelude.{ℕ, List, [], ◌∷◌, ◌++◌, max, Option, Some, None, if◌then◌else◌}
 use Rattle.std.specs.List.{filter_map}
 use Rattle.gr_stamp.specs.declared.change.Change.{Change}
-use Rattle.gr_stamp.specs.declared.change.Kind.{Kind}
-use Rattle.gr_stamp.specs.declared.change.Kind.TheVariants.{Put, Remove}
+use Rattle.gr_stamp.specs.Winner.{is_removal}
 use Rattle.gr_history.specs.declared.deed.Deed.{Deed}
 use Rattle.gr_history.specs.declared.deed.Deed.TheVariants.{Call, Taken, Gave, Imaged, Reported, Heard, Swept}
 use Rattle.gr_history.specs.Standing.{standing}
-
-abbrev pub is_removal : Kind → Bool
-is_removal (Put value) = false
-is_removal Remove = true
 
 -- the tombstone, where a removal stands
 abbrev pub removal_of : Option Change → Option Change

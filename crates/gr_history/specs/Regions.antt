@@ -8,7 +8,8 @@ use Rattle.gr_history.specs.declared.deed.Deed.{Deed}
 use Rattle.gr_history.specs.declared.record.Region.{Region}
 use Rattle.gr_history.specs.Ids.{known}
 use Rattle.gr_history.specs.Standing.{changes, standing}
-use Rattle.gr_history.specs.Floor.{is_removal, floor}
+use Rattle.gr_stamp.specs.Winner.{is_removal}
+use Rattle.gr_history.specs.Floor.{floor}
 
 -- the keys with one more, in order and each once
 abbrev pub with_key : List ℕ → List (List ℕ) → List (List ℕ)

@@ -9,7 +9,7 @@ use Rattle.gr_history.specs.declared.deed.Deed.{Deed}
 use Rattle.gr_history.specs.declared.deed.Deed.TheVariants.{Call, Taken, Gave, Imaged, Reported, Heard, Swept}
 use Rattle.gr_history.specs.Ids.{id_of, ids}
 use Rattle.gr_history.specs.Standing.{changes, standing}
-use Rattle.gr_history.specs.Floor.{is_removal}
+use Rattle.gr_stamp.specs.Winner.{is_removal}
 use Rattle.gr_history.specs.Clock.{clock, since}
 use Rattle.gr_history.specs.Regions.{keys_of}
 

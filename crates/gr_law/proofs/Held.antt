@@ -7,7 +7,7 @@ use Rattle.gr_stamp.specs.declared.change.Change.{Change}
 use Rattle.gr_stamp.specs.declared.change.Kind.{Kind}
 use Rattle.gr_stamp.specs.declared.change.Kind.TheVariants.{Put, Remove}
 use Rattle.gr_stamp.specs.Version.{beats}
-use Rattle.gr_stamp.specs.Winner.{winner, holds, put_value}
+use Rattle.gr_stamp.specs.Winner.{winner, holds, put_value, is_removal}
 use Rattle.std.proofs.lemmas.Slice.Eq.{bytes_eq-Decides}
 use Rattle.gr_history.specs.declared.image.Image.{Image}
 use Rattle.gr_history.specs.declared.verdict.Verdict.TheVariants.{Applied, Discarded, Repeat}
@@ -16,7 +16,7 @@ use Rattle.gr_history.specs.declared.deed.Deed.TheVariants.{Call, Taken, Gave, I
 use Rattle.gr_history.specs.Ids.{id_of, ids_at, ids}
 use Rattle.gr_vector.specs.Ids.{has_id}
 use Rattle.gr_history.specs.Standing.{came, standing, changes}
-use Rattle.gr_history.specs.Floor.{is_removal, expired_at, expired}
+use Rattle.gr_history.specs.Floor.{expired_at, expired}
 use Rattle.gr_law.specs.Grids.{identity, Among, Older, Grid}
 use Rattle.gr_law.specs.Integrity.{IsMade, IsGenuine, IsGenuineDeed, IsSound, IsWhole, IsGift, giver_of}
 use Rattle.gr_history.specs.Lawful.{IsLawful}

@@ -15,7 +15,8 @@ use Rattle.gr_history.specs.Ids.{id_of, ids}
 use Rattle.gr_history.specs.Made.{made_at, made}
 use Rattle.gr_history.specs.Standing.{names, standing}
 use Rattle.gr_history.specs.Calls.{reach}
-use Rattle.gr_history.specs.Floor.{is_removal, removal_of, expired_at, expired}
+use Rattle.gr_stamp.specs.Winner.{is_removal}
+use Rattle.gr_history.specs.Floor.{removal_of, expired_at, expired}
 use Rattle.gr_history.specs.Stable.{timeout, last_heard, is_later, is_covered, is_stable_upto, is_due_from}
 use Rattle.gr_history.specs.Clock.{since, clock}
 use Rattle.gr_law.specs.Grids.{identity, Among, Older, Grid}

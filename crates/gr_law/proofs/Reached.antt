@@ -13,7 +13,8 @@ use Rattle.gr_history.specs.Ids.{id_of, ids_at, ids}
 use Rattle.gr_vector.specs.Ids.{has_id}
 use Rattle.gr_history.specs.Made.{made}
 use Rattle.gr_history.specs.Standing.{came, has_key, names, drops, is_known, standing}
-use Rattle.gr_history.specs.Floor.{floor, expired_at, greatest_ver, removal_of, is_removal}
+use Rattle.gr_stamp.specs.Winner.{is_removal}
+use Rattle.gr_history.specs.Floor.{floor, expired_at, greatest_ver, removal_of}
 use Rattle.gr_history.specs.Calls.{reach, ver_of}
 use Rattle.gr_law.specs.Grids.{identity, Among, Older, Grid}
 use Rattle.gr_law.specs.Integrity.{IsMade, IsGenuine, IsGenuineDeed, IsSound, IsGift, giver_of}

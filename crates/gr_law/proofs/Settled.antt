@@ -10,14 +10,14 @@ use Rattle.gr_history.specs.declared.ask.Ask.{Ask}
 use Rattle.gr_history.specs.declared.reply.Reply.{Reply}
 use Rattle.gr_stamp.specs.declared.change.Change.{Change}
 use Rattle.gr_stamp.specs.Version.{Version, beats}
-use Rattle.gr_stamp.specs.Winner.{winner, wins}
+use Rattle.gr_stamp.specs.Winner.{winner, wins, is_removal}
 use Rattle.gr_stamp.proofs.Order.{beats_itself, beats-greater}
 use Rattle.gr_history.specs.declared.deed.Deed.{Deed}
 use Rattle.gr_history.specs.declared.deed.Deed.TheVariants.{Call, Taken, Gave, Imaged, Reported, Heard, Swept}
 use Rattle.gr_history.specs.Ids.{id_of, ids_at, ids}
 use Rattle.gr_vector.specs.Ids.{has_id}
 use Rattle.gr_history.specs.Standing.{names, lasting, standing}
-use Rattle.gr_history.specs.Floor.{is_removal, removal_of, expired_at, expired}
+use Rattle.gr_history.specs.Floor.{removal_of, expired_at, expired}
 use Rattle.gr_law.specs.Grids.{identity, Among, Older, Grid}
 use Rattle.gr_law.specs.Integrity.{IsMade, IsGenuine, IsGenuineDeed, IsSound, giver_of}
 use Rattle.gr_history.specs.Lawful.{IsLawful, IsLawfulDeed}

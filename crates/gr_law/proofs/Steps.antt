@@ -18,7 +18,8 @@ use Rattle.gr_vector.specs.Ids.{has_id}
 use Rattle.gr_history.specs.Made.{made_at, made}
 use Rattle.gr_history.specs.Standing.{came, names, drops, lasting, standing, changes}
 use Rattle.gr_history.specs.Calls.{ver_of}
-use Rattle.gr_history.specs.Floor.{greatest_ver, is_removal}
+use Rattle.gr_stamp.specs.Winner.{is_removal}
+use Rattle.gr_history.specs.Floor.{greatest_ver}
 use Rattle.gr_history.specs.Stable.{is_due, is_due_from}
 use Rattle.gr_history.specs.Clock.{since}
 use Rattle.gr_law.specs.Grids.{identity, Among, Older, Grid}

@@ -3,14 +3,14 @@ use Rattle.std.specs.Prelude.{◌≡◌, ◌≤◌, ◌<◌, ◌∷◌, ◌++◌
 use Rattle.std.specs.Option.{option_to_list}
 use Rattle.gr_stamp.specs.declared.change.Change.{Change}
 use Rattle.gr_stamp.specs.Version.{beats}
-use Rattle.gr_stamp.specs.Winner.{winner, holds}
+use Rattle.gr_stamp.specs.Winner.{winner, holds, is_removal}
 use Rattle.gr_vector.specs.Ids.{has_id}
 use Rattle.gr_history.specs.declared.deed.Deed.{Deed}
 use Rattle.gr_history.specs.declared.deed.Deed.TheVariants.{Call, Taken, Gave, Imaged, Reported, Heard, Swept}
 use Rattle.gr_history.specs.Ids.{id_of, ids}
 use Rattle.gr_history.specs.Made.{made_at}
 use Rattle.gr_history.specs.Standing.{came, standing, present, changes}
-use Rattle.gr_history.specs.Floor.{is_removal, expired}
+use Rattle.gr_history.specs.Floor.{expired}
 use Rattle.gr_history.specs.Calls.{reach}
 use Rattle.gr_law.specs.Grids.{Among, Older, Grid}
 use Rattle.gr_law.specs.Integrity.{IsMade, giver_of}

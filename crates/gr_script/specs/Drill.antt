@@ -1,9 +1,10 @@
 -- The drill: a script that is drawn from a number.
-use Rattle.std.specs.Prelude.{ℕ, zero, suc, ◌+◌, ◌-◌, ◌*◌, ◌/◌, ◌%◌, List, [], ◌∷◌, ◌++◌, codes, nat_lt, ◌==◌, if◌then◌else◌}
+use Rattle.std.specs.Prelude.{◌≡◌, ℕ, zero, suc, ◌+◌, ◌-◌, ◌*◌, ◌/◌, ◌%◌, List, [], ◌∷◌, ◌++◌, codes, nat_lt, ◌==◌, if◌then◌else◌}
 use Rattle.std.specs.Fmt.{decimal}
 use Rattle.std.specs.Prelude.{pos}
 use Rattle.gr_value.specs.declared.scalar.Scalar.TheVariants.{Int}
 use Rattle.gr_value.specs.declared.value.Field.{Field}
+use Rattle.gr_oql.specs.Grammar.{Spells}
 use Rattle.gr_oql.specs.Question.{Question}
 use Rattle.gr_history.specs.declared.ask.Ask.{Ask}
 use Rattle.gr_history.specs.declared.ask.Ask.TheVariants as ask
@@ -28,8 +29,11 @@ drill_client step = 1 + (step - 1) % 16
 abbrev pub drill_homes : List ℕ
 drill_homes = 1 ∷ 2 ∷ 3 ∷ 4 ∷ 1 ∷ 2 ∷ 3 ∷ 4 ∷ 1 ∷ 2 ∷ 3 ∷ 4 ∷ 1 ∷ 2 ∷ 3 ∷ 4 ∷ []
 
+abbrev pub drill_region : List ℕ
+drill_region = codes "/drill"
+
 abbrev pub drill_heading : ℕ → Heading
-drill_heading start = heading (codes "/drill") 4 4 8 8 start 0 drill_homes
+drill_heading start = heading drill_region 4 4 8 8 start 0 drill_homes
 
 -- ---- what is asked at a step, by the two numbers that are drawn for it
 
@@ -90,11 +94,20 @@ drill_steps (suc left) step x =
 abbrev pub drill_query : List ℕ
 drill_query = codes "SELECT * FROM /drill WHERE n >= 500"
 
+-- what each client calls its query
+abbrev pub query_name : List ℕ
+query_name = codes "q"
+
 abbrev pub asks_at : (ℕ → ℕ) → QueryAsk → List Line
 asks_at seq asked = at_members (λ client. Step client (seq client) (Query asked))
 
--- what the drill is, where this is what its query's text asks
+-- the lines, where this is what the query's text asks
 abbrev pub drill_lines : Question → ℕ → ℕ → List Line
 drill_lines asked start steps =
-    asks_at (λ client. 1) (query.Enrol (codes "q") asked)
-    ++ (drill_steps steps 1 start ++ asks_at (λ client. steps_made client steps + 2) (query.Fetch (codes "q")))
+    asks_at (λ client. 1) (query.Enrol query_name asked)
+    ++ (drill_steps steps 1 start ++ asks_at (λ client. steps_made client steps + 2) (query.Fetch query_name))
+
+-- a script of so many steps that are drawn from the number, in which the query asks what its text spells
+abbrev pub IsDrill : ℕ → ℕ → Heading × List Line → Type 0
+IsDrill start steps script = (asked : Question) × Spells drill_query asked ×
+    (script ≡ (drill_heading start, drill_lines asked start steps))

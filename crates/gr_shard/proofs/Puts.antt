@@ -5,7 +5,7 @@ use Rattle.std.proofs.lemmas.List.Elements.{filter-append}
 use Rattle.std.proofs.lemmas.List.Filters.{length-filter_both}
 use Rattle.std.proofs.lemmas.List.Sums.{length-filter}
 use Rattle.gr_stamp.specs.declared.change.Change.{Change}
-use Rattle.gr_history.specs.Floor.{is_removal}
+use Rattle.gr_stamp.specs.Winner.{is_removal}
 use Rattle.gr_slots.specs.declared.slot.Slot.{Slot}
 use Rattle.gr_shard.specs.Entries.{change_of, changes_in, puts_of, removals_of}
 

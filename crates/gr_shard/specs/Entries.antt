@@ -5,7 +5,7 @@ use Rattle.gr_stamp.specs.Version.{Version, beats}
 use Rattle.gr_vector.specs.Ids.{Id}
 use Rattle.gr_vector.specs.Order.{with_id}
 use Rattle.gr_history.specs.Ids.{id_of}
-use Rattle.gr_history.specs.Floor.{is_removal}
+use Rattle.gr_stamp.specs.Winner.{is_removal}
 use Rattle.gr_history.specs.declared.verdict.Verdict.{Verdict}
 use Rattle.gr_history.specs.declared.verdict.Verdict.TheVariants.{Applied, Discarded, Repeat}
 use Rattle.gr_slots.specs.declared.slot.Slot.{Slot}

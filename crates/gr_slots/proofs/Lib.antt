@@ -1,2 +1,4 @@
+pub mod Due
 pub mod Found
 pub mod Ordered
+pub mod Timed

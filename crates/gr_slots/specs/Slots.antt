@@ -1,9 +1,10 @@
 -- Slots by their keys, in order.
-use Rattle.std.specs.Prelude.{ℕ, List, Bool, Option}
+use Rattle.std.specs.Prelude.{ℕ, ◌-◌, List, Bool, ◌&&◌, nat_le, filter, count_by, Option, Some, None, if◌then◌else◌}
 use Rattle.std.specs.Ordering.{nat_cmp}
 use Rattle.std.specs.Cmp.Lexicographic.{slice_cmp}
 use Rattle.std.specs.BTreeMap.{insert_entry, is_at}
-use Rattle.std.specs.Map.{lookup, remove_entry}
+use Rattle.std.specs.Map.{lookup, remove_entry, keys_of}
+use Rattle.gr_stamp.specs.Winner.{is_removal}
 use Rattle.gr_slots.specs.declared.slot.Slot.{Slot}
 
 abbrev pub Entries : Type 0
@@ -23,3 +24,24 @@ with_slot key slot slots = insert_entry (slice_cmp nat_cmp) slots key slot
 -- without the slot of the key
 abbrev pub without : List ℕ → Entries → Entries
 without key slots = remove_entry (is_key key) slots
+
+-- when what stands came in, where it is a removal
+abbrev pub removed_at : Option Slot → Option ℕ
+removed_at None = None
+removed_at (Some slot) = if is_removal slot.kind then Some slot.taken_at else None
+
+-- whether what came in at a moment has timed out by the clock, in seconds
+abbrev pub is_late : ℕ → ℕ → Bool
+is_late clock taken_at = nat_le 600 (clock - taken_at)
+
+-- whether a slot is a removal that has timed out
+abbrev pub is_timed_out : ℕ → Slot → Bool
+is_timed_out clock slot = is_removal slot.kind && is_late clock slot.taken_at
+
+-- the keys of the removals that have timed out, in order
+abbrev pub timed_out : ℕ → Entries → List (List ℕ)
+timed_out clock slots = keys_of (filter (λ entry. is_timed_out clock entry.1) slots)
+
+-- how many slots are removals
+abbrev pub tombstones : Entries → ℕ
+tombstones slots = count_by (λ entry. is_removal entry.1.kind) slots

@@ -1,8 +1,11 @@
 //! What stands at the keys of a shard: at most one slot for each key.
 #![tactic(auto)]
 
+mod removals;
 mod slot;
 mod slots;
+#[cfg(test)]
+mod tests;
 
 pub use slot::Slot;
 pub use slots::Slots;

@@ -1,29 +1,35 @@
-ghost use Rattle.std.specs.Prelude.{◌≡◌, [], OnOk, OnErr, option_copied, is_some};
-ghost use Rattle.gr_slots.specs.Slots.{slot_at, with_slot, without};
+ghost use Rattle.std.specs.Prelude.{◌≡◌, [], OnOk, OnErr, IfOk, option_copied, is_some};
+ghost use Rattle.std.specs.Ordering.{nat_cmp};
+ghost use Rattle.std.specs.Cmp.Lexicographic.{slice_cmp};
+ghost use Rattle.std.specs.List.Sorted.{IsStrictlySortedBy};
+ghost use Rattle.std.specs.Map.{keys_of};
+ghost use Rattle.gr_slots.specs.Slots.{slot_at, with_slot, without, timed_out, tombstones};
 
 use crate::Slot;
-use gr_value::{Key, Memory};
+use crate::removals::{add, insert, listed, removed_at, stale_of, take, timed_out};
+use gr_value::{Copied, Key, KeyList, Memory};
 use std::alloc::Global;
-use std::collections::BTreeMap;
+use std::collections::{BTreeMap, BTreeSet};
 use std::marker::Model;
 
-/// Slots by their keys. Contracts see them as a list in the order of the keys.
+/// Slots by their keys. Contracts see them as a list in the order of the keys. Beside them stands when
+/// each removal came in, in that order, so that those that have timed out are found without a scan.
 #[derive(Drop)]
 pub struct Slots {
+    alloc: Global,
     entries: BTreeMap<Key, Slot>,
+    removals: BTreeSet<(u64, Key)>,
 }
 
 impl Model for Slots {
-    ghost use Rattle.std.specs.Ordering.{nat_cmp};
-    ghost use Rattle.std.specs.Cmp.Lexicographic.{slice_cmp};
-    ghost use Rattle.std.specs.BTreeMap.{IsOrdered};
     ghost use Rattle.gr_slots.specs.Slots.{Entries};
+    ghost use Rattle.gr_slots.specs.Removals.{AreIndexed};
 
     ghost Value = { Entries };
 
     ghost view = { λ s. s.entries.entries };
 
-    ghost invariant = { λ s. IsOrdered (slice_cmp nat_cmp) s.entries };
+    ghost invariant = { λ s. AreIndexed s.entries s.removals };
 }
 
 impl Slots {
@@ -31,7 +37,9 @@ impl Slots {
         ensures { result ≡ [] }
     {
         Slots {
+            alloc,
             entries: BTreeMap::new(alloc),
+            removals: BTreeSet::new(alloc),
         }
     }
 
@@ -53,8 +61,17 @@ impl Slots {
         ensures ok { OnOk result (self.new ≡ with_slot key slot self.old) }
         ensures err { OnErr result (self.new ≡ self.old) }
     {
-        self.entries.insert(key, slot)?;
-        Ok(())
+        let before = removed_at(self.entries.get(&key));
+        let after = removed_at(Some(&slot));
+        let again = key.copy(self.alloc)?;
+        add(self.alloc, &mut self.removals, after, &key)?;
+        let set = insert(&mut self.entries, key, slot);
+        take(
+            &mut self.removals,
+            stale_of(before, after, set.is_ok()),
+            again,
+        );
+        set
     }
 
     /// Takes the key's slot away, and answers whether it had one.
@@ -62,6 +79,27 @@ impl Slots {
         ensures had { result ≡ is_some (slot_at key.now self.old) }
         ensures gone { self.new ≡ without key.now self.old }
     {
-        self.entries.remove(key).is_some()
+        let Some((key, slot)) = self.entries.remove_entry(key) else {
+            return false;
+        };
+        take(&mut self.removals, removed_at(Some(&slot)), key);
+        true
+    }
+
+    /// The keys whose removal came in 600 seconds or more before the clock, in order. Only these are
+    /// looked at.
+    pub fn timed_out(&self, alloc: Global, clock: u64) -> Result<KeyList, Memory>
+        ensures keys { IfOk result (λ keys. keys ≡ timed_out clock self.now) }
+        ensures ordered { IsStrictlySortedBy (slice_cmp nat_cmp) (keys_of self.now) }
+    {
+        let due = timed_out(alloc, &self.removals, clock)?;
+        listed(alloc, &due)
+    }
+
+    /// How many of the slots are removals.
+    pub fn tombstones(&self) -> u64
+        ensures { result ≡ tombstones self.now }
+    {
+        self.removals.len() as u64
     }
 }

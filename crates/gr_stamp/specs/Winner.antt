@@ -25,6 +25,10 @@ abbrev pub put_value : Kind → Option (List Field)
 put_value (Put value) = Some value
 put_value Remove = None
 
+abbrev pub is_removal : Kind → Bool
+is_removal (Put value) = false
+is_removal Remove = true
+
 -- what the changes leave at a key: the value, where its winner is a put
 abbrev pub holds : List ℕ → List Change → Option (List Field)
 holds key changes = option_and_then (λ change. put_value change.kind) (winner key changes)

@@ -1,11 +1,11 @@
 -- The first range, the last, and how many end below the greatest number.
 use Rattle.std.proofs.Common.{◌≡◌, ℕ, zero, suc, ◌+◌, ◌<◌, ◌≤◌, List, [], ◌∷◌, length, get_or, Bool, true, false, not, ◌&&◌, ◌||◌, ltb}
-use Rattle.std.proofs.Common.{leb, refl, sym, ◌∙◌, subst, ap, arith, if◌then◌else◌}
+use Rattle.std.proofs.Common.{◌⊎◌, inl, inr, leb, refl, sym, ◌∙◌, subst, ap, arith, if◌then◌else◌}
 use Rattle.std.proofs.lemmas.Bool.Decides.{nat_tests}
 use Rattle.gr_vector.specs.declared.gap.Gap.{Gap}
 use Rattle.gr_vector.specs.declared.gap.TheConstants.{END}
 use Rattle.gr_vector.specs.Gaps.{is_missing, AreApart, AreGaps, last_start, greatest, holds, holds_upto, ends_upto}
-use Rattle.gr_vector.proofs.Apart.{none_below, start_above, start_below, before_last, holds_within}
+use Rattle.gr_vector.proofs.Apart.{apart_low, none_below, start_above, start_below, before_last, holds_within}
 
 pub last_start-is : (s : ℕ) (gap : Gap) (rest : List Gap) (d : Gap) → last_start s (gap ∷ rest)
     ≡ (get_or (gap ∷ rest) (length rest) d).first
@@ -99,14 +99,35 @@ ends (gap ∷ rest) h =
     let all = ended_all (greatest (gap ∷ rest)) 1 END 1 gap rest h.0 (omega (arith, a)) in
     omega (arith, n, all)
 
-pub covers_is : (n : ℕ) (gap : Gap) (gaps : List Gap) → AreGaps gaps → n < END → gap ≡ get_or gaps 0 gap → ltb n gap.first
-    ≡ holds_upto n gaps
-covers_is n gap [] h lt is = absurd (no h.1)
+none_above : (v top : ℕ) (m b : Bool) → top < v → ((ltb 0 v && (leb v top && not m)) && b) ≡ false
+none_above v top m b lt = grind (arith, nat_tests)
+
+-- from the end on nothing is held
+held_below : (n : ℕ) (gap : Gap) (rest : List Gap) → AreGaps (gap ∷ rest) → END ≤ n → ltb n gap.first ≡ holds_upto n (gap ∷ rest)
+held_below zero gap rest h le = absurd (omega (arith, le))
+held_below (suc n) gap rest h le =
+    let below = start_below 1 END 1 (gap ∷ rest) h.0 (omega arith) in
+    let last = apart_low (gap.last + 2) END rest h.0.2 in
+    not_below (suc n) gap.first (omega (arith, le, last, h.0.1))
+    ∙ sym (none_above (suc n) (greatest (gap ∷ rest)) (is_missing (suc n) (gap ∷ rest)) (holds_upto n (gap ∷ rest))
+    (omega (arith, le, below)))
+  where
+    not_below : (v first : ℕ) → first ≤ v → ltb v first ≡ false
+    not_below v first le = grind (arith, nat_tests)
+
+pub covers_is : (n : ℕ) (gap : Gap) (gaps : List Gap) → AreGaps gaps → gap ≡ get_or gaps 0 gap → ltb n gap.first ≡ holds_upto n gaps
+covers_is n gap [] h is = absurd (no h.1)
   where
     no : false ≡ true → ⊥
     no e = cc
-covers_is n gap (first ∷ rest) h lt is =
-    ap (λ g. ltb n g.first) is ∙ sym (holds_upto-is n first rest h lt)
+covers_is n gap (first ∷ rest) h is = ap (λ g. ltb n g.first) is ∙ either (below n)
+  where
+    below : (n : ℕ) → (n < END) ⊎ (END ≤ n)
+    below n = grind arith
+
+    either : (n < END) ⊎ (END ≤ n) → ltb n first.first ≡ holds_upto n (first ∷ rest)
+    either (inl lt) = sym (holds_upto-is n first rest h lt)
+    either (inr le) = held_below n first rest h le
 
 pub last_is : (last : ℕ) (gap : Gap) (gaps : List Gap) → AreGaps gaps → last + 1 ≡ length gaps → gap ≡ get_or gaps last gap
     → last_start 1 gaps ≡ gap.first

@@ -4,9 +4,11 @@
 mod gap;
 mod missing;
 mod report;
+mod shared;
 #[cfg(test)]
 mod tests;
 mod vector;
 
 pub use report::{Report, ReportList};
+pub use shared::SharedVector;
 pub use vector::Vector;

@@ -141,7 +141,6 @@ impl Missing {
     }
 
     pub fn covers(&self, upto: u64) -> bool
-        requires { upto < END }
         ensures { result ≡ holds_upto upto self.now.gaps }
     {
         upto < self.gaps[0].first

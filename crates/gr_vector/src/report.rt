@@ -1,15 +1,15 @@
-use crate::Vector;
+use crate::SharedVector;
 use gr_value::{Copied, ItemList, Memory};
 use std::alloc::Global;
 
 /// What a member says of a shard: the length of its history, the greatest number of its own changes,
-/// and all the ids that it knows.
+/// and all the ids that it knows, which its copies share.
 #[derive(Drop)]
 pub struct Report {
     pub member: u8,
     pub at: u64,
     pub own: u64,
-    pub vector: Vector,
+    pub vector: SharedVector,
 }
 
 pub type ReportList = ItemList<Report>;
@@ -20,7 +20,7 @@ impl Copied for Report {
             member: self.member,
             at: self.at,
             own: self.own,
-            vector: Copied::copy(&self.vector, alloc)?,
+            vector: self.vector.copy(alloc)?,
         })
     }
 }

@@ -1,6 +1,6 @@
 ghost use Rattle.std.specs.Prelude.{◌≤◌};
 
-use crate::{Report, ReportList, Vector};
+use crate::{Report, ReportList, SharedVector, Vector};
 use gr_value::{Copied, Memory};
 
 /// The greatest number that a change can have.
@@ -59,6 +59,7 @@ fn numbers_come_in_any_order(rt: HostRuntime) {
         assert!(rt; upto < GREATEST);
         assert!(rt; vector.covers(8, upto));
         assert!(rt; !vector.covers(8, upto + 1));
+        assert!(rt; !vector.covers(8, u64::MAX));
         assert!(rt; vector.top(7) == 0);
     }
 }
@@ -87,11 +88,12 @@ fn room_is_made_and_copies_are_taken(rt: HostRuntime) {
     let mut vector = noted(&rt, 3, &[4]).expect(&rt, "memory");
     vector.reserve().expect(&rt, "memory");
     assert!(rt; vector.note(3, 2).expect(&rt, "memory"));
+    let copied = vector.copy(rt.alloc()).expect(&rt, "memory");
     let report = Report {
         member: 3,
         at: 2,
         own: vector.top(3),
-        vector: vector.copy(rt.alloc()).expect(&rt, "memory"),
+        vector: SharedVector::new(rt.alloc(), copied).expect(&rt, "memory"),
     };
     let mut reports = ReportList::new(rt.alloc()).expect(&rt, "memory");
     let again = report.copy(rt.alloc()).expect(&rt, "memory");
@@ -99,8 +101,8 @@ fn room_is_made_and_copies_are_taken(rt: HostRuntime) {
     let copies = reports.copy(rt.alloc()).expect(&rt, "memory");
     let copy = copies.get(0).expect(&rt, "a report");
     assert!(rt; copy.own == 4);
-    assert!(rt; copy.vector.holds(3, 2));
-    assert!(rt; !copy.vector.holds(3, 3));
+    assert!(rt; copy.vector.vector().holds(3, 2));
+    assert!(rt; !copy.vector.vector().holds(3, 3));
     let with_room = Copied::copy(&vector, rt.alloc()).expect(&rt, "memory");
     assert!(rt; with_room.exceptions(3) == 2);
 }

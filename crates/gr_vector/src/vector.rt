@@ -106,7 +106,6 @@ impl Vector {
     pub fn covers(&self, member: u8, upto: u64) -> bool
         requires a_member { 1 ≤ member }
         requires of_eight { member ≤ 8 }
-        requires in_range { upto < END }
         ensures { result ≡ covers member upto self.now.ids }
     {
         self.members[usize::from(member) - 1].covers(upto)

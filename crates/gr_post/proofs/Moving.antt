@@ -1,0 +1,24 @@
+-- What waited was sent.
+use Rattle.std.proofs.Common.{◌≡◌, ◌≤◌, ℕ, List, ◌∷◌, ◌++◌, Option, sym, ap, ◌∙◌, subst}
+use Rattle.gr_post.specs.declared.mail.Mail.{Mail}
+use Rattle.gr_post.specs.declared.fate.Held.{Held}
+use Rattle.gr_post.specs.declared.fate.Fate.{Fate}
+use Rattle.gr_post.specs.Passes.{Sending, refused_by}
+use Rattle.gr_post.specs.Lanes.{Moves}
+
+-- after some mails went, the next one found the inbox full
+pub full_moves : (pass before after : Sending) (waited left behind now : List Mail) (held0 held : List Held) (ready0 ready : Option Fate)
+    (gone : List Mail) (mail back : Mail) → waited ≡ gone ++ left → before ≡ record pass { sent = pass.sent ++ gone } → held ≡ held0
+    → left ≡ mail ∷ behind → back ≡ mail → after ≡ refused_by before → before.refused ≤ after.refused → now ≡ back ∷ behind
+    → Moves (record { pass = pass; waiting = waited; held = held0; ready = ready0 }) (record { pass = after; waiting = now; held = held; ready = ready })
+full_moves pass before after waited left behind now held0 held ready0 ready gone mail back a b c d e f g h = record {
+  gone = gone;
+  waiting = a ∙ ap (λ (l : List Mail). gone ++ l) (d ∙ ap (λ (x : Mail). x ∷ behind) (sym e) ∙ sym h);
+  pass =
+      let table = ap (λ (s : Sending). s.table) (f ∙ ap refused_by b) in
+      let number = ap (λ (s : Sending). s.number) (f ∙ ap refused_by b) in
+      let sent = ap (λ (s : Sending). s.sent) (f ∙ ap refused_by b) in
+      λ i. record { table = table i; number = number i; sent = sent i; refused = after.refused };
+  rises = subst (λ (n : ℕ). n ≤ after.refused) (ap (λ (s : Sending). s.refused) b) g;
+  held = c;
+}

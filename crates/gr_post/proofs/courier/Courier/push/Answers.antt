@@ -1,0 +1,35 @@
+use Rattle.std.proofs.Common.{◌<◌, List, ℕ, length, get_or, map, sym, subst}
+use Rattle.gr_post.specs.Passes.{Ring}
+use Rattle.gr_post.specs.Couriers.{Carrying, Line, line_of, AreOf, LineMoves, IsRefused}
+use Rattle.gr_post.specs.Lanes.{AreTheirs}
+use Rattle.gr_post.proofs.Carried.{follows_plan, moves, line_moves, none_wait, is_refused, are_theirs}
+use Rattle.gr_post.proofs.courier.Courier.push.Goals as goal
+
+pub send_each-requires-after_bounds : goal.send_each-requires-after_bounds
+send_each-requires-after_bounds g c κs within =
+    let ways = c.self.inside.lanes.items in
+    subst (λ (rings : List Ring). AreTheirs rings ways) (sym c.as_slice.ensures)
+    (are_theirs c.args.inboxes.now ways (subst (λ (k : Carrying). AreOf c.args.inboxes.now k.lines) (sym c.self.view_is) c.requires))
+
+pub returns-clause-moves : goal.returns-clause-moves
+returns-clause-moves g c =
+    let now = c.send_each.new.lanes.items in
+    subst (λ (k : Carrying). (n : ℕ) (d : Line) → n < length k.lines → LineMoves (get_or k.lines n d) (get_or (map line_of now) n d))
+    c.self.view_is
+    (line_moves c.self.inside.lanes.items now c.send_each.ensures.count c.send_each.ensures.moves)
+
+pub returns-clause-plan : goal.returns-clause-plan
+returns-clause-plan g c =
+    let s = c.self.inside in
+    let now = c.send_each.new.lanes.items in
+    follows_plan now s.posted.items s.first s.number s.stage
+    (moves s.lanes.items now s.posted.items s.first s.number s.stage c.self.invariant.0 c.send_each.ensures.count c.send_each.ensures.moves)
+
+pub returns-clause-all : goal.returns-clause-all
+returns-clause-all g c = λ e. none_wait c.send_each.new.lanes.items (c.send_each.ensures.all e)
+
+pub returns-clause-refused : goal.returns-clause-refused
+returns-clause-refused g c = λ e.
+    let now = c.send_each.new.lanes.items in
+    subst (λ (k : Carrying). IsRefused k.lines (map line_of now)) c.self.view_is
+    (is_refused c.self.inside.lanes.items now c.send_each.ensures.count (c.send_each.ensures.refused e))

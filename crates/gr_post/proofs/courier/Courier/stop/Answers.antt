@@ -1,0 +1,13 @@
+use Rattle.std.proofs.Common.{ap, ◌∙◌, map}
+use Rattle.gr_post.specs.declared.stage.Stage.TheVariants.{Stopped}
+use Rattle.gr_post.specs.Couriers.{Carrying, stopped_line}
+use Rattle.gr_post.proofs.Carried.{lines_stopped}
+use Rattle.gr_post.proofs.courier.Courier.stop.Goals as goal
+
+pub returns : goal.returns
+returns c =
+    let s = c.self.inside in
+    let p = c.stop_each in
+    let lines = lines_stopped s.lanes.items p.new.lanes.items p.ensures.count p.ensures.each in
+    (λ i. record { lines = lines i; posted = s.posted.items; first = s.first; stage = Stopped })
+    ∙ ap (λ (k : Carrying). record k { lines = map stopped_line k.lines; stage = Stopped }) c.self.view_is

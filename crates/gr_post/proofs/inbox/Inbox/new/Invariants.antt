@@ -1,0 +1,14 @@
+use Rattle.std.proofs.Common.{◌≡◌, ◌≤◌, ℕ, length, slice_get, Some}
+use Rattle.std.specs.Vec.{vec_capacity}
+use Rattle.crossbeam_queue.specs.Passes.{view, IsPassOf}
+use Rattle.gr_post.specs.Views.{taker}
+use Rattle.gr_post.specs.Passes.{sender_of}
+use Rattle.gr_post.proofs.inbox.Inbox.new.Given as goal
+
+abbrev pub invariant-loop-number : goal.invariant-loop-number
+invariant-loop-number l =
+    IsPassOf l.queue l.token
+    × (view l.token ≡ record taker { made = l.number })
+    × (length l.passes.items ≡ l.number)
+    × (l.fn.senders ≤ vec_capacity l.passes)
+    × ((k : ℕ) (pass : _) → slice_get l.passes.items k ≡ Some pass → pass ≡ sender_of l.queue.table.shared.table_id k)

@@ -1,0 +1,98 @@
+ghost use Rattle.std.specs.Prelude.{◌≡◌, ◌≤◌, ◌<◌, ℕ, [], length, slice_get, true, Some, IfNone, IfSome, IfOk, IfErr};
+ghost use Rattle.crossbeam_queue.specs.Fifo.{Held};
+ghost use Rattle.gr_post.specs.Mails.{StartsWith, EndsWith, of, has_end, IsClosed};
+ghost use Rattle.gr_post.specs.Passes.{Rose, sender_of, taker_of, sent_by, refused_by, taken_by, met_by, IsInOrder, HasAll};
+
+use crate::inbox::{Full, Inbox};
+use crate::mail::{Mail, Posted};
+use crate::passes::{SendPass, SendPassList, TakePass};
+use crate::rule::{Enlist, Meet, Sends, Takes};
+use crossbeam_queue::RuledArrayQueue;
+use gr_value::Memory;
+use std::alloc::Global;
+use std::sync::Wait;
+
+impl Inbox {
+    /// An inbox with room for so many mails, a pass for each sender, and one for its taker. The number of a
+    /// sender is its place in the list.
+    pub fn new(
+        alloc: Global,
+        capacity: u32,
+        senders: u32,
+    ) -> Result<(Inbox, SendPassList, TakePass), Memory>
+        requires { (1 ≤ capacity) × (capacity ≤ 4096) }
+        ensures capacity { IfOk result (λ made. made.0.capacity ≡ capacity) }
+        ensures count { IfOk result (λ made. length made.1 ≡ senders) }
+        ensures senders { IfOk result (λ made. (k : ℕ) (pass : _) → slice_get made.1 k ≡ Some pass → pass ≡ sender_of made.0.table k) }
+        ensures taker { IfOk result (λ made. made.2 ≡ taker_of made.0.table senders) }
+    {
+        let mut passes = Vec::with_capacity(alloc, senders as usize)?;
+        let (queue, mut token) = RuledArrayQueue::ruled(alloc, capacity as usize)?;
+        for number in 0..senders {
+            let pass = SendPass {
+                token: queue.another::<Enlist>(&mut token),
+                number,
+                refused: 0,
+            };
+            passes.push_reserved(pass);
+        }
+        Ok((
+            Inbox { queue },
+            SendPassList { passes },
+            TakePass { token, sender: 0 },
+        ))
+    }
+
+    /// Puts a mail last. It may wait for other threads that are in the middle of a call.
+    pub fn send<R: Wait + Sync>(&self, rt: &R, pass: &mut SendPass, mail: Mail) -> Result<(), Full>
+        requires { pass.old.table ≡ self.now.table }
+        ensures sent { IfOk result (λ _. pass.new ≡ sent_by pass.old mail) }
+        ensures back { IfErr result (λ full. full.mail ≡ mail) }
+        ensures refused { IfErr result (λ _. (pass.new ≡ refused_by pass.old) × Rose pass.old.refused pass.new.refused) }
+        ensures never_falls { pass.old.refused ≤ pass.new.refused }
+        ensures full { IfErr result (λ _. Held self.now.capacity (λ mails. EndsWith pass.old.sent (of pass.old.number mails))) }
+    {
+        let posted = Posted {
+            from: pass.number,
+            mail,
+        };
+        match self.queue.push_as::<Sends, R>(rt, &mut pass.token, posted) {
+            Ok(()) => Ok(()),
+            Err(posted) => {
+                pass.refused = pass.refused.saturating_add(1);
+                Err(Full { mail: posted.mail })
+            }
+        }
+    }
+
+    /// Takes the first mail. It may wait for other threads that are in the middle of a call.
+    pub fn take<R: Wait + Sync>(&self, rt: &R, pass: &mut TakePass) -> Option<Mail>
+        requires { pass.old.table ≡ self.now.table }
+        ensures taken { IfSome result (λ mail. pass.new ≡ taken_by pass.old pass.new.sender mail) }
+        ensures sender { IfSome result (λ _. pass.new.sender < pass.old.senders) }
+        ensures order { IfSome result (λ _. IsInOrder pass.new) }
+        ensures none { IfNone result (pass.new ≡ pass.old) }
+        ensures empty { IfNone result (HasAll pass.new) }
+    {
+        let posted = self.queue.pop_as::<Takes, R>(rt, &mut pass.token)?;
+        pass.sender = posted.from;
+        Some(posted.mail)
+    }
+
+    /// Ends a sender's pass, and tells the taker what that one sent.
+    pub fn meet(&self, into: &mut TakePass, from: SendPass)
+        requires { (into.old.table ≡ self.now.table) × (from.table ≡ self.now.table) }
+        ensures met { into.new ≡ met_by into.old from }
+        ensures order { IsInOrder into.new }
+        ensures first { StartsWith from.sent (of from.number into.new.taken) }
+        ensures whole { IsClosed from.sent → has_end (of from.number into.new.taken) ≡ true → of from.number into.new.taken ≡ from.sent }
+    {
+        let SendPass {
+            token,
+            number: _,
+            refused: _,
+        } = from;
+        self.queue.absorb::<Meet>(&mut into.token, token);
+        self.queue.learn_as::<Takes>(&mut into.token);
+    }
+}

@@ -1,0 +1,205 @@
+ghost use Rattle.std.specs.Prelude.{◌≡◌, ◌++◌, ◌+◌, ◌≤◌, ◌<◌, [], ◌∷◌, Some, None, false, IfOk, OnErr, length};
+ghost use Rattle.std.specs.Option.{option_to_list};
+ghost use Rattle.std.specs.VecDeque.{deque_len, deque_capacity};
+ghost use Rattle.gr_post.specs.declared.mail.Mail.TheVariants.{End};
+ghost use Rattle.gr_post.specs.declared.fate.Fate.TheVariants.{Last};
+ghost use Rattle.gr_post.specs.Passes.{Rose};
+ghost use Rattle.gr_post.specs.Plan.{fate, due, kept, mails};
+ghost use Rattle.gr_post.specs.Lanes.{settled, at_once, later, Moves, is_none};
+
+use crate::fate::{Fate, Held};
+use crate::inbox::Inbox;
+use crate::mail::Mail;
+use crate::passes::SendPass;
+use gr_value::Memory;
+use std::alloc::Global;
+use std::collections::VecDeque;
+use std::marker::Model;
+use std::sync::Wait;
+
+// The way to one inbox: what waits, what is held back, and what was made ready and hasn't happened yet.
+#[derive(Drop)]
+pub struct Lane {
+    pass: SendPass,
+    waiting: VecDeque<Mail>,
+    held: VecDeque<Held>,
+    ready: Option<Fate>,
+}
+
+impl Model for Lane {
+    ghost use Rattle.gr_post.specs.Lanes.{Way, HasRoom};
+
+    ghost Value = { Way };
+
+    ghost view = { λ lane. record { pass = lane.pass; waiting = lane.waiting.items; held = lane.held.items; ready = lane.ready } };
+
+    ghost invariant = { λ lane. HasRoom lane.waiting lane.held lane.ready };
+}
+
+// Releases one mail if it is due, and else counts down for it.
+fn pass_on(one: Held, waiting: &mut VecDeque<Mail>, held: &mut VecDeque<Held>)
+    requires waiting { deque_len waiting.old < deque_capacity waiting.old }
+    requires held { deque_len held.old < deque_capacity held.old }
+    ensures waiting { waiting.new.items ≡ waiting.old.items ++ due (one ∷ []) }
+    ensures held { held.new.items ≡ held.old.items ++ kept (one ∷ []) }
+    ensures one { deque_len waiting.new + deque_len held.new ≡ deque_len waiting.old + deque_len held.old + 1 }
+    ensures fewer { deque_len held.new ≤ deque_len held.old + 1 }
+    ensures waiting_room { deque_capacity waiting.new ≡ deque_capacity waiting.old }
+    ensures held_room { deque_capacity held.new ≡ deque_capacity held.old }
+{
+    if one.left == 1 {
+        waiting.push_back_reserved(one.mail);
+    } else {
+        let left = one.left.saturating_sub(1);
+        held.push_back_reserved(Held { left, ..one });
+    }
+}
+
+// Releases the mails that are due, and counts down for the others.
+fn release_due(waiting: &mut VecDeque<Mail>, held: &mut VecDeque<Held>)
+    requires { deque_len waiting.old + deque_len held.old ≤ deque_capacity waiting.old }
+    ensures waiting { waiting.new.items ≡ waiting.old.items ++ due held.old.items }
+    ensures held { held.new.items ≡ kept held.old.items }
+    ensures fewer { deque_len held.new ≤ deque_len held.old }
+    ensures waiting_room { deque_capacity waiting.new ≡ deque_capacity waiting.old }
+    ensures held_room { deque_capacity held.new ≡ deque_capacity held.old }
+{
+    for _ in 0..held.len() {
+        let Some(one) = held.pop_front() else {
+            unreachable!()
+        };
+        pass_on(one, waiting, held);
+    }
+}
+
+// Releases all that is held back, and an `End` behind it.
+fn release_all(waiting: &mut VecDeque<Mail>, held: &mut VecDeque<Held>)
+    requires { deque_len waiting.old + deque_len held.old + 1 ≤ deque_capacity waiting.old }
+    ensures waiting { waiting.new.items ≡ waiting.old.items ++ (mails held.old.items ++ End ∷ []) }
+    ensures held { held.new.items ≡ [] }
+    ensures waiting_room { deque_capacity waiting.new ≡ deque_capacity waiting.old }
+{
+    while let Some(one) = held.pop_front() {
+        waiting.push_back_reserved(one.mail);
+    }
+    waiting.push_back_reserved(Mail::End);
+}
+
+// Puts what is released at once, and hands out what is held back.
+fn release_now(waiting: &mut VecDeque<Mail>, fate: Fate) -> Option<Held>
+    requires { deque_len waiting.old + 2 ≤ deque_capacity waiting.old }
+    ensures waiting { waiting.new.items ≡ waiting.old.items ++ at_once fate }
+    ensures later { option_to_list result ≡ later fate }
+    ensures room { deque_capacity waiting.new ≡ deque_capacity waiting.old }
+{
+    match fate {
+        Fate::Once(mail) => {
+            waiting.push_back_reserved(mail);
+            None
+        }
+        Fate::Twice(mail, copy) => {
+            waiting.push_back_reserved(mail);
+            waiting.push_back_reserved(copy);
+            None
+        }
+        Fate::Hold(held) => Some(held),
+        Fate::Last => None,
+    }
+}
+
+impl Lane {
+    pub(crate) fn new(alloc: Global, pass: SendPass) -> Result<Lane, Memory>
+        ensures { IfOk result (λ lane. lane ≡ record { pass = pass; waiting = []; held = []; ready = None }) }
+    {
+        Ok(Lane {
+            pass,
+            waiting: VecDeque::with_capacity(alloc, 1)?,
+            held: VecDeque::new(alloc),
+            ready: None,
+        })
+    }
+
+    // Makes the copies and the room for a mail with this number.
+    pub(crate) fn prepare(&mut self, alloc: Global, mail: &Mail, number: u32) -> Result<(), Memory>
+        ensures ok { IfOk result (λ _. self.new ≡ record self.old { ready = Some (fate mail.now number) }) }
+        ensures err { OnErr result (self.new ≡ self.old) }
+    {
+        let fate = Fate::of(alloc, mail, number)?;
+        self.waiting.reserve(self.held.len() + 2)?;
+        self.held.reserve(1)?;
+        self.ready = Some(fate);
+        Ok(())
+    }
+
+    // Makes the room for what is held back and an `End`.
+    pub(crate) fn prepare_last(&mut self) -> Result<(), Memory>
+        ensures ok { IfOk result (λ _. self.new ≡ record self.old { ready = Some Last }) }
+        ensures err { OnErr result (self.new ≡ self.old) }
+    {
+        self.waiting.reserve(self.held.len() + 1)?;
+        self.ready = Some(Fate::Last);
+        Ok(())
+    }
+
+    // Nothing is ready.
+    pub(crate) fn skip(&mut self)
+        ensures { self.new ≡ record self.old { ready = None } }
+    {
+        self.ready = None;
+    }
+
+    // What was made ready happens.
+    pub(crate) fn settle(&mut self)
+        ensures { self.new ≡ settled self.old }
+    {
+        match self.ready.take() {
+            None => {}
+            Some(Fate::Last) => release_all(&mut self.waiting, &mut self.held),
+            Some(fate) => {
+                let later = release_now(&mut self.waiting, fate);
+                release_due(&mut self.waiting, &mut self.held);
+                if let Some(one) = later {
+                    self.held.push_back_reserved(one);
+                }
+            }
+        }
+    }
+
+    // Nothing is left but an `End`.
+    pub(crate) fn stop(&mut self)
+        ensures { self.new ≡ record { pass = self.old.pass; waiting = End ∷ []; held = []; ready = None } }
+    {
+        self.ready = None;
+        self.held.clear();
+        self.waiting.clear();
+        self.waiting.push_back_reserved(Mail::End);
+    }
+
+    // Sends what waits until the inbox is full, and says whether all was sent.
+    pub(crate) fn send<R: Wait + Sync>(&mut self, rt: &R, inbox: &Inbox) -> bool
+        requires { self.old.pass.table ≡ inbox.now.table }
+        ensures moves { Moves self.old self.new }
+        ensures all { result ≡ is_none self.new.waiting }
+        ensures refused { result ≡ false → Rose self.old.pass.refused self.new.pass.refused }
+    {
+        while let Some(mail) = self.waiting.pop_front() {
+            if let Err(full) = inbox.send(rt, &mut self.pass, mail) {
+                self.waiting.push_front_reserved(full.mail);
+                return false;
+            }
+        }
+        true
+    }
+
+    pub(crate) fn into_pass(self) -> SendPass
+        ensures { result ≡ self.pass }
+    {
+        let Lane {
+            pass,
+            waiting: _,
+            held: _,
+            ready: _,
+        } = self;
+        pass
+    }
+}

@@ -1,0 +1,23 @@
+//! Mail between threads: inboxes with any number of senders and one taker.
+#![tactic(auto)]
+
+mod calls;
+mod courier;
+mod fate;
+mod inbox;
+mod lane;
+mod lanes;
+mod mail;
+mod passes;
+mod rule;
+mod stage;
+mod view;
+
+pub use courier::Courier;
+pub use fate::{Fate, Held};
+pub use gr_value::Memory;
+pub use inbox::{Full, Inbox, InboxList};
+pub use mail::{Mail, Posted, Posting};
+pub use passes::{SendPass, SendPassList, TakePass};
+pub use stage::Stage;
+pub use view::{Met, View};

@@ -1,0 +1,118 @@
+ghost use Rattle.std.specs.Prelude.{◌≡◌, ℕ, List, true, false, cond, OnOk, OnErr, IfOk, Some, option_copied};
+ghost use Rattle.std.specs.Ordering.{nat_cmp};
+ghost use Rattle.std.specs.Cmp.Lexicographic.{slice_cmp};
+ghost use Rattle.std.specs.BTreeMap.{is_at, get, IsOrdered};
+ghost use Rattle.std.specs.BTreeSet.{contains, IsOrdered as IsOrderedSet};
+ghost use Rattle.gr_slots.specs.declared.slot.Slot.{Slot as SlotOf};
+ghost use Rattle.gr_slots.specs.Slots.{removed_at, with_slot};
+ghost use Rattle.gr_slots.specs.Removals.{Timed, timed_cmp, is_timed, is_any_due, stale_of};
+
+use crate::Slot;
+use gr_stamp::Kind;
+use gr_value::{Copied, Key, KeyList, Memory};
+use std::alloc::Global;
+use std::collections::{BTreeMap, BTreeSet};
+
+/// How many seconds after it came in a removal has timed out.
+const TIMEOUT: u64 = 600;
+
+/// When what stands came in, where it is a removal.
+pub fn removed_at(slot: Option<&Slot>) -> Option<u64>
+    ensures { result ≡ removed_at (option_copied slot.entry) }
+{
+    match slot {
+        Some(
+            Slot {
+                kind: Kind::Remove,
+                taken_at,
+                ..
+            },
+        ) => Some(*taken_at),
+        _ => None,
+    }
+}
+
+/// Which of the two moments has no removal any more, where a slot was to be set: the earlier slot's if
+/// it was, and else the new one's.
+pub fn stale_of(before: Option<u64>, after: Option<u64>, set: bool) -> Option<u64>
+    ensures { result ≡ stale_of before after set }
+{
+    if before == after {
+        None
+    } else if set {
+        before
+    } else {
+        after
+    }
+}
+
+/// Adds the moment and the key of a removal, if there is one.
+pub fn add(
+    alloc: Global,
+    removals: &mut BTreeSet<(u64, Key)>,
+    at: Option<u64>,
+    key: &Key,
+) -> Result<(), Memory>
+    ensures ok { OnOk result ((q : Timed) → contains timed_cmp removals.new q
+        ≡ cond (is_timed at key.now q) true (contains timed_cmp removals.old q)) }
+    ensures err { OnErr result (removals.new.keys ≡ removals.old.keys) }
+    ensures ordered { IsOrderedSet timed_cmp removals.old → IsOrderedSet timed_cmp removals.new }
+{
+    if let Some(at) = at {
+        removals.insert((at, key.copy(alloc)?))?;
+    }
+    Ok(())
+}
+
+/// Takes the moment and the key of a removal away, if there is one.
+pub fn take(removals: &mut BTreeSet<(u64, Key)>, at: Option<u64>, key: Key)
+    ensures gone { (q : Timed) → contains timed_cmp removals.new q
+        ≡ cond (is_timed at key q) false (contains timed_cmp removals.old q) }
+    ensures ordered { IsOrderedSet timed_cmp removals.old → IsOrderedSet timed_cmp removals.new }
+{
+    if let Some(at) = at {
+        removals.remove(&(at, key));
+    }
+}
+
+/// Sets what stands at the key, among the slots alone.
+pub fn insert(entries: &mut BTreeMap<Key, Slot>, key: Key, slot: Slot) -> Result<(), Memory>
+    ensures ok { OnOk result (entries.new.entries ≡ with_slot key slot entries.old.entries) }
+    ensures set { OnOk result ((q : List ℕ) → get (slice_cmp nat_cmp) entries.new q
+        ≡ cond (is_at (slice_cmp nat_cmp key) q) (Some slot) (get (slice_cmp nat_cmp) entries.old q)) }
+    ensures err { OnErr result (entries.new.entries ≡ entries.old.entries) }
+    ensures ordered { IsOrdered (slice_cmp nat_cmp) entries.new }
+{
+    entries.insert(key, slot)?;
+    Ok(())
+}
+
+/// The keys of the removals that have timed out, which come first.
+pub fn timed_out(
+    alloc: Global,
+    removals: &BTreeSet<(u64, Key)>,
+    clock: u64,
+) -> Result<BTreeSet<Key>, Memory>
+    ensures due { IfOk result (λ due. (q : List ℕ) → contains (slice_cmp nat_cmp) due q ≡ is_any_due clock q removals.now.keys) }
+    ensures ordered { IfOk result (λ due. IsOrderedSet (slice_cmp nat_cmp) due) }
+{
+    let mut due = BTreeSet::new(alloc);
+    for (taken_at, key) in removals {
+        if clock.saturating_sub(*taken_at) < TIMEOUT {
+            return Ok(due);
+        }
+        due.insert(key.copy(alloc)?)?;
+    }
+    Ok(due)
+}
+
+/// The keys as a list, in order.
+pub fn listed(alloc: Global, keys: &BTreeSet<Key>) -> Result<KeyList, Memory>
+    ensures { IfOk result (λ list. list ≡ keys.now.keys) }
+{
+    let mut list = KeyList::new(alloc)?;
+    for key in keys {
+        list.push(key.copy(alloc)?)?;
+    }
+    Ok(list)
+}

@@ -1,0 +1,8 @@
+//! What a shard has heard of the other members, and which tombstones are stable.
+#![tactic(auto)]
+
+mod heard;
+#[cfg(test)]
+mod tests;
+
+pub use heard::Heard;
