@@ -14,7 +14,7 @@ use Rattle.gr_script.specs.Refusals.{tests, refusal}
 use Rattle.gr_script.specs.Rules.{IsHeading, IsWithin, AreWithin, is_region}
 use Rattle.gr_script.specs.Said.{heading_said}
 use Rattle.gr_script.proofs.Follows.{Held, held_items, AllFollow}
-use Rattle.gr_script.proofs.Standing.{passed, rank_next}
+use Rattle.gr_script.proofs.Standing.{passed, rank_next, early}
 
 -- what holds of the lines that no heading lacks, once those of a stage are read
 pub record Required (now : ℕ) (named : Option (List ℕ)) (members founders shards : ℕ) : Type 0 where
@@ -42,14 +42,10 @@ Headed past =
 
 same_homes : (past : List Saying) (form : LineKind) (items : List Item) → rank form < 7
     → homes (record { kind = form; items = items } ∷ past) ≡ homes past
-same_homes past kind.Georep items lt = refl
-same_homes past kind.Region items lt = refl
-same_homes past kind.Members items lt = refl
-same_homes past kind.Shards items lt = refl
-same_homes past kind.Inbox items lt = refl
-same_homes past kind.Trouble items lt = refl
-same_homes past kind.Floor items lt = refl
-same_homes past _ items lt = absurd (omega (arith, lt))
+same_homes past form items lt =
+    early (λ f. rank f < 7 → homes (record { kind = f; items = items } ∷ past) ≡ homes past)
+    (λ _. refl) (λ _. refl) (λ _. refl) (λ _. refl) (λ _. refl) (λ _. refl) (λ _. refl) (λ client. absurd (omega (arith, client)))
+    form (omega (arith, lt)) lt
 
 no_homes_yet : (past : List Saying) → AllFollow past → stage past ≤ 6 → homes past ≡ []
 no_homes_yet [] all early = refl

@@ -21,6 +21,7 @@ use Rattle.gr_script.specs.Index.{most_lines}
 use Rattle.gr_script.specs.Past.{region, members, homes, stage}
 use Rattle.gr_script.specs.Printed.{other_saying, saying_in, client_sayings, sayings_in, script_text, IsLineKept}
 use Rattle.gr_script.specs.Printing.{spaced, saying_text}
+use Rattle.gr_script.specs.Suiting.{IsShort}
 use Rattle.gr_script.specs.Rules.{Heading, IsHeading, IsWithin, AreWithin, AllStand, IsScript}
 use Rattle.gr_script.specs.Said.{heading_said, lines_said, script_from, script_of}
 use Rattle.gr_script.specs.Sayings.{sayings_from, sayings_of, end_of}
@@ -178,21 +179,14 @@ module _ (h : Heading) (head : IsHeading h) where
   inbox_accepts : Accepts p4 (size kind.Inbox h.inbox)
   inbox_accepts = record { suit = (tt, ((head.inbox, omega (arith, head.inbox.1)), tt)); due = refl; order = refl; passes = refl }
 
+  from_zero : {number most : ℕ} → number ≤ most → IsShort most → IsWithin 0 most number × IsShort number
+  from_zero within short = ((omega arith, within), omega (arith, within, short))
+
   trouble_accepts : Accepts p5 (size kind.Trouble h.trouble)
-  trouble_accepts = record {
-    suit = (tt, (((omega arith, head.trouble), omega (arith, head.trouble)), tt));
-    due = refl;
-    order = refl;
-    passes = refl;
-  }
+  trouble_accepts = record { suit = (tt, (from_zero head.trouble (omega arith), tt)); due = refl; order = refl; passes = refl }
 
   floor_accepts : Accepts p6 (size kind.Floor h.floor)
-  floor_accepts = record {
-    suit = (tt, (((omega arith, head.floor), omega (arith, head.floor)), tt));
-    due = refl;
-    order = refl;
-    passes = refl;
-  }
+  floor_accepts = record { suit = (tt, (from_zero head.floor (omega arith), tt)); due = refl; order = refl; passes = refl }
 
   all_stated : Stated h [] p7
   all_stated = record {

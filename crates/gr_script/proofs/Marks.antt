@@ -36,11 +36,16 @@ cut_at mark (byte ∷ front) rest none =
 word_byte : (byte : ℕ) → is_word_byte byte ≡ true → is_key_byte byte ≡ true
 word_byte byte is = grind arith
 
+-- bytes that all pass a test, where a byte that does passes another
+pub all_turn : (passes other : ℕ → Bool) → ((byte : ℕ) → passes byte ≡ true → other byte ≡ true) → (bytes : List ℕ)
+    → list_all passes bytes ≡ true → list_all other bytes ≡ true
+all_turn passes other turns [] all = refl
+all_turn passes other turns (byte ∷ bytes) all =
+    let parts = and_parts (passes byte) (list_all passes bytes) all in
+    and_from _ _ (turns byte parts.0) (all_turn passes other turns bytes parts.1)
+
 word_bytes : (bytes : List ℕ) → list_all is_word_byte bytes ≡ true → list_all is_key_byte bytes ≡ true
-word_bytes [] all = refl
-word_bytes (byte ∷ bytes) all =
-    let parts = and_parts (is_word_byte byte) (list_all is_word_byte bytes) all in
-    and_from _ _ (word_byte byte parts.0) (word_bytes bytes parts.1)
+word_bytes = all_turn is_word_byte is_key_byte word_byte
 
 pub region_bytes : (region : List ℕ) → is_region region ≡ true → list_all is_key_byte region ≡ true
 region_bytes [] is = absurd cc

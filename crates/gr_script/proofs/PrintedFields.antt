@@ -44,7 +44,7 @@ use Rattle.gr_oql.specs.Question.{Question}
 use Rattle.gr_script.specs.Texts.{IsLine}
 use Rattle.gr_script.proofs.Questions.{query_spelled}
 use Rattle.gr_script.proofs.QueryEnds.{query_ends, query_some}
-use Rattle.gr_script.proofs.Marks.{other_byte, unmarked, cut_at, region_bytes}
+use Rattle.gr_script.proofs.Marks.{other_byte, unmarked, cut_at, all_turn, region_bytes}
 use Rattle.gr_script.proofs.PrintedNumbers.{decimal_spells, number_back}
 use Rattle.gr_script.proofs.PrintedTexts.{Stands, plain_stands, ends_append}
 use Rattle.gr_script.proofs.PrintedValues.{value_piece, inner, braced}
@@ -60,10 +60,7 @@ digit_is_key_byte : (byte : ℕ) → is_ascii_digit byte ≡ true → is_key_byt
 digit_is_key_byte byte is = grind arith
 
 digits_are_key_bytes : (digits : List ℕ) → list_all is_ascii_digit digits ≡ true → list_all is_key_byte digits ≡ true
-digits_are_key_bytes [] all = refl
-digits_are_key_bytes (digit ∷ digits) all =
-    let parts = and_parts (is_ascii_digit digit) (list_all is_ascii_digit digits) all in
-    and_from _ _ (digit_is_key_byte digit parts.0) (digits_are_key_bytes digits parts.1)
+digits_are_key_bytes = all_turn is_ascii_digit is_key_byte digit_is_key_byte
 
 pub decimal_plain : (number : ℕ) → IsShort number → IsPlain (decimal number)
 decimal_plain number few = let spells = decimal_spells number few in

@@ -109,24 +109,23 @@ abbrev QueryRest : FieldKind → List ℕ → Type 0
 QueryRest field.Query text = IsRest text
 QueryRest _ text = Unit {0}
 
+-- an item of another sort
+plain_rest : {X : Type 0} (make : X → Item) (read : Result X Reason) (found : Item) → ((x : X) → IsRestItem (make x))
+    → (read >>= λ x. Ok (make x)) ≡ Ok found → IsRestItem found
+plain_rest make read found plain e = then (IsRestItem found) read (λ x. Ok (make x)) found
+    (λ x was this. subst IsRestItem (same (make x) found this) (plain x)) e
+
 item_rest : (setting : Setting) (kind : FieldKind) (text : List ℕ) (found : Item) → QueryRest kind text
     → item_at setting kind text ≡ Ok found → IsRestItem found
 item_rest setting field.Query text found is e = then (IsRestItem found) (query_at setting text) _ found (λ query read this.
     subst IsRestItem (same (item.Query query) found this) (subst IsRest (sym (query_text setting text query read)) is)) e
-item_rest setting field.Region text found is e =
-    then (IsRestItem found) _ _ found (λ x read this. subst IsRestItem (same (item.Key x) found this) tt) e
-item_rest setting field.Key text found is e =
-    then (IsRestItem found) _ _ found (λ x read this. subst IsRestItem (same (item.Key x) found this) tt) e
-item_rest setting field.Value text found is e =
-    then (IsRestItem found) _ _ found (λ x read this. subst IsRestItem (same (item.Value x) found this) tt) e
-item_rest setting (field.Number least most) text found is e =
-    then (IsRestItem found) _ _ found (λ x read this. subst IsRestItem (same (item.Number x) found this) tt) e
-item_rest setting field.Member text found is e =
-    then (IsRestItem found) _ _ found (λ x read this. subst IsRestItem (same (item.Member x) found this) tt) e
-item_rest setting field.Client text found is e =
-    then (IsRestItem found) _ _ found (λ x read this. subst IsRestItem (same (item.Client x) found this) tt) e
-item_rest setting field.Ordinal text found is e =
-    then (IsRestItem found) _ _ found (λ x read this. subst IsRestItem (same (item.Ordinal x) found this) tt) e
+item_rest setting field.Region text found is e = plain_rest item.Key _ found (λ x. tt) e
+item_rest setting field.Key text found is e = plain_rest item.Key _ found (λ x. tt) e
+item_rest setting field.Value text found is e = plain_rest item.Value _ found (λ x. tt) e
+item_rest setting (field.Number least most) text found is e = plain_rest item.Number _ found (λ x. tt) e
+item_rest setting field.Member text found is e = plain_rest item.Member _ found (λ x. tt) e
+item_rest setting field.Client text found is e = plain_rest item.Client _ found (λ x. tt) e
+item_rest setting field.Ordinal text found is e = plain_rest item.Ordinal _ found (λ x. tt) e
 item_rest setting field.Step text found is e =
     then (IsRestItem found) (dotted_numbers (cut 0x2E text))
     (λ (numbers : ℕ × ℕ). stated_client setting numbers.0 >>= λ c. Ok (item.Step c numbers.1)) found (λ numbers read more.

@@ -157,16 +157,21 @@ rank_next form =
       | inr le ↦ grind arith
     ]
 
+-- What holds of the kinds of the heading and of clients holds of each kind of such a rank.
+pub early : (P : LineKind → Type 0) → P kind.Georep → P kind.Region → P kind.Members → P kind.Shards → P kind.Inbox → P kind.Trouble
+    → P kind.Floor → P kind.Client → (form : LineKind) → rank form < 8 → P form
+early P georep region members shards inbox trouble floor client kind.Georep lt = georep
+early P georep region members shards inbox trouble floor client kind.Region lt = region
+early P georep region members shards inbox trouble floor client kind.Members lt = members
+early P georep region members shards inbox trouble floor client kind.Shards lt = shards
+early P georep region members shards inbox trouble floor client kind.Inbox lt = inbox
+early P georep region members shards inbox trouble floor client kind.Trouble lt = trouble
+early P georep region members shards inbox trouble floor client kind.Floor lt = floor
+early P georep region members shards inbox trouble floor client kind.Client lt = client
+early P georep region members shards inbox trouble floor client _ lt = absurd (omega (arith, lt))
+
 quiet : (past : List Saying) (form : LineKind) (items : List Item) → rank form < 8 → line_by past form items ≡ None
-quiet past kind.Georep items lt = refl
-quiet past kind.Region items lt = refl
-quiet past kind.Members items lt = refl
-quiet past kind.Shards items lt = refl
-quiet past kind.Inbox items lt = refl
-quiet past kind.Trouble items lt = refl
-quiet past kind.Floor items lt = refl
-quiet past kind.Client items lt = refl
-quiet past _ items lt = absurd (omega (arith, lt))
+quiet past form items lt = early (λ f. line_by past f items ≡ None) refl refl refl refl refl refl refl refl form lt
 
 quiet_lines : (past : List Saying) (saying : Saying) → rank saying.kind < 8 → lines_said past ≡ [] → lines_said (saying ∷ past) ≡ []
 quiet_lines past saying lt none =

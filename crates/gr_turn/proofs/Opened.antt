@@ -134,22 +134,22 @@ module _ {T E B : Type 0} (entries : T → List E) (base_of : T → B) where
       (holder : ℕ)
       → GoesOn o s list dealt out holder → Opened entries base_of s
   gone_on o list dealt out holder g = record {
-    list = list;
     base = o.base;
     seats = o.seats;
     opening = o.opening;
-    started = g.started;
-    dealt = dealt;
-    few = g.few;
-    places = g.places;
-    numbers = g.numbers;
+    root = o.root;
+    list = list;
     out = out;
     word = g.word;
     slot = g.slot;
     home = g.home;
+    dealt = dealt;
+    few = g.few;
+    numbers = g.numbers;
     holder = holder;
     taken = g.taken;
-    root = o.root;
+    started = g.started;
     sound = g.sound;
     each = g.each;
+    places = g.places;
   }

@@ -40,18 +40,12 @@ concurrent-stand =
     & ((omega arith, omega arith), refl, tt)
     & tt
 
-pub concurrent-script : IsScript two_members (reverse concurrent)
-concurrent-script = record { heading = two-heading; lines_stand = concurrent-stand }
-
 repeated-stand : AllStand two_members repeated
 repeated-stand =
     ((omega arith, omega arith), (omega arith, omega arith), (omega arith, omega arith), refl)
     & ((omega arith, omega arith), (omega arith, omega arith), (omega arith, omega arith), refl)
     & ((omega arith, omega arith), refl, tt)
     & tt
-
-pub repeated-script : IsScript two_members (reverse repeated)
-repeated-script = record { heading = two-heading; lines_stand = repeated-stand }
 
 joining-stand : AllStand three_members joining
 joining-stand =
@@ -68,6 +62,12 @@ joining-stand =
     & ((omega arith, omega arith), (omega arith, omega arith), (omega arith, omega arith), refl)
     & ((omega arith, omega arith), refl, tt)
     & tt
+
+pub concurrent-script : IsScript two_members (reverse concurrent)
+concurrent-script = record { heading = two-heading; lines_stand = concurrent-stand }
+
+pub repeated-script : IsScript two_members (reverse repeated)
+repeated-script = record { heading = two-heading; lines_stand = repeated-stand }
 
 pub joining-script : IsScript three_members (reverse joining)
 joining-script = record { heading = three-heading; lines_stand = joining-stand }

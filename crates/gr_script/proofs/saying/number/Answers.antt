@@ -8,20 +8,19 @@ numbers_next : (items : List Item) (i : ℕ) (item : Item) → i < length items 
     → numbers (drop i items) ≡ numbers_of item ++ numbers (drop (i + 1) items)
 numbers_next items i item within is = rw (drop_more items i item within, sym is) refl
 
-next_at : (items : List Item) (i left : ℕ) (item : Item) → i < length items → item ≡ get_or items i item
-    → get_or (numbers_of item ++ numbers (drop (i + 1) items)) left 0 ≡ get_or (numbers (drop i items)) left 0
-next_at items i left item within is = ap (λ (ns : List ℕ). get_or ns left 0) (sym (numbers_next items i item within is))
+-- what an item leaves to find is what was to be found before it
+found_behind : (items : List Item) (i left : ℕ) (item : Item) {before after : ℕ} → i < length items → item ≡ get_or items i item
+    → get_or (numbers_of item ++ numbers (drop (i + 1) items)) left 0 ≡ after → get_or (numbers (drop i items)) left 0 ≡ before
+    → after ≡ before
+found_behind items i left item within is told found =
+    sym told ∙ ap (λ (ns : List ℕ). get_or ns left 0) (sym (numbers_next items i item within is)) ∙ found
 
 pub returns-in-Ok : goal.returns-in-Ok
 returns-in-Ok c =
-    let rest = numbers (drop (c.loop-item.item-index + 1) c.args.items.now) in
-    sym (c.in-Ok.ensures rest) ∙ next_at c.args.items.now c.loop-item.item-index c.loop-item.left c.item-item.result c.loop-item-test.true
-    c.item-item.is
-    ∙ c.loop-item.invariant
+    found_behind c.args.items.now c.loop-item.item-index c.loop-item.left c.item-item.result c.loop-item-test.true c.item-item.is
+    (c.in-Ok.ensures (numbers (drop (c.loop-item.item-index + 1) c.args.items.now))) c.loop-item.invariant
 
 pub loop-item-preserved : goal.loop-item-preserved
 loop-item-preserved c =
-    let rest = numbers (drop (c.loop-item.item-index + 1) c.args.items.now) in
-    sym (c.in-Err.ensures rest) ∙ next_at c.args.items.now c.loop-item.item-index c.loop-item.left c.item-item.result c.loop-item-test.true
-    c.item-item.is
-    ∙ c.loop-item.invariant
+    found_behind c.args.items.now c.loop-item.item-index c.loop-item.left c.item-item.result c.loop-item-test.true c.item-item.is
+    (c.in-Err.ensures (numbers (drop (c.loop-item.item-index + 1) c.args.items.now))) c.loop-item.invariant
