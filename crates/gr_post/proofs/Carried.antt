@@ -1,6 +1,40 @@
 -- What holds of a courier always.
-use Rattle.std.proofs.Common.{◌≡◌, ◌<◌, ◌≤◌, ℕ, suc, Bool, true, false, true≢false, List, [], ◌∷◌, ◌++◌, length, map, reverse, get_or, Option, Some, None, Result, Ok, Err, OnErr, sym, refl, ap, ◌∙◌, subst, append_assoc, arith, if◌then◌else◌}
+use Rattle.std.proofs.Common.{
+  ◌≡◌,
+  ◌<◌,
+  ◌≤◌,
+  ℕ,
+  suc,
+  Bool,
+  true,
+  false,
+  true≢false,
+  List,
+  [],
+  ◌∷◌,
+  ◌++◌,
+  length,
+  map,
+  reverse,
+  get_or,
+  Option,
+  Some,
+  None,
+  Result,
+  Ok,
+  Err,
+  OnErr,
+  sym,
+  refl,
+  ap,
+  ◌∙◌,
+  subst,
+  append_assoc,
+  arith,
+  if◌then◌else◌,
+}
 use Rattle.std.proofs.lemmas.List.{length-map, get_or-map, reverse-append}
+use Rattle.atomic_table.specs.Seated.{TableId}
 use Rattle.gr_post.specs.declared.mail.Mail.{Mail}
 use Rattle.gr_post.specs.declared.mail.Posting.{Posting}
 use Rattle.gr_post.specs.declared.fate.Held.{Held}
@@ -10,8 +44,35 @@ use Rattle.gr_post.specs.declared.stage.Stage.{Stage}
 use Rattle.gr_post.specs.declared.stage.Stage.TheVariants.{Open, Ended, Stopped}
 use Rattle.gr_post.specs.Passes.{Ring, Sending, Rose}
 use Rattle.gr_post.specs.Plan.{Draw, drawn, is_named, number_before, number_after, draws, fate, released_by, held_by, held, released}
-use Rattle.gr_post.specs.Lanes.{Way, new_way, pass_of, Moves, settled, ready_with, ready_for, settled_by, stopped, is_none, AreTheirs, NoneWaits, WasRefused}
-use Rattle.gr_post.specs.Couriers.{Line, line_of, carrying, Follows, HoldsBack, FollowsPlan, IsCarried, AreOf, LineMoves, NothingWaits, IsRefused, stopped_line, begun}
+use Rattle.gr_post.specs.Lanes.{
+  Way,
+  new_way,
+  pass_of,
+  Moves,
+  settled,
+  ready_with,
+  ready_for,
+  settled_by,
+  stopped,
+  is_none,
+  AreTheirs,
+  NoneWaits,
+  WasRefused,
+}
+use Rattle.gr_post.specs.Couriers.{
+  Line,
+  line_of,
+  carrying,
+  Follows,
+  HoldsBack,
+  FollowsPlan,
+  IsCarried,
+  LineMoves,
+  NothingWaits,
+  IsRefused,
+  stopped_line,
+  begun,
+}
 
 pub way_of : Line → Way
 way_of d = record { pass = d.pass; waiting = d.waiting; held = []; ready = None }
@@ -46,7 +107,8 @@ map_twice g f [] = refl
 map_twice g f (x ∷ xs) = ap (λ l. g (f x) ∷ l) (map_twice g f xs)
 
 -- the passes are the same where each way's pass is
-pub passes_same : (xs ys : List Way) → length ys ≡ length xs → ((k : ℕ) (d : Way) → k < length xs → (get_or ys k d).pass ≡ (get_or xs k d).pass)
+pub passes_same : (xs ys : List Way) → length ys ≡ length xs → ((k : ℕ) (d : Way) → k < length xs → (get_or ys k d).pass ≡
+    (get_or xs k d).pass)
     → map (λ (l : Line). l.pass) (map line_of ys) ≡ map (λ (l : Line). l.pass) (map line_of xs)
 passes_same xs ys n e =
     let p : Line → Sending = λ l. l.pass in
@@ -65,7 +127,8 @@ step true ds d way sent back w is =
     )
 step false ds d way sent back w is = (ap (λ (y : Way). y.pass.sent ++ y.waiting) is ∙ sent, ap (λ (y : Way). y.held) is ∙ back)
 
-pub posts : (ways mid now : List Way) (posted posted' : List Posting) (one : Posting) (first number after : ℕ) → IsCarried ways posted first number Open
+pub posts : (ways mid now : List Way) (posted posted' : List Posting) (one : Posting) (first number after : ℕ) → IsCarried ways posted
+    first number Open
     → length mid ≡ length ways → length now ≡ length mid → after ≡ number_before number one.to (length ways)
     → ((k : ℕ) (d : Way) → k < length ways → get_or mid k d ≡ ready_for one.mail one.to number k (get_or ways k d))
     → ((k : ℕ) (d : Way) → k < length mid → get_or now k d ≡ settled (get_or mid k d))
@@ -87,29 +150,34 @@ posts ways mid now posted posted' one first number after c n m number_is ready e
       few = subst (λ (i : ℕ). i ≤ 8) (sym long) c.few;
       number_is = number_is ∙ ap (λ (x : ℕ). number_before x one.to (length ways)) c.number_is
           ∙ (λ i. number_after (sym long i) first (sym back i));
-      follows = λ k d lt. subst (λ (y : ℕ × List Posting). (get_or now k d).pass.sent ++ (get_or now k d).waiting ≡ released (draws y.0 first k y.1))
+      follows = λ k d lt. subst (λ (y : ℕ × List Posting). (get_or now k d).pass.sent ++ (get_or now k d).waiting ≡ released
+          (draws y.0 first k y.1))
           (λ i. (sym long i, sym back i)) (both k d (subst (λ (i : ℕ). k < i) long lt)).0;
       holds_back = λ k d lt. subst (λ (y : ℕ × List Posting). (get_or now k d).held ≡ held (draws y.0 first k y.1))
           (λ i. (sym long i, sym back i)) (both k d (subst (λ (i : ℕ). k < i) long lt)).1;
     }
 
 -- lists of one length, of which each way still goes by the plan
-stays : (ways now : List Way) (posted : List Posting) (first number : ℕ) (stage stage' : Stage) → IsCarried ways posted first number stage → length now ≡ length ways
+stays : (ways now : List Way) (posted : List Posting) (first number : ℕ) (stage stage' : Stage) → IsCarried ways posted first number
+    stage → length now ≡ length ways
     → ((k : ℕ) (d : Way) → k < length ways → let ds = draws (length ways) first k (reverse posted) in
     Follows ds stage' ((get_or now k d).pass.sent ++ (get_or now k d).waiting) × HoldsBack ds stage' (get_or now k d))
     → IsCarried now posted first number stage'
 stays ways now posted first number stage stage' c n each = record {
   few = subst (λ (i : ℕ). i ≤ 8) (sym n) c.few;
   number_is = c.number_is ∙ ap (λ (i : ℕ). number_after i first (reverse posted)) (sym n);
-  follows = λ k d lt. subst (λ (i : ℕ). Follows (draws i first k (reverse posted)) stage' ((get_or now k d).pass.sent ++ (get_or now k d).waiting)) (sym n)
+  follows = λ k d lt. subst (λ (i : ℕ). Follows (draws i first k (reverse posted)) stage'
+      ((get_or now k d).pass.sent ++ (get_or now k d).waiting)) (sym n)
       (each k d (subst (λ (i : ℕ). k < i) n lt)).0;
   holds_back = λ k d lt. subst (λ (i : ℕ). HoldsBack (draws i first k (reverse posted)) stage' (get_or now k d)) (sym n)
       (each k d (subst (λ (i : ℕ). k < i) n lt)).1;
 }
 
 -- the same lines, with something made ready
-pub readies : (ways now : List Way) (posted : List Posting) (first number : ℕ) (stage : Stage) → IsCarried ways posted first number stage → length now ≡ length ways
-    → ((k : ℕ) (d : Way) → k < length ways → get_or now k d ≡ ready_with (get_or now k d).ready (get_or ways k d)) → IsCarried now posted first number stage
+pub readies : (ways now : List Way) (posted : List Posting) (first number : ℕ) (stage : Stage) → IsCarried ways posted first number stage
+    → length now ≡ length ways
+    → ((k : ℕ) (d : Way) → k < length ways → get_or now k d ≡ ready_with (get_or now k d).ready (get_or ways k d)) → IsCarried now posted
+    first number stage
 readies ways now posted first number stage c n same = stays ways now posted first number stage stage c n
     (λ k d lt. let ds = draws (length ways) first k (reverse posted) in
     subst (λ (w : Way). Follows ds stage (w.pass.sent ++ w.waiting) × HoldsBack ds stage w) (sym (same k d lt))
@@ -120,18 +188,21 @@ readies ways now posted first number stage c n same = stays ways now posted firs
     by Ended ds r w h = h
     by Stopped ds r w h = h
 
-pub ends : (ways mid now : List Way) (posted : List Posting) (first number : ℕ) → IsCarried ways posted first number Open → length mid ≡ length ways → length now ≡ length mid
+pub ends : (ways mid now : List Way) (posted : List Posting) (first number : ℕ) → IsCarried ways posted first number Open → length mid ≡
+    length ways → length now ≡ length mid
     → ((k : ℕ) (d : Way) → k < length ways → get_or mid k d ≡ ready_with (Some Last) (get_or ways k d))
     → ((k : ℕ) (d : Way) → k < length mid → get_or now k d ≡ settled (get_or mid k d)) → IsCarried now posted first number Ended
 ends ways mid now posted first number c n m ready each = stays ways now posted first number Open Ended c (m ∙ n)
     (λ k d lt. let way = get_or ways k d in
-    let is : get_or now k d ≡ settled (ready_with (Some Last) way) = each k d (subst (λ (i : ℕ). k < i) (sym n) lt) ∙ ap settled (ready k d lt) in (
+    let is : get_or now k d ≡ settled (ready_with (Some Last) way) = each k d (subst (λ (i : ℕ). k < i) (sym n) lt) ∙ ap settled
+    (ready k d lt) in (
       ap (λ (y : Way). y.pass.sent ++ y.waiting) is ∙ sym (append_assoc way.pass.sent way.waiting (released_by Last way.held))
           ∙ (λ i. c.follows k d lt i ++ released_by Last (c.holds_back k d lt i)),
       tt,
     ))
 
-pub moves : (ways now : List Way) (posted : List Posting) (first number : ℕ) (stage : Stage) → IsCarried ways posted first number stage → length now ≡ length ways
+pub moves : (ways now : List Way) (posted : List Posting) (first number : ℕ) (stage : Stage) → IsCarried ways posted first number stage →
+    length now ≡ length ways
     → ((k : ℕ) (d : Way) → k < length ways → Moves (get_or ways k d) (get_or now k d)) → IsCarried now posted first number stage
 moves ways now posted first number stage c n each = stays ways now posted first number stage stage c n
     (λ k d lt. let ds = draws (length ways) first k (reverse posted) in
@@ -147,7 +218,8 @@ moves ways now posted first number stage c n each = stays ways now posted first 
     by Ended ds old new e h = h
     by Stopped ds old new e h = h
 
-pub stops : (ways now : List Way) (posted : List Posting) (first number : ℕ) (stage : Stage) → IsCarried ways posted first number stage → length now ≡ length ways
+pub stops : (ways now : List Way) (posted : List Posting) (first number : ℕ) (stage : Stage) → IsCarried ways posted first number stage →
+    length now ≡ length ways
     → IsCarried now posted first number Stopped
 stops ways now posted first number stage c n = stays ways now posted first number stage Stopped c n (λ k d lt. (tt, tt))
 
@@ -168,7 +240,8 @@ begins passes ways first is few unused =
 
 -- ---- the same in the words of callers
 
-pub line_moves : (ways now : List Way) → length now ≡ length ways → ((k : ℕ) (d : Way) → k < length ways → Moves (get_or ways k d) (get_or now k d))
+pub line_moves : (ways now : List Way) → length now ≡ length ways → ((k : ℕ) (d : Way) → k < length ways → Moves (get_or ways k d)
+    (get_or now k d))
     → (k : ℕ) (d : Line) → k < length (map line_of ways) → LineMoves (get_or (map line_of ways) k d) (get_or (map line_of now) k d)
 line_moves ways now n each k d lt =
     let here = below ways k lt in
@@ -194,12 +267,32 @@ is_refused ways now n was =
           ),
     )
 
-pub are_theirs : (rings : List Ring) (ways : List Way) → AreOf rings (map line_of ways) → AreTheirs rings ways
-are_theirs rings ways are = (
-  are.0 ∙ length-map ways line_of,
-  λ k r d lt. ap (λ (l : Line). l.pass.table) (sym (get_or-map line_of ways k d (line_of d) lt))
-      ∙ are.1 k r (line_of d) (subst (λ (j : ℕ). k < j) (sym (length-map ways line_of)) lt),
-)
+-- the tables of callers, of the ways
+tables_are : (ways : List Way) → map (λ (p : Sending). p.table) (map (λ (l : Line). l.pass) (map line_of ways)) ≡ map
+    (λ (w : Way). w.pass.table) ways
+tables_are ways = ap (map (λ (p : Sending). p.table)) (map_twice (λ (l : Line). l.pass) line_of ways) ∙ map_twice
+    (λ (p : Sending). p.table) pass_of ways
+
+pub are_theirs : (rings : List Ring) (ways : List Way) → map (λ (r : Ring). r.table) rings ≡ map (λ (p : Sending). p.table)
+    (map (λ (l : Line). l.pass) (map line_of ways))
+    → AreTheirs rings ways
+are_theirs rings ways are =
+    let table : Ring → TableId = λ r. r.table in
+    let of : Way → TableId = λ w. w.pass.table in
+    let e : map table rings ≡ map of ways = are ∙ tables_are ways in
+    let n : length rings ≡ length ways = sym (length-map rings table) ∙ ap length e ∙ length-map ways of in (
+      n,
+      λ k r d lt. sym (get_or-map of ways k d (of d) lt) ∙ ap (λ (l : List TableId). get_or l k (of d)) (sym e)
+          ∙ get_or-map table rings k r (of d) (subst (λ (j : ℕ). k < j) (sym n) lt),
+    )
+
+pub tables_same : (ways now : List Way) → length now ≡ length ways → ((k : ℕ) (d : Way) → k < length ways → Moves (get_or ways k d)
+    (get_or now k d))
+    → map (λ (p : Sending). p.table) (map (λ (l : Line). l.pass) (map line_of now)) ≡ map (λ (p : Sending). p.table)
+    (map (λ (l : Line). l.pass) (map line_of ways))
+tables_same ways now n each =
+    let of : Way → TableId = λ w. w.pass.table in
+    tables_are now ∙ map_same of of ways now n (λ k d lt. ap (λ (p : Sending). p.table) (each k d lt).pass) ∙ sym (tables_are ways)
 
 settled_pass : (ready : Option Fate) (way : Way) → (settled_by ready way).pass ≡ way.pass
 settled_pass None way = refl
@@ -212,7 +305,8 @@ pub settled_passes : (ways mid now : List Way) → length mid ≡ length ways �
     → map (λ (l : Line). l.pass) (map line_of now) ≡ map (λ (l : Line). l.pass) (map line_of ways)
 settled_passes ways mid now n m same each = passes_same ways now (m ∙ n)
     (λ k d lt. let w = get_or mid k d in
-    ap (λ (y : Way). y.pass) (each k d (subst (λ (j : ℕ). k < j) (sym n) lt)) ∙ settled_pass w.ready w ∙ ap (λ (y : Way). y.pass) (same k d lt))
+    ap (λ (y : Way). y.pass) (each k d (subst (λ (j : ℕ). k < j) (sym n) lt)) ∙ settled_pass w.ready w ∙ ap (λ (y : Way). y.pass)
+    (same k d lt))
 
 -- something was made ready, and callers see no difference
 pub lines_same : (ways now : List Way) → length now ≡ length ways
@@ -221,11 +315,13 @@ pub lines_same : (ways now : List Way) → length now ≡ length ways
 lines_same ways now n same = map_same line_of line_of ways now n (λ k d lt. ap line_of (same k d lt))
 
 pub lines_stopped : (ways now : List Way) → length now ≡ length ways
-    → ((k : ℕ) (d : Way) → k < length ways → get_or now k d ≡ stopped (get_or ways k d)) → map line_of now ≡ map stopped_line (map line_of ways)
+    → ((k : ℕ) (d : Way) → k < length ways → get_or now k d ≡ stopped (get_or ways k d)) → map line_of now ≡ map stopped_line
+    (map line_of ways)
 lines_stopped ways now n each = map_same line_of (λ (w : Way). stopped_line (line_of w)) ways now n (λ k d lt. ap line_of (each k d lt))
     ∙ sym (map_twice stopped_line line_of ways)
 
-pub lines_begun : (passes : List Sending) (ways : List Way) (first : ℕ) → ways ≡ map new_way passes → carrying ways [] first Open ≡ begun passes first
+pub lines_begun : (passes : List Sending) (ways : List Way) (first : ℕ) → ways ≡ map new_way passes → carrying ways [] first Open ≡ begun
+    passes first
 lines_begun passes ways first is =
     let lines = ap (map line_of) is ∙ map_twice line_of new_way passes in
     λ i. record { lines = lines i; posted = []; first = first; stage = Open }

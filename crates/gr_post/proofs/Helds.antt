@@ -1,5 +1,32 @@
 -- What is held back, and the room for it.
-use Rattle.std.proofs.Common.{◌≡◌, ◌+◌, ◌-◌, ◌≤◌, ◌<◌, ◌==◌, ℕ, true, false, List, [], ◌∷◌, ◌++◌, length, Option, Some, None, sym, refl, ap, ◌∙◌, append_assoc, subst, length-append, arith, if◌then◌else◌}
+use Rattle.std.proofs.Common.{
+  ◌≡◌,
+  ◌+◌,
+  ◌-◌,
+  ◌≤◌,
+  ◌<◌,
+  ◌==◌,
+  ℕ,
+  true,
+  false,
+  List,
+  [],
+  ◌∷◌,
+  ◌++◌,
+  length,
+  Option,
+  Some,
+  None,
+  sym,
+  refl,
+  ap,
+  ◌∙◌,
+  append_assoc,
+  subst,
+  length-append,
+  arith,
+  if◌then◌else◌,
+}
 use Rattle.gr_post.specs.declared.fate.Held.{Held}
 use Rattle.gr_post.specs.declared.fate.Fate.{Fate}
 use Rattle.gr_post.specs.declared.fate.Fate.TheVariants.{Once, Twice, Hold, Last}
@@ -8,7 +35,8 @@ use Rattle.gr_post.specs.Lanes.{HasRoomFor, later}
 
 pub due-append : (xs ys : List Held) → due (xs ++ ys) ≡ due xs ++ due ys
 due-append [] ys = refl
-due-append (x ∷ xs) ys = elim (x.left == 1) as (λ b. (if b then x.mail ∷ due (xs ++ ys) else due (xs ++ ys)) ≡ (if b then x.mail ∷ due xs else due xs) ++ due ys)
+due-append (x ∷ xs) ys = elim (x.left == 1) as (λ b. (if b then x.mail ∷ due (xs ++ ys) else due (xs ++ ys)) ≡
+    (if b then x.mail ∷ due xs else due xs) ++ due ys)
     [ true ↦ ap (λ l. x.mail ∷ l) (due-append xs ys) | false ↦ due-append xs ys ]
 
 pub kept-append : (xs ys : List Held) → kept (xs ++ ys) ≡ kept xs ++ kept ys
@@ -19,7 +47,8 @@ kept-append (x ∷ xs) ys =
     [ true ↦ kept-append xs ys | false ↦ ap (λ l. one ∷ l) (kept-append xs ys) ]
 
 -- with fewer mails waiting there is room still
-pub room_less : (waiting fewer room held held_room : ℕ) (ready : Option Fate) → fewer ≤ waiting → HasRoomFor waiting room held held_room ready → HasRoomFor fewer room held held_room ready
+pub room_less : (waiting fewer room held held_room : ℕ) (ready : Option Fate) → fewer ≤ waiting → HasRoomFor waiting room held held_room
+    ready → HasRoomFor fewer room held held_room ready
 room_less waiting fewer room held held_room None less r = r
 room_less waiting fewer room held held_room (Some (Once mail)) less r = (omega (arith, r.0), r.1)
 room_less waiting fewer room held held_room (Some (Twice mail copy)) less r = (omega (arith, r.0), r.1)
@@ -43,7 +72,8 @@ one_more seen (t ∷ ts) all one behind now e less head is =
     )
 
 -- where a mail is to be held back, there is room for it
-pub room_later : (waiting room held held_room : ℕ) (ready : Option Fate) (fate : Fate) (one : Held) → ready ≡ Some fate → one ∷ [] ≡ later fate
+pub room_later : (waiting room held held_room : ℕ) (ready : Option Fate) (fate : Fate) (one : Held) → ready ≡ Some fate → one ∷ [] ≡
+    later fate
     → HasRoomFor waiting room held held_room ready → held + 1 ≤ held_room
 room_later waiting room held held_room ready fate one is has r = by fate has (subst (HasRoomFor waiting room held held_room) is r)
   where

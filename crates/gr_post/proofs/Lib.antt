@@ -4,3 +4,4 @@ pub mod Ends
 pub mod Helds
 pub mod Moving
 pub mod Carried
+pub mod Counting

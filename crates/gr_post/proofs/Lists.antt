@@ -1,5 +1,5 @@
 -- Lists, functions that change at one number, and the mails of one sender.
-use Rattle.std.proofs.Common.{◌≡◌, ◌≢◌, ◌<◌, ◌≤◌, ◌==◌, ℕ, zero, suc, true, false, cond, List, [], ◌∷◌, ◌++◌, length, slice_get, set, Option, Some, None, sym, refl, ap, ◌∙◌, subst, ⊎_elim, ◌⊎◌, inl, inr, arith, eq-eqb, ne_eqb}
+use Rattle.std.proofs.Common.{◌≡◌, ◌≢◌, ◌<◌, ◌≤◌, ◌==◌, ℕ, zero, suc, true, false, cond, List, [], ◌∷◌, ◌++◌, length, set, Option, Some, None, sym, refl, ap, ◌∙◌, subst, ⊎_elim, ◌⊎◌, inl, inr, arith, eq-eqb, ne_eqb}
 use mathlib.Core.Option.{some, some-injective, some-ne-none}
 use lib.ListN.{get_elem?}
 use Rattle.crossbeam_queue.proofs.Lists.{at_set}
@@ -73,19 +73,3 @@ pub all_set : (F : ℕ → View → Type 0) (views : List View) (port : ℕ) (w 
 all_set F views port w mine others j u e =
     ⊎_elim (λ (x : (j ≡ port) × (w ≡ u)). subst (λ (y : ℕ × View). F y.0 y.1) (λ i. (sym x.0 i, x.1 i)) mine)
     (λ (x : (j ≢ port) × (get_elem? views j ≡ some u)). others j u x.0 x.1) (at_set views port j w u e)
-
--- what stands in a longer list stood there before, or is the new one
-get_snoc : {A : Type 0} (xs : List A) (a b : A) (i : ℕ) → slice_get (xs ++ a ∷ []) i ≡ Some b → (slice_get xs i ≡ Some b) ⊎
-    ((i ≡ length xs) × (a ≡ b))
-get_snoc [] a b zero e = inr (refl, clash a b e)
-get_snoc [] a b (suc i) e = inl e
-get_snoc (x ∷ xs) a b zero e = inl e
-get_snoc (x ∷ xs) a b (suc i) e = ⊎_elim (λ t. inl t) (λ (t : (i ≡ length xs) × (a ≡ b)). inr (ap suc t.0, t.1)) (get_snoc xs a b i e)
-
--- what holds of each place holds with one more
-pub each_snoc : {A : Type 0} (F : ℕ → A → Type 0) (xs : List A) (a : A) → ((i : ℕ) (b : A) → slice_get xs i ≡ Some b → F i b) → F
-    (length xs) a
-    → (i : ℕ) (b : A) → slice_get (xs ++ a ∷ []) i ≡ Some b → F i b
-each_snoc {A} F xs a each last i b e =
-    ⊎_elim (λ x. each i b x)
-    (λ (x : (i ≡ length xs) × (a ≡ b)). subst (λ (y : ℕ × A). F y.0 y.1) (λ k. (sym x.0 k, x.1 k)) last) (get_snoc xs a b i e)

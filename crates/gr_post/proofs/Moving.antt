@@ -10,7 +10,8 @@ use Rattle.gr_post.specs.Lanes.{Moves}
 pub full_moves : (pass before after : Sending) (waited left behind now : List Mail) (held0 held : List Held) (ready0 ready : Option Fate)
     (gone : List Mail) (mail back : Mail) → waited ≡ gone ++ left → before ≡ record pass { sent = pass.sent ++ gone } → held ≡ held0
     → left ≡ mail ∷ behind → back ≡ mail → after ≡ refused_by before → before.refused ≤ after.refused → now ≡ back ∷ behind
-    → Moves (record { pass = pass; waiting = waited; held = held0; ready = ready0 }) (record { pass = after; waiting = now; held = held; ready = ready })
+    → Moves (record { pass = pass; waiting = waited; held = held0; ready = ready0 })
+    (record { pass = after; waiting = now; held = held; ready = ready })
 full_moves pass before after waited left behind now held0 held ready0 ready gone mail back a b c d e f g h = record {
   gone = gone;
   waiting = a ∙ ap (λ (l : List Mail). gone ++ l) (d ∙ ap (λ (x : Mail). x ∷ behind) (sym e) ∙ sym h);

@@ -2,6 +2,7 @@
 use Rattle.std.specs.Prelude.{◌≡◌, ◌≢◌, ℕ, ◌≤◌, ◌<◌, ⊤, List, [], ◌∷◌, ◌++◌, length, slice_index_or, map, reverse}
 use Rattle.std.specs.declared.vec.Vec.{Vec}
 use Rattle.std.specs.Vec.{vec_capacity}
+use Rattle.atomic_table.specs.Seated.{TableId}
 use Rattle.gr_post.specs.declared.mail.Mail.{Mail}
 use Rattle.gr_post.specs.declared.mail.Mail.TheVariants.{End}
 use Rattle.gr_post.specs.declared.mail.Posting.{Posting}
@@ -95,9 +96,11 @@ abbrev pub stopped_line : Line → Line
 stopped_line line = record line { waiting = End ∷ [] }
 
 -- each inbox is the one that the pass at its place is of
-abbrev pub AreOf : List Ring → List Line → Type 0
-AreOf rings lines = (length rings ≡ length lines)
-    × ((k : ℕ) (r : Ring) (d : Line) → k < length lines → (slice_index_or lines k d).pass.table ≡ (slice_index_or rings k r).table)
+abbrev pub tables_of : Carrying → List TableId
+tables_of c = map (λ (p : Sending). p.table) (passes_of c)
+
+abbrev pub AreOf : List Ring → Carrying → Type 0
+AreOf rings c = map (λ (r : Ring). r.table) rings ≡ tables_of c
 
 -- the first of what waited was sent
 pub record LineMoves (old new : Line) : Type 0 where

@@ -5,3 +5,4 @@ pub mod Passes
 pub mod Plan
 pub mod Lanes
 pub mod Couriers
+pub mod Laws

@@ -40,7 +40,8 @@ pub record Draw : Type 0 where
 abbrev pub draws : ℕ → ℕ → ℕ → List Posting → List Draw
 draws n first k [] = []
 draws n first k (p ∷ past) =
-    if is_named p.to k then (record { mail = p.mail; number = drawn (number_before (number_after n first past) p.to k) }) ∷ draws n first k past
+    if is_named p.to k then (record { mail = p.mail; number = drawn (number_before (number_after n first past) p.to k) }) ∷ draws n first
+    k past
     else draws n first k past
 
 -- ---- what becomes of a mail

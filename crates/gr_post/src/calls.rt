@@ -1,7 +1,7 @@
-ghost use Rattle.std.specs.Prelude.{◌≡◌, ◌≤◌, ◌<◌, ℕ, [], length, slice_get, true, Some, IfNone, IfSome, IfOk, IfErr};
+ghost use Rattle.std.specs.Prelude.{◌≡◌, ◌≤◌, ◌<◌, ℕ, [], length, slice_index_or, true, IfNone, IfSome, IfOk, IfErr};
 ghost use Rattle.crossbeam_queue.specs.Fifo.{Held};
 ghost use Rattle.gr_post.specs.Mails.{StartsWith, EndsWith, of, has_end, IsClosed};
-ghost use Rattle.gr_post.specs.Passes.{Rose, sender_of, taker_of, sent_by, refused_by, taken_by, met_by, IsInOrder, HasAll};
+ghost use Rattle.gr_post.specs.Passes.{Sending, Rose, sender_of, taker_of, sent_by, refused_by, taken_by, met_by, IsInOrder, HasAll};
 
 use crate::inbox::{Full, Inbox};
 use crate::mail::{Mail, Posted};
@@ -23,7 +23,7 @@ impl Inbox {
         requires { (1 ≤ capacity) × (capacity ≤ 4096) }
         ensures capacity { IfOk result (λ made. made.0.capacity ≡ capacity) }
         ensures count { IfOk result (λ made. length made.1 ≡ senders) }
-        ensures senders { IfOk result (λ made. (k : ℕ) (pass : _) → slice_get made.1 k ≡ Some pass → pass ≡ sender_of made.0.table k) }
+        ensures senders { IfOk result (λ made. (k : ℕ) (d : Sending) → k < senders → slice_index_or made.1 k d ≡ sender_of made.0.table k) }
         ensures taker { IfOk result (λ made. made.2 ≡ taker_of made.0.table senders) }
     {
         let mut passes = Vec::with_capacity(alloc, senders as usize)?;
@@ -46,6 +46,7 @@ impl Inbox {
     /// Puts a mail last. It may wait for other threads that are in the middle of a call.
     pub fn send<R: Wait + Sync>(&self, rt: &R, pass: &mut SendPass, mail: Mail) -> Result<(), Full>
         requires { pass.old.table ≡ self.now.table }
+        ensures stays { (pass.new.table ≡ pass.old.table) × (pass.new.number ≡ pass.old.number) }
         ensures sent { IfOk result (λ _. pass.new ≡ sent_by pass.old mail) }
         ensures back { IfErr result (λ full. full.mail ≡ mail) }
         ensures refused { IfErr result (λ _. (pass.new ≡ refused_by pass.old) × Rose pass.old.refused pass.new.refused) }
@@ -68,6 +69,7 @@ impl Inbox {
     /// Takes the first mail. It may wait for other threads that are in the middle of a call.
     pub fn take<R: Wait + Sync>(&self, rt: &R, pass: &mut TakePass) -> Option<Mail>
         requires { pass.old.table ≡ self.now.table }
+        ensures stays { (pass.new.table ≡ pass.old.table) × (pass.new.senders ≡ pass.old.senders) × (pass.new.met ≡ pass.old.met) }
         ensures taken { IfSome result (λ mail. pass.new ≡ taken_by pass.old pass.new.sender mail) }
         ensures sender { IfSome result (λ _. pass.new.sender < pass.old.senders) }
         ensures order { IfSome result (λ _. IsInOrder pass.new) }

@@ -1,9 +1,8 @@
-ghost use Rattle.std.specs.Prelude.{◌≡◌, ◌≤◌, ◌<◌, ◌^◌, ◌++◌, ◌∷◌, [], ℕ, true, false, length, slice_index_or, IfOk, OnOk, OnErr, map};
+ghost use Rattle.std.specs.Prelude.{◌≡◌, ◌≤◌, ◌<◌, ◌^◌, ◌++◌, ◌∷◌, [], ℕ, true, false, length, slice_index_or, All, IfOk, OnOk, OnErr, map};
 ghost use Rattle.gr_post.specs.declared.mail.Mail.TheVariants.{End};
 ghost use Rattle.gr_post.specs.declared.stage.Stage.TheVariants.{Open, Ended, Stopped};
-ghost use Rattle.gr_post.specs.Passes.{Sending};
 ghost use Rattle.gr_post.specs.Plan.{first_number};
-ghost use Rattle.gr_post.specs.Couriers.{Line, passes_of, begun, posting, ended, stopped_line, AreOf, FollowsPlan, LineMoves, NothingWaits, IsRefused};
+ghost use Rattle.gr_post.specs.Couriers.{Line, passes_of, tables_of, begun, posting, ended, stopped_line, AreOf, FollowsPlan, LineMoves, NothingWaits, IsRefused};
 
 use crate::fate::first_number;
 use crate::inbox::InboxList;
@@ -53,7 +52,7 @@ impl Courier {
         requires sender { (1 ≤ sender) × (sender ≤ 72) }
         requires trouble { trouble ≤ 2147483646 }
         requires members { length passes ≤ 8 }
-        requires unused { (k : ℕ) (d : Sending) → k < length passes → (slice_index_or passes k d).sent ≡ [] }
+        requires unused { All (λ p. p.sent ≡ []) passes }
         ensures { IfOk result (λ courier. courier ≡ begun passes (first_number trouble sender)) }
     {
         let first = first_number(trouble, sender);
@@ -72,7 +71,7 @@ impl Courier {
     /// Takes a mail for the members whose bits are set: bit m - 1 stands for member m.
     pub fn post(&mut self, alloc: Global, mail: &Mail, to: u8) -> Result<(), Memory>
         requires open { self.old.stage ≡ Open }
-        requires to { to < 2 ^ length self.old.lines }
+        requires to { to < 2 ^ length (passes_of self.old) }
         ensures posted { IfOk result (λ _. self.new ≡ posting self.old mail.now to self.new.lines) }
         ensures passes { OnOk result (passes_of self.new ≡ passes_of self.old) }
         ensures plan { OnOk result (FollowsPlan self.new) }
@@ -89,9 +88,10 @@ impl Courier {
 
     /// Sends what can be sent without waiting for room in an inbox, and says whether nothing waits.
     pub fn push<R: Wait + Sync>(&mut self, rt: &R, inboxes: &InboxList) -> bool
-        requires { AreOf inboxes.now self.old.lines }
+        requires { AreOf inboxes.now self.old }
         ensures same { self.new ≡ record self.old { lines = self.new.lines } }
         ensures count { length self.new.lines ≡ length self.old.lines }
+        ensures tables { tables_of self.new ≡ tables_of self.old }
         ensures moves { (k : ℕ) (d : Line) → k < length self.old.lines →
             LineMoves (slice_index_or self.old.lines k d) (slice_index_or self.new.lines k d) }
         ensures plan { FollowsPlan self.new }
@@ -117,9 +117,10 @@ impl Courier {
 
     /// Sends until nothing waits, so it may wait for the takers.
     pub fn flush<R: Wait + Sync>(&mut self, rt: &R, inboxes: &InboxList)
-        requires { AreOf inboxes.now self.old.lines }
+        requires { AreOf inboxes.now self.old }
         ensures same { self.new ≡ record self.old { lines = self.new.lines } }
         ensures count { length self.new.lines ≡ length self.old.lines }
+        ensures tables { tables_of self.new ≡ tables_of self.old }
         ensures moves { (k : ℕ) (d : Line) → k < length self.old.lines →
             LineMoves (slice_index_or self.old.lines k d) (slice_index_or self.new.lines k d) }
         ensures plan { FollowsPlan self.new }
@@ -137,7 +138,8 @@ impl Courier {
     /// Drops all that waits or is held back, and puts an `End` for each inbox.
     pub fn stop(&mut self)
         requires open { self.old.stage ≡ Open }
-        ensures { self.new ≡ record self.old { lines = map stopped_line self.old.lines; stage = Stopped } }
+        ensures passes { passes_of self.new ≡ passes_of self.old }
+        ensures ends { self.new ≡ record self.old { lines = map stopped_line self.old.lines; stage = Stopped } }
     {
         stop_each(&mut self.lanes);
         self.stage = Stage::Stopped;

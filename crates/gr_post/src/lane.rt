@@ -172,7 +172,7 @@ impl Lane {
         self.ready = None;
         self.held.clear();
         self.waiting.clear();
-        self.waiting.push_back_reserved(Mail::End);
+        release_all(&mut self.waiting, &mut self.held);
     }
 
     // Sends what waits until the inbox is full, and says whether all was sent.

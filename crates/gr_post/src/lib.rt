@@ -7,16 +7,20 @@ mod fate;
 mod inbox;
 mod lane;
 mod lanes;
+mod laws;
 mod mail;
 mod passes;
 mod rule;
 mod stage;
+#[cfg(test)]
+mod tests;
 mod view;
 
 pub use courier::Courier;
 pub use fate::{Fate, Held};
 pub use gr_value::Memory;
 pub use inbox::{Full, Inbox, InboxList};
+pub use laws::each_mail_is_delivered;
 pub use mail::{Mail, Posted, Posting};
 pub use passes::{SendPass, SendPassList, TakePass};
 pub use stage::Stage;

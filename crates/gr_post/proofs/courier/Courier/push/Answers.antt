@@ -1,15 +1,19 @@
-use Rattle.std.proofs.Common.{◌<◌, List, ℕ, length, get_or, map, sym, subst}
+use Rattle.std.proofs.Common.{◌<◌, List, ℕ, length, get_or, map, sym, subst, ap, ◌∙◌}
 use Rattle.gr_post.specs.Passes.{Ring}
-use Rattle.gr_post.specs.Couriers.{Carrying, Line, line_of, AreOf, LineMoves, IsRefused}
+use Rattle.gr_post.specs.Couriers.{Carrying, Line, line_of, tables_of, LineMoves, IsRefused}
 use Rattle.gr_post.specs.Lanes.{AreTheirs}
-use Rattle.gr_post.proofs.Carried.{follows_plan, moves, line_moves, none_wait, is_refused, are_theirs}
+use Rattle.gr_post.proofs.Carried.{follows_plan, moves, line_moves, none_wait, is_refused, are_theirs, tables_same}
 use Rattle.gr_post.proofs.courier.Courier.push.Goals as goal
 
 pub send_each-requires-after_bounds : goal.send_each-requires-after_bounds
 send_each-requires-after_bounds g c κs within =
     let ways = c.self.inside.lanes.items in
     subst (λ (rings : List Ring). AreTheirs rings ways) (sym c.as_slice.ensures)
-    (are_theirs c.args.inboxes.now ways (subst (λ (k : Carrying). AreOf c.args.inboxes.now k.lines) (sym c.self.view_is) c.requires))
+    (are_theirs c.args.inboxes.now ways (c.requires ∙ ap tables_of (sym c.self.view_is)))
+
+pub returns-clause-tables : goal.returns-clause-tables
+returns-clause-tables g c =
+    tables_same c.self.inside.lanes.items c.send_each.new.lanes.items c.send_each.ensures.count c.send_each.ensures.moves ∙ ap tables_of c.self.view_is
 
 pub returns-clause-moves : goal.returns-clause-moves
 returns-clause-moves g c =

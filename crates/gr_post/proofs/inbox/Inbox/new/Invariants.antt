@@ -1,8 +1,8 @@
-use Rattle.std.proofs.Common.{◌≡◌, ◌≤◌, ℕ, length, slice_get, Some}
+use Rattle.std.proofs.Common.{◌≡◌, ◌≤◌, ℕ, ◌<◌, length, get_or}
 use Rattle.std.specs.Vec.{vec_capacity}
 use Rattle.crossbeam_queue.specs.Passes.{view, IsPassOf}
 use Rattle.gr_post.specs.Views.{taker}
-use Rattle.gr_post.specs.Passes.{sender_of}
+use Rattle.gr_post.specs.Passes.{Sending, sender_of}
 use Rattle.gr_post.proofs.inbox.Inbox.new.Given as goal
 
 abbrev pub invariant-loop-number : goal.invariant-loop-number
@@ -11,4 +11,4 @@ invariant-loop-number l =
     × (view l.token ≡ record taker { made = l.number })
     × (length l.passes.items ≡ l.number)
     × (l.fn.senders ≤ vec_capacity l.passes)
-    × ((k : ℕ) (pass : _) → slice_get l.passes.items k ≡ Some pass → pass ≡ sender_of l.queue.table.shared.table_id k)
+    × ((k : ℕ) (d : Sending) → k < l.number → get_or l.passes.items k d ≡ sender_of l.queue.table.shared.table_id k)
