@@ -12,6 +12,7 @@ use Rattle.gr_history.specs.declared.ask.Ask.TheVariants as ask
 use Rattle.gr_history.specs.declared.reply.Reply.TheVariants as reply
 use Rattle.gr_history.specs.declared.verdict.Verdict.TheVariants as verdict
 use Rattle.gr_history.specs.declared.identity.Identity.{Identity}
+use Rattle.gr_history.specs.declared.image.Image.{Image}
 use Rattle.gr_history.specs.declared.deed.Deed.{Deed}
 use Rattle.gr_history.specs.declared.deed.Deed.TheVariants.{Call, Taken, Reported, Heard, Swept}
 
@@ -50,11 +51,18 @@ second_report = record {
   vector = record { ids = id_number 1 2 ∷ id_number 1 1 ∷ []; spare = 0 };
 }
 
+-- the first member's two calls
+abbrev pub first_called : List Deed
+first_called =
+    Call 1 2 (ask.Destroy one_key) reply.Done (Some removal) 2 ∷ Call 1 1 (ask.Put one_key []) reply.Null (Some first_put) 2 ∷ []
+
+-- Behind them it hears the second member, which had made a change that hasn't come.
+abbrev pub first_behind : List Deed
+first_behind = Heard (record second_report { own = 1 }) ∷ first_called
+
 -- the first member up to its first sweep, which comes too early by a second
 abbrev pub first_early : List Deed
-first_early =
-    Swept 599 [] ∷ Heard second_report ∷ Call 1 2 (ask.Destroy one_key) reply.Done (Some removal) 2
-    ∷ Call 1 1 (ask.Put one_key []) reply.Null (Some first_put) 2 ∷ []
+first_early = Swept 599 [] ∷ Heard second_report ∷ first_called
 
 -- up to the sweep at which the tombstone expires
 abbrev pub first_swept : List Deed
@@ -62,6 +70,10 @@ first_swept = Swept 600 (one_key ∷ []) ∷ first_early
 
 abbrev pub first_whole : List Deed
 first_whole = Call 1 3 (ask.Put one_key some_value) reply.Null (Some last_put) 2 ∷ first_swept
+
+-- an image of nothing, with a floor
+abbrev pub bare_image : Image
+bare_image = record { from = 1; at = 0; rows = []; vector = record { ids = []; spare = 0 }; floor = 5 }
 
 -- the second member heard no report, so its sweep names nothing
 abbrev pub second_swept : List Deed

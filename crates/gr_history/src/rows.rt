@@ -10,8 +10,9 @@ ghost use Rattle.gr_history.specs.Floor.{floor};
 ghost use Rattle.gr_history.specs.Ids.{known};
 ghost use Rattle.gr_history.specs.Lawful.{IsLawful};
 ghost use Rattle.gr_history.specs.Recipients.{recipients};
-ghost use Rattle.gr_history.specs.Rows.{member_in, one_key, some_value, id_number, last_put, second_report, first_early, first_swept};
-ghost use Rattle.gr_history.specs.Rows.{first_whole, second_swept, second_whole};
+ghost use Rattle.gr_history.specs.Rows.{member_in, one_key, some_value, id_number, last_put, second_report, first_behind};
+ghost use Rattle.gr_history.specs.Rows.{first_early, first_swept};
+ghost use Rattle.gr_history.specs.Rows.{bare_image, first_whole, second_swept, second_whole};
 ghost use Rattle.gr_history.specs.Stable.{due, last_heard};
 ghost use Rattle.gr_history.specs.Standing.{standing, present};
 
@@ -21,6 +22,8 @@ ghost use Rattle.gr_history.specs.Standing.{standing, present};
 pub fn a_put_passes_an_expired_tombstone()
     ensures lawful { IsLawful (member_in 1 2 2) 0 first_whole }
     ensures expired { standing one_key first_swept ≡ None }
+    // Not while a change that the other had made by then is missing.
+    ensures missing { due (member_in 1 2 2) 600 first_behind ≡ [] }
     ensures floor { floor 0 first_whole ≡ 2 }
     ensures clock { clock first_early ≡ 599 }
     ensures since { since one_key first_whole ≡ 600 }
@@ -48,5 +51,7 @@ pub fn a_joiner_waits_for_its_image()
     ensures not_ready { call_gives (member_in 3 3 2) 0 [] (ask.Get one_key) ≡ nothing_made NotReady }
     ensures before { recipients (member_in 1 3 2) [] ≡ 2 }
     ensures behind { recipients (member_in 1 3 2) (deed.Gave 3 what.Own ∷ []) ≡ 6 }
+    // It takes the image's floor over.
+    ensures floor { floor 0 (deed.Imaged bare_image ∷ []) ≡ 5 }
     ensures heard { last_heard 2 (deed.Heard (record second_report { at = 1 }) ∷ deed.Heard second_report ∷ []) ≡ Some second_report }
 {}
