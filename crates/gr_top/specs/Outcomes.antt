@@ -1,5 +1,5 @@
 -- What each cause says of the words, the source, the sink and the record.
-use Rattle.std.specs.Prelude.{◌≡◌, ◌⊎◌, ℕ, ◌+◌, ◌≤◌, List, length, Option, Some, None, Result, Ok, Err, false, IfSome, IsSomeAnd}
+use Rattle.std.specs.Prelude.{◌≡◌, ◌⊎◌, ℕ, ◌+◌, ◌≤◌, List, length, reverse, Option, Some, None, Result, Ok, Err, false, IfSome, IsSomeAnd}
 use Rattle.std.specs.Io.KnownBytes.{IsAtEnd, Appends, Consumes}
 use Rattle.gr_history.specs.declared.record.Record.{Record}
 use Rattle.gr_io.specs.Faults.{Rose}
@@ -15,6 +15,8 @@ use Rattle.gr_script.specs.Printed.{script_text}
 use Rattle.gr_script.specs.Said.{script_of}
 use Rattle.gr_script.specs.Scripts.{heading_of}
 use Rattle.gr_world.specs.Built.{unbuilt}
+use Rattle.gr_world.specs.Clients.{AreServed}
+use Rattle.gr_world.specs.Courses.{course}
 use Rattle.gr_world.specs.Histories.{KeepsLaws}
 use Rattle.gr_world.specs.Records.{IsReplayed}
 use Rattle.gr_top.specs.declared.cause.Cause.{Cause}
@@ -59,13 +61,15 @@ pub record IsGiven (source : Stream) (text : List ℕ) (script : TheScript) : Ty
   pub whole : IsWhole source text
   pub read : IsRead text script
 
--- The record is that of the script which the source had. Its histories keep the laws of records.
+-- The record is that of the script which the source had. Its histories keep the laws of records, and its clients
+-- were served step by step.
 pub record IsReplayOf (source : Stream) (record_of : Record) : Type 0 where
   pub text : List ℕ
   pub script : TheScript
   pub given : IsGiven source text script
   pub replayed : IsReplayed (heading_of script) script.lines record_of
   pub laws : KeepsLaws (heading_of script) record_of
+  pub served : AreServed (heading_of script) (reverse script.lines) (course (heading_of script) (reverse script.lines))
 
 -- The text is a script with a line that can't be replayed yet, which is the first of these.
 pub record IsNotBuilt (source : Stream) (fault : ScriptFault) : Type 0 where

@@ -1,6 +1,8 @@
-ghost use Rattle.std.specs.Prelude.{◌≡◌, true, IfOk};
+ghost use Rattle.std.specs.Prelude.{◌≡◌, true, reverse, IfOk, OnOk};
 ghost use Rattle.gr_script.specs.Scripts.{heading_of};
 ghost use Rattle.gr_world.specs.Built.{is_built};
+ghost use Rattle.gr_world.specs.Clients.{AreServed};
+ghost use Rattle.gr_world.specs.Courses.{course};
 ghost use Rattle.gr_world.specs.Histories.{KeepsLaws};
 ghost use Rattle.gr_world.specs.Records.{IsReplayed};
 
@@ -17,6 +19,10 @@ pub fn replay(alloc: Global, script: &Script) -> Result<Record, Memory>
 
     // Members that took in the same changes have the same values, and no removed value is back.
     ensures laws { IfOk result (KeepsLaws (heading_of script.now)) }
+
+    // Each client was served step by step.
+    ensures served { OnOk result
+        (AreServed (heading_of script.now) (reverse script.now.lines) (course (heading_of script.now) (reverse script.now.lines))) }
 {
     let mut world = World::new(alloc, script)?;
     for line in script.lines.as_slice() {

@@ -5,7 +5,9 @@ ghost use Rattle.gr_script.specs.Rules.{IsMember, IsStated, home_of};
 ghost use Rattle.gr_script.specs.Scripts.{heading_of};
 ghost use Rattle.gr_history.specs.declared.record.Answer.TheVariants as answer;
 ghost use Rattle.gr_history.specs.Standing.{present};
-ghost use Rattle.gr_world.specs.Courses.{after, hears_of};
+ghost use Rattle.gr_world.specs.Courses.{after, does, for_each, hears_of};
+ghost use Rattle.gr_world.specs.Tasks.{BelongsTo, doing_of};
+ghost use Rattle.gr_shard.specs.View.{Account};
 ghost use Rattle.gr_world.specs.Events.{Event};
 ghost use Rattle.gr_world.specs.Records.{IsLeft};
 ghost use Rattle.gr_world.specs.Worlds.{CanPlay, IsAtWork, IsWorld, Notes, Plays, number_of};
@@ -166,13 +168,22 @@ impl World {
         Ok(())
     }
 
-    fn report(&mut self, alloc: Global, script: &Script, member: u8) -> Result<(), Memory>
+    // Does one thing at each of a member's shards.
+    fn at_each_shard(
+        &mut self,
+        alloc: Global,
+        script: &Script,
+        member: u8,
+        task: Task,
+    ) -> Result<(), Memory>
         requires work { IsAtWork (heading_of script.now) self.old }
         requires member { IsMember (heading_of script.now) member }
-        ensures { IfOk result (λ _. Plays (heading_of script.now) (after (heading_of script.now) (line.Report member)) self.old self.new) }
+        requires any { (account : Account) → BelongsTo account (doing_of task) }
+        ensures { IfOk result (λ _. Plays (heading_of script.now)
+            (for_each script.now.shards (λ shard. does (heading_of script.now) member shard (doing_of task.entry))) self.old self.new) }
     {
         for shard in 0..script.shards {
-            self.grid.does(alloc, member, shard, Task::Report)?;
+            self.grid.does(alloc, member, shard, task)?;
         }
         Ok(())
     }
@@ -219,24 +230,6 @@ impl World {
         Ok(self.grid.does(alloc, by, shard, Task::Hear(&report))?)
     }
 
-    fn sweep(
-        &mut self,
-        alloc: Global,
-        script: &Script,
-        member: u8,
-        moment: u64,
-    ) -> Result<(), Memory>
-        requires work { IsAtWork (heading_of script.now) self.old }
-        requires member { IsMember (heading_of script.now) member }
-        ensures { IfOk result
-            (λ _. Plays (heading_of script.now) (after (heading_of script.now) (line.Sweep member moment)) self.old self.new) }
-    {
-        for shard in 0..script.shards {
-            self.grid.does(alloc, member, shard, Task::Sweep(moment))?;
-        }
-        Ok(())
-    }
-
     /// Does what a line names.
     pub fn play(&mut self, alloc: Global, script: &Script, line: &Line) -> Result<(), Memory>
         requires work { IsAtWork (heading_of script.now) self.old }
@@ -248,9 +241,13 @@ impl World {
             Line::Deliver { to, client, seq } => {
                 Ok(self.deliver(alloc, script, *to, *client, *seq)?)
             }
-            Line::Report { member } => Ok(self.report(alloc, script, *member)?),
+            Line::Report { member } => {
+                Ok(self.at_each_shard(alloc, script, *member, Task::Report)?)
+            }
             Line::Hear { by, of, number } => Ok(self.hear(alloc, script, *by, *of, *number)?),
-            Line::Sweep { member, moment } => Ok(self.sweep(alloc, script, *member, *moment)?),
+            Line::Sweep { member, moment } => {
+                Ok(self.at_each_shard(alloc, script, *member, Task::Sweep(*moment))?)
+            }
             Line::Join { .. } => Ok(()),
         }
     }

@@ -8,6 +8,7 @@ returns-in-Ok g c histories = record {
   given = c.in_ok-given.ensures.explained histories;
   replayed = c.in-Ok.ensures.replayed;
   laws = c.in-Ok.ensures.laws;
+  served = c.in-Ok.ensures.served;
 }
 
 pub returns : goal.returns

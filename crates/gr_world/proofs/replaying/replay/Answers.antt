@@ -7,6 +7,7 @@ use Rattle.gr_script.specs.Scripts.{heading_of}
 use Rattle.gr_world.specs.Courses.{course}
 use Rattle.gr_world.specs.Worlds.{CanPlay}
 use Rattle.gr_world.proofs.Playable.{can_play}
+use Rattle.gr_world.proofs.Served.{script_served}
 use Rattle.gr_world.proofs.replaying.replay.Goals as goal
 
 pub play-requires-clause-work : goal.play-requires-clause-work
@@ -35,3 +36,8 @@ returns-clause-laws c =
     subst (λ lines. IsReplayed heading lines left) (all ∙ c.as_slice-line-items.ensures)
     (c.in_ok-into_record.ensures _ c.loop-line.invariant) in
     left_abiding heading script.lines script.ruled left replayed
+
+pub returns-clause-served : goal.returns-clause-served
+returns-clause-served c =
+    let script = c.args.script.now in
+    script_served (heading_of script) script.lines script.ruled

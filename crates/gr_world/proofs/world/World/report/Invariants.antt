@@ -1,9 +1,0 @@
-use Rattle.gr_script.specs.Scripts.{heading_of}
-use Rattle.gr_world.specs.Courses.{does, for_each}
-use Rattle.gr_world.specs.Doings.{Reports}
-use Rattle.gr_world.specs.Worlds.{Plays}
-use Rattle.gr_world.proofs.world.World.report.Given as goal
-
-abbrev pub invariant-loop-shard : goal.invariant-loop-shard
-invariant-loop-shard l =
-    Plays (heading_of l.fn.script) (for_each l.shard (λ shard. does (heading_of l.fn.script) l.fn.member shard Reports)) l.fn.self l.self
