@@ -133,6 +133,8 @@ module _ (id : Identity) (opening : ℕ) (now : Kept) (past : List Deed) where
     imaged = kept.imaged;
     aimed = kept.aimed;
     told = kept.told ∙ sym (heard_next (Call client seq ask reply None to) past);
+    eight = kept.eight;
+    gifts = kept.gifts;
   }
   kept_called client seq ask reply (Some change) to kept here gives =
       let is = made_by_call id opening past ask reply change to gives in
@@ -150,6 +152,8 @@ module _ (id : Identity) (opening : ℕ) (now : Kept) (past : List Deed) where
         imaged = kept.imaged;
         aimed = kept.aimed;
         told = kept.told ∙ sym (heard_next (Call client seq ask reply (Some change) to) past);
+        eight = kept.eight;
+        gifts = kept.gifts;
       }
 
   -- Kept before a change is taken in, all is kept after it.
@@ -172,4 +176,6 @@ module _ (id : Identity) (opening : ℕ) (now : Kept) (past : List Deed) where
     imaged = kept.imaged;
     aimed = kept.aimed;
     told = kept.told ∙ sym (heard_next (Taken change told) past);
+    eight = kept.eight;
+    gifts = kept.gifts;
   }

@@ -28,6 +28,8 @@ module _ (id : Identity) (opening : ℕ) (now : Kept) (past : List Deed) where
     imaged = kept.imaged;
     aimed = kept.aimed;
     told = kept.told ∙ sym (heard_next (Reported report) past);
+    eight = kept.eight;
+    gifts = kept.gifts;
   }
 
   pub kept_heard : (report : Report) → IsKept id opening now past
@@ -46,4 +48,6 @@ module _ (id : Identity) (opening : ℕ) (now : Kept) (past : List Deed) where
     imaged = kept.imaged;
     aimed = kept.aimed;
     told = ap (with_report report) kept.told ∙ sym (heard_next (Heard report) past);
+    eight = kept.eight;
+    gifts = kept.gifts;
   }

@@ -270,4 +270,6 @@ module _ (id : Identity) (opening moment : ℕ) (now : Kept) (past : List Deed) 
     imaged = kept.imaged;
     aimed = kept.aimed;
     told = kept.told ∙ sym (heard_next (Swept moment expired) past);
+    eight = kept.eight;
+    gifts = kept.gifts;
   }

@@ -1,5 +1,5 @@
 -- A shard as contracts see it, and how what it keeps is tied to its history.
-use Rattle.std.specs.Prelude.{◌≡◌, ℕ, ◌≤◌, ◌<◌, List, Bool}
+use Rattle.std.specs.Prelude.{◌≡◌, ℕ, ◌≤◌, ◌<◌, List, Bool, length}
 use Rattle.gr_stamp.specs.declared.stamp.TheConstants.{LIMIT}
 use Rattle.gr_history.specs.declared.identity.Identity.{Identity}
 use Rattle.gr_history.specs.declared.deed.Deed.{Deed}
@@ -8,11 +8,12 @@ use Rattle.gr_history.specs.Ids.{ids, known}
 use Rattle.gr_history.specs.Standing.{standing}
 use Rattle.gr_history.specs.Floor.{floor as floor_of}
 use Rattle.gr_history.specs.Clock.{clock as clock_of, since}
-use Rattle.gr_history.specs.Recipients.{has_image, recipients}
+use Rattle.gr_history.specs.Recipients.{gave_to, has_image, recipients}
 use Rattle.gr_history.specs.Lawful.{IsLawful, IsOfShard}
 use Rattle.gr_slots.specs.Slots.{Entries, slot_at}
 use Rattle.gr_stable.specs.Heard.{Reports, heard}
 use Rattle.gr_shard.specs.Entries.{slot_of}
+use Rattle.gr_shard.specs.Gifts.{is_given}
 
 -- whose shard it is, the floor that it began with, and its deeds, the oldest first
 pub record Account : Type 0 where
@@ -42,9 +43,11 @@ pub record Kept : Type 0 where
   pub to : ℕ
   -- of each member the report that counts
   pub heard : Reports
+  -- of each member whether it was given something
+  pub given : List Bool
 
-abbrev pub kept : Entries → List Id → ℕ → ℕ → Bool → ℕ → Reports → Kept
-kept slots vector floor clock joined to heard = record {
+abbrev pub kept : Entries → List Id → ℕ → ℕ → Bool → ℕ → Reports → List Bool → Kept
+kept slots vector floor clock joined to heard given = record {
   slots = slots;
   vector = vector;
   floor = floor;
@@ -52,6 +55,7 @@ kept slots vector floor clock joined to heard = record {
   joined = joined;
   to = to;
   heard = heard;
+  given = given;
 }
 
 -- What is kept is what the history says, which is lawful and of this shard's keys.
@@ -68,3 +72,5 @@ pub record IsKept (id : Identity) (opening : ℕ) (now : Kept) (past : List Deed
   pub imaged : now.joined ≡ has_image past
   pub aimed : now.to ≡ recipients id past
   pub told : now.heard ≡ heard past
+  pub eight : length now.given ≡ 8
+  pub gifts : (member : ℕ) → 1 ≤ member → member ≤ 8 → is_given now.given member ≡ gave_to member past

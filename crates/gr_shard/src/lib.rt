@@ -2,6 +2,7 @@
 #![tactic(auto)]
 
 mod entering;
+mod giving;
 mod making;
 mod regions;
 mod shard;

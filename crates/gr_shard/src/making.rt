@@ -1,10 +1,11 @@
 ghost use Rattle.std.specs.Prelude.{◌≡◌, ◌≤◌, [], Some, IfOk, option_copied};
 ghost use Rattle.gr_history.specs.declared.deed.Deed.TheVariants as deed;
-ghost use Rattle.gr_history.specs.Recipients.{is_recipient, recipients};
+ghost use Rattle.gr_history.specs.Recipients.{member_bits};
 ghost use Rattle.gr_history.specs.Calls.{nothing_made};
 ghost use Rattle.gr_stamp.specs.declared.change.Change.{Change as ChangeOf};
 ghost use Rattle.gr_stamp.specs.declared.stamp.TheConstants.{LIMIT};
 ghost use Rattle.gr_shard.specs.Entries.{with_made};
+ghost use Rattle.gr_shard.specs.Gifts.{goes_to};
 
 use gr_history::{Ask, Deed, Done, Identity, Reply};
 use gr_stamp::Change;
@@ -12,19 +13,22 @@ use gr_value::{Copied, Memory};
 use gr_vector::Vector;
 use std::alloc::Global;
 
-fn is_recipient(id: Identity, member: u8) -> bool
-    ensures { result ≡ is_recipient id [] member }
+// Whether a change goes to the member, where these were given something.
+fn is_recipient(id: Identity, given: &[bool; 8], member: u8) -> bool
+    requires from { 1 ≤ member }
+    requires of_eight { member ≤ 8 }
+    ensures { result ≡ goes_to id given.now member }
 {
-    member <= id.founders && member != id.member
+    (member <= id.founders || given[usize::from(member) - 1]) && member != id.member
 }
 
-/// The members that a change goes to while nobody was given anything, with bit m - 1 for member m.
-pub fn recipients(id: Identity) -> u8
-    ensures { result ≡ recipients id [] }
+/// The members that a change goes to, where these were given something, with bit m - 1 for member m.
+pub fn recipients(id: Identity, given: &[bool; 8]) -> u8
+    ensures { result ≡ member_bits (goes_to id given.now) 8 }
 {
     let (mut to, mut bit) = (0u16, 1u16);
     for below in 0..8u8 {
-        if is_recipient(id, below + 1) {
+        if is_recipient(id, given, below + 1) {
             to += bit;
         }
         bit *= 2;

@@ -12,7 +12,7 @@ ghost use Rattle.gr_history.specs.Floor.{floor};
 ghost use Rattle.gr_history.specs.Clock.{since};
 ghost use Rattle.gr_history.specs.Verdicts.{verdict};
 ghost use Rattle.gr_history.specs.Recipients.{is_ready};
-ghost use Rattle.gr_history.specs.Gifts.{IsReportOf};
+ghost use Rattle.gr_history.specs.Gifts.{IsGiftOf, IsImageOf, IsReportOf};
 ghost use Rattle.gr_stamp.specs.Winner.{put_value};
 ghost use Rattle.gr_shard.specs.Entries.{slot_of, slot_ver};
 ghost use Rattle.gr_history.specs.Stable.{due};
@@ -21,11 +21,14 @@ ghost use Rattle.gr_shard.specs.Sweeps.{stands_stable};
 ghost use Rattle.gr_shard.specs.View.{IsPlace};
 
 use crate::entering::{applied, enter, value_of, ver_of, verdict_at};
+use crate::giving::{own_changes, standing};
 use crate::making::{deed_of, note, nothing_made, recipients};
 use crate::regions::region;
 use crate::sweeping::{drop_all, risen};
 use crate::told::tells;
-use gr_history::{Ask, Deed, Done, History, Identity, Reply, ShardRecord, Told, Verdict};
+use gr_history::{
+    Ask, Deed, Done, Gift, History, Identity, Image, Reply, ShardRecord, Told, Verdict, What,
+};
 use gr_slots::{Slot, Slots};
 use gr_stable::Heard;
 use gr_stamp::{Change, Kind, LIMIT, Stamp};
@@ -43,6 +46,7 @@ pub struct Shard {
     clock: u64,
     joined: bool,
     to: u8,
+    given: [bool; 8],
     slots: Slots,
     vector: Vector,
     heard: Heard,
@@ -58,7 +62,7 @@ impl Model for Shard {
     ghost view = { λ shard. record { id = shard.id; opening = shard.opening; deeds = shard.history.deeds } };
 
     ghost invariant = { λ shard. IsKept shard.id shard.opening (kept shard.slots shard.vector.ids shard.floor shard.clock shard.joined shard.to
-        shard.heard) (reverse shard.history.deeds) };
+        shard.heard shard.given) (reverse shard.history.deeds) };
 }
 
 impl Shard {
@@ -73,7 +77,8 @@ impl Shard {
             floor,
             clock: 0,
             joined: false,
-            to: recipients(id),
+            to: recipients(id, &[false; 8]),
+            given: [false; 8],
             slots: Slots::new(alloc),
             vector: Vector::new(alloc)?,
             heard: Heard::new(alloc)?,
@@ -157,6 +162,23 @@ impl Shard {
         self.heard.hear(alloc, report)?;
         let _ = self.history.push(deed);
         Ok(())
+    }
+
+    /// Gives a joiner an image of the shard, or the changes that were made here, and adds that to the
+    /// history. From then on changes go to it. The own changes take time in proportion to the history.
+    pub fn give(&mut self, alloc: Global, to: u8, what: What) -> Result<Gift, Memory>
+        requires from { 1 ≤ to }
+        requires stated { to ≤ self.old.id.members }
+        ensures gift { IfOk result (IsGiftOf self.old.id.member self.old.opening (reverse self.old.deeds) what) }
+        ensures added { OnOk result (self.new ≡ record self.old { deeds = self.old.deeds ++ deed.Gave to what ∷ [] }) }
+        ensures err { OnErr result (self.new ≡ self.old) }
+    {
+        let gift = self.gift(alloc, what)?;
+        self.history.reserve(1)?;
+        self.given[usize::from(to) - 1] = true;
+        self.to = recipients(self.id, &self.given);
+        let _ = self.history.push(Deed::Gave { to, what });
+        Ok(gift)
     }
 
     /// Drops the tombstones that have timed out at a moment, in seconds, or at the greatest moment so
@@ -263,6 +285,29 @@ impl Shard {
             None => Ok(nothing_made(reply)),
             Some(kind) => self.makes(alloc, ask.key(), ver_of(held), reply, kind),
         }
+    }
+
+    // What is given now.
+    fn gift(&self, alloc: Global, what: What) -> Result<Gift, Memory>
+        ensures { IfOk result (IsGiftOf self.now.id.member self.now.opening (reverse self.now.deeds) what) }
+    {
+        match what {
+            What::Image => Ok(Gift::Image(self.image(alloc)?)),
+            What::Own => Ok(Gift::Own(own_changes(alloc, self.history.as_slice())?)),
+        }
+    }
+
+    // All that stands, removals too.
+    fn image(&self, alloc: Global) -> Result<Image, Memory>
+        ensures { IfOk result (IsImageOf self.now.id.member self.now.opening (reverse self.now.deeds)) }
+    {
+        Ok(Image {
+            from: self.id.member,
+            at: self.history.len(),
+            rows: standing(alloc, &self.slots)?,
+            vector: self.vector.copy(alloc)?,
+            floor: self.floor,
+        })
     }
 
     // Those of the keys at which what stands is stable.

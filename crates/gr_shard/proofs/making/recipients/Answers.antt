@@ -1,7 +1,8 @@
-use Rattle.std.proofs.Common.{◌≡◌, ◌≤◌, ◌+◌, ◌*◌, ◌^◌, [], arith, ap, sym, ◌∙◌, lit<}
-use Rattle.gr_history.specs.Recipients.{is_recipient, recipients, member_bits}
+use Rattle.std.proofs.Common.{◌≡◌, ◌≤◌, ◌+◌, ◌*◌, ◌^◌, arith, ap, sym, ◌∙◌, lit<}
+use Rattle.gr_history.specs.Recipients.{member_bits}
 use Rattle.gr_shard.proofs.Made.{member_bits-set, member_bits-unset, power-one_more}
 use Rattle.std.proofs.Math.Nat.{pow-le-pow_right}
+use Rattle.gr_shard.specs.Gifts.{goes_to}
 use Rattle.gr_shard.proofs.making.recipients.Goals as goal
 use Rattle.gr_shard.proofs.making.recipients.Goals.{then-is_recipient, else-is_recipient}
 
@@ -16,7 +17,7 @@ loop-below-preserved c =
         least = omega arith;
         most = most;
         small = omega arith;
-        bits = w.to-is ∙ member_bits-set (is_recipient c.args.id []) c.loop-below.below c.loop-below.to c.loop-below.bit
+        bits = w.to-is ∙ member_bits-set (goes_to c.args.id c.args.given.now) c.loop-below.below c.loop-below.to c.loop-below.bit
             now.bits now.bit (sym w.if-is_recipient.ensures);
       }
       | else-is_recipient w ↦ record {
@@ -24,13 +25,12 @@ loop-below-preserved c =
         least = omega arith;
         most = most;
         small = omega arith;
-        bits = w.to-is ∙ member_bits-unset (is_recipient c.args.id []) c.loop-below.below c.loop-below.to c.loop-below.bit
+        bits = w.to-is ∙ member_bits-unset (goes_to c.args.id c.args.given.now) c.loop-below.below c.loop-below.to c.loop-below.bit
             now.bits now.bit (sym w.if-is_recipient.ensures);
       }
     ]
 
 pub returns : goal.returns
-unfolding recipients
 returns c =
     let eight : c.loop-below.below ≡ 8 = omega arith in
-    c.loop-below.invariant.bits ∙ ap (λ n. member_bits (is_recipient c.args.id []) n) eight
+    c.loop-below.invariant.bits ∙ ap (λ n. member_bits (goes_to c.args.id c.args.given.now) n) eight

@@ -1,5 +1,6 @@
-use Rattle.std.proofs.Common.{◌≡◌, ◌^◌, ◌<◌, ◌≤◌, []}
-use Rattle.gr_history.specs.Recipients.{member_bits, is_recipient}
+use Rattle.std.proofs.Common.{◌≡◌, ◌^◌, ◌<◌, ◌≤◌}
+use Rattle.gr_history.specs.Recipients.{member_bits}
+use Rattle.gr_shard.specs.Gifts.{goes_to}
 use Rattle.gr_shard.proofs.making.recipients.Given as goal
 
 abbrev pub invariant-loop-below : goal.invariant-loop-below
@@ -8,5 +9,5 @@ invariant-loop-below l = record {
   least : 1 ≤ l.bit;
   most : l.bit ≤ 256;
   small : l.to < l.bit;
-  bits : l.to ≡ member_bits (is_recipient l.id []) l.below;
+  bits : l.to ≡ member_bits (goes_to l.id l.given) l.below;
 }

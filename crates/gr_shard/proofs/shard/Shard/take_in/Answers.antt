@@ -30,5 +30,5 @@ invariant_of-self-2 c =
     let entered : c.enter.new.slots ≡ with_change (applied told change) was.clock was.slots = c.in_ok-enter.ensures.ok
     ∙ ap (λ m. with_change m was.clock was.slots) c.applied.ensures in
     rw (pushed, reverse-append, noted, entered)
-    (kept_taken was.id was.opening (kept was.slots was.vector.ids was.floor was.clock was.joined was.to was.heard) past change told
+    (kept_taken was.id was.opening (kept was.slots was.vector.ids was.floor was.clock was.joined was.to was.heard was.given) past change told
     c.self.invariant here low is)
