@@ -2,10 +2,12 @@ ghost use Rattle.std.specs.Prelude.{◌≡◌, ◌≤◌, IfSome};
 ghost use Rattle.gr_post.specs.Passes.{sender_of, taker_of};
 
 use crate::{Courier, Inbox, InboxList, Mail, SendPass, SendPassList, TakePass};
-use gr_vector::{Report, Vector};
+use gr_vector::{Report, SharedVector, Vector};
 use std::alloc::Global;
 use std::sync::Wait;
 use std::test::Fail;
+
+mod crowd;
 
 // A mail with a number.
 fn mail(alloc: Global, at: u64) -> Option<Mail> {
@@ -18,7 +20,7 @@ fn mail(alloc: Global, at: u64) -> Option<Mail> {
             member: 1,
             at,
             own: 0,
-            vector,
+            vector: SharedVector::new(alloc, vector).ok()?,
         },
     })
 }
