@@ -79,11 +79,16 @@ fn a_turn_is_out_once(rt: HostRuntime) -> Result<(), Fail> {
     let first = lock.leave(turn);
     let (mut second, even) = word_at(&lock, second);
     lock.join(&mut second, first);
+    let Ok(mut list) = SeatList::new(rt.alloc()) else {
+        panic!(rt; "no memory")
+    };
+    let listed = list.push(second).is_ok();
     let Some(notes) = lock.end() else {
         panic!(rt; "a turn is out")
     };
     assert_eq!(rt; shown, (2, true, false));
     assert_eq!(rt; (added, busy, even), (true, 1, 2));
+    assert_eq!(rt; (listed, list.len()), (true, 1));
     assert_eq!(rt; (notes.name, notes.items.len()), (7, 1));
     Ok(())
 }
