@@ -98,7 +98,6 @@ kept_new id opening to place aimed =
       of_shard = tt;
       stands = λ key. refl;
       noted = refl;
-      within = omega arith;
       floored = refl;
       low = place.opening_floor;
       clocked = refl;
@@ -125,7 +124,6 @@ module _ (id : Identity) (opening : ℕ) (now : Kept) (past : List Deed) where
         of_shard = kept.of_shard;
         stands = stands_unchanged now.slots (Gave to what) past (λ key. refl) kept.stands;
         noted = kept.noted;
-        within = kept.within;
         floored = kept.floored;
         low = kept.low;
         clocked = kept.clocked;
