@@ -19,3 +19,6 @@ pub mod KeptUp
 pub mod AsMaps
 pub mod Opened
 pub mod Queries
+pub mod Turns
+pub mod Published
+pub mod InOrder

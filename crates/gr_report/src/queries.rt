@@ -40,12 +40,7 @@ fn put_ask(out: &mut Vec<u8>, ask: &QueryAsk) -> Result<(), Memory>
 }
 
 /// Puts a step of a client on a query last.
-pub fn put_query_step(
-    out: &mut Vec<u8>,
-    client: u8,
-    seq: u32,
-    ask: &QueryAsk,
-) -> Result<(), Memory>
+pub fn put_query_step(out: &mut Vec<u8>, client: u8, seq: u32, ask: &QueryAsk) -> Result<(), Memory>
     ensures { OnOk result (out.new.items ≡ out.old.items ++ query_step_text client seq ask.now) }
 {
     put_counted(out, "ask ", u128::from(client))?;
@@ -226,11 +221,7 @@ fn put_fetched(
 }
 
 /// Puts what all shards told last, from shard 0 on.
-pub fn put_replies(
-    alloc: Global,
-    out: &mut Vec<u8>,
-    replies: &[QueryReply],
-) -> Result<(), Memory>
+pub fn put_replies(alloc: Global, out: &mut Vec<u8>, replies: &[QueryReply]) -> Result<(), Memory>
     ensures { OnOk result (out.new.items ≡ out.old.items ++ replies_text replies.now) }
 {
     let Some(first) = replies.first() else {

@@ -1,5 +1,5 @@
 use Rattle.std.proofs.Common.{◌≡◌, ◌++◌, take, flat_map}
-use Rattle.gr_report.specs.Queries.{query_line, events_told, fetched_events, event_text}
+use Rattle.gr_report.specs.Queries.{fetched_events, event_text}
 use Rattle.gr_report.proofs.queries.put_fetched.Given as goal
 
 abbrev pub invariant-loop-reply : goal.invariant-loop-reply
