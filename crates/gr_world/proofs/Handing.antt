@@ -11,12 +11,15 @@ use Rattle.gr_history.specs.declared.image.Gift.TheVariants as gift
 use Rattle.gr_history.specs.declared.image.Image.{Image}
 use Rattle.gr_history.specs.declared.image.What.{What}
 use Rattle.gr_history.specs.declared.image.What.TheVariants as what
+use Rattle.gr_vector.specs.Ids.{Id}
 use Rattle.gr_history.specs.Gifts.{IsGiftOf, IsImageOf, own_changes}
+use Rattle.gr_history.specs.Ids.{known}
+use Rattle.gr_history.specs.Regions.{all_standing}
 use Rattle.gr_shard.specs.Merges.{IsGiftFor}
 use Rattle.gr_script.specs.Rules.{Heading, IsMember}
 use Rattle.gr_world.specs.declared.world.World.{World}
 use Rattle.gr_world.specs.Courses.{does, gives, identity_at, takes_all, takes_gift}
-use Rattle.gr_world.specs.Doings.{Takes, Gives, image_of}
+use Rattle.gr_world.specs.Doings.{Takes, Gives, Merges, image_of}
 use Rattle.gr_world.specs.Events.{Event, history}
 use Rattle.gr_world.specs.Tasks.{IsGiven}
 use Rattle.gr_world.specs.Worlds.{IsAtWork, IsDone, IsWorld, Plays, account_at, account_left, deed_at}
@@ -42,7 +45,7 @@ takes_more_plays heading first now next member shard changes i change less is so
     rw add-one (subst (λ all. IsWorld heading all next) (sym (takes_more heading member shard changes i change events less)) here)
 
 -- each of the changes is of the shard
-pub shard_here : (shards shard : ℕ) (changes : List Change) (i : ℕ) (d : Change)
+shard_here : (shards shard : ℕ) (changes : List Change) (i : ℕ) (d : Change)
     → AllByRecursion (λ change. shard_of change.key shards ≡ shard) changes → i < length changes
     → shard_of (get_or changes i d).key shards ≡ shard
 shard_here shards shard [] i d all less = absurd (omega (arith, less))
@@ -56,15 +59,21 @@ gift_of : ℕ → ℕ → List Deed → What → Gift
 gift_of member opening past what.Image = gift.Image (image_of member opening past)
 gift_of member opening past what.Own = gift.Own (own_changes past)
 
+abbrev image_with : ℕ → ℕ → List Change → List Id → ℕ → ℕ → Image
+image_with from at rows ids spare floor =
+    record { from = from; at = at; rows = rows; vector = record { ids = ids; spare = spare }; floor = floor }
+
 image_is : (member opening : ℕ) (past : List Deed) (image : Image) → IsImageOf member opening past image → image.vector.spare ≡ 0
     → image ≡ image_of member opening past
 image_is member opening past image is spare =
-    let giver = is.giver_is in
-    let at = is.at_is in
-    let rows = is.rows_are in
-    let vector = is.vector_is in
-    let floor = is.floor_is in
-    cc
+    let rows = all_standing past in
+    let ids = known past in
+    ap (λ x. image_with x image.at image.rows image.vector.ids image.vector.spare image.floor) is.giver_is
+    ∙ ap (λ x. image_with member x image.rows image.vector.ids image.vector.spare image.floor) is.at_is
+    ∙ ap (λ x. image_with member (length past) x image.vector.ids image.vector.spare image.floor) is.rows_are
+    ∙ ap (λ x. image_with member (length past) rows x image.vector.spare image.floor) is.vector_is
+    ∙ ap (λ x. image_with member (length past) rows ids x image.floor) spare
+    ∙ ap (image_with member (length past) rows ids 0) is.floor_is
 
 gift_is : (id : Identity) (member opening : ℕ) (past : List Deed) (what_ : What) (given : Gift)
     → IsGiftOf member opening past what_ given → IsGiftFor id given → given ≡ gift_of member opening past what_
@@ -87,6 +96,16 @@ pub work_id : (heading : Heading) (world : World) (member shard : ℕ) → IsAtW
 work_id heading world member shard (events, left) is within =
     ap (λ grid. (account_at grid member shard).id) left.grid_is ∙ ap (λ account. account.id) (cell_left heading events member shard is within)
 
+-- and its changes belong there
+pub item_here : (heading : Heading) (world : World) (member shard : ℕ) (changes : List Change) (i : ℕ) (change : Change)
+    → IsAtWork heading world → IsMember heading member → shard < heading.shards
+    → AllByRecursion (λ change. shard_of change.key heading.shards ≡ shard) changes → i < length changes → change ≡ get_or changes i change
+    → shard_of change.key (account_at world.grid member shard).id.shards ≡ (account_at world.grid member shard).id.shard
+item_here heading world member shard changes i change work is within all less at =
+    let id = work_id heading world member shard work is within in
+    ap (λ d. shard_of change.key d.shards) id ∙ ap (λ c. shard_of c.key heading.shards) at
+    ∙ shard_here heading.shards shard changes i change all less ∙ sym (ap (λ d. d.shard) id)
+
 -- ---- a gift is given and taken in
 
 pub give_plays : (heading : Heading) (old new : World) (giver shard joiner : ℕ) (what_ : What) (deed : Deed)
@@ -96,6 +115,15 @@ pub give_plays : (heading : Heading) (old new : World) (giver shard joiner : ℕ
     → Plays heading (does heading giver shard (Gives joiner what_)) old new
 give_plays heading old new giver shard joiner what_ deed is within done tells made_same =
     quiet_plays heading old new giver shard (Gives joiner what_) deed is within
+    (λ id opening past. record { unmade = λ client number. refl; untold = λ client. refl }) done tells made_same
+
+pub merge_plays : (heading : Heading) (old new : World) (joiner shard : ℕ) (image : Image) (deed : Deed)
+    → IsMember heading joiner → shard < heading.shards
+    → IsDone old.grid new.grid joiner shard (Merges image) deed
+    → new.tellings ≡ old.tellings → new.made ≡ old.made
+    → Plays heading (does heading joiner shard (Merges image)) old new
+merge_plays heading old new joiner shard image deed is within done tells made_same =
+    quiet_plays heading old new joiner shard (Merges image) deed is within
     (λ id opening past. record { unmade = λ client number. refl; untold = λ client. refl }) done tells made_same
 
 gives_are : (heading : Heading) (joiner shard giver : ℕ) (what_ : What) (before : List Event)
