@@ -57,9 +57,13 @@ pub struct Shard {
 
 impl Model for Shard {
     ghost use Rattle.std.specs.Prelude.{reverse};
+    ghost use Rattle.std.specs.Coded.{codes};
+    ghost use Rattle.gr_oql.specs.Question.{question_code};
     ghost use Rattle.gr_shard.specs.View.{Account, IsKept, kept};
 
     ghost Value = { Account };
+
+    ghost coded = { Prim.hlevel (codes, question_code) };
 
     ghost view = { λ shard. record { id = shard.id; opening = shard.opening; deeds = shard.history.deeds } };
 
