@@ -7,6 +7,8 @@ mod open;
 mod opens;
 mod query_end;
 mod registry;
+#[cfg(test)]
+mod tests;
 mod waiting;
 
 pub use coming::Coming;

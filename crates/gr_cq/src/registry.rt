@@ -58,7 +58,7 @@ impl Registry {
     ) -> Result<(), QueryEnd>
         ensures refused { EndsBy (enrol_end (find client name.now self.old.entries)) result }
         ensures ok { OnOk result (self.new ≡ record { entries = enrolled client name.now query.now self.old.entries; spare = 0 }) }
-        ensures err { OnErr result (self.new.entries ≡ self.old.entries) }
+        ensures err { OnErr result (self.new ≡ self.old) }
     {
         let foreseen = self.foresee_enrol(alloc, client, name, query)?;
         let _ = self.apply(foreseen);
@@ -101,7 +101,7 @@ impl Registry {
         ensures refused { EndsBy (known_end (find client name.now self.old.entries)) result }
         ensures events { IfOk result (λ events. events ≡ waiting_of (find client name.now self.old.entries)) }
         ensures ok { OnOk result (self.new ≡ record { entries = changed_at client name.now kept_taken self.old.entries; spare = 0 }) }
-        ensures err { OnErr result (self.new.entries ≡ self.old.entries) }
+        ensures err { OnErr result (self.new ≡ self.old) }
     {
         let foreseen = self.foresee_take(alloc, client, name)?;
         Ok(self.apply(foreseen))
