@@ -2,7 +2,7 @@ ghost use Rattle.std.specs.Prelude.{◌≡◌, ◌≤◌, [], IfOk, OnOk, OnErr}
 ghost use Rattle.gr_cq.specs.Entries.{find, changed_at, kept_stopped, kept_taken, enrolled, closed, noted, entry_opened};
 ghost use Rattle.gr_cq.specs.Ends.{enrol_end, stop_end, known_end, ended, EndsBy, waiting_of};
 ghost use Rattle.gr_cq.specs.Foresight.{changed, IsMadeFor, IsWithin, Enrolling, Taking, Telling, coming_to_each};
-ghost use Rattle.gr_cq.specs.Coming.{coming_end, given, left};
+ghost use Rattle.gr_cq.specs.Coming.{coming_end, given, entries_after};
 
 use crate::foreseen::Foreseen;
 use crate::open::Open;
@@ -122,7 +122,7 @@ impl Registry {
         ensures refused { EndsBy (coming_end coming.now self.old.entries) result }
         ensures entries { self.new.entries ≡ self.old.entries }
         ensures made { IfOk result (IsMadeFor self.new) }
-        ensures leaves { IfOk result (λ foreseen. changed foreseen.change self.old.entries ≡ left coming.now self.old.entries) }
+        ensures leaves { IfOk result (λ foreseen. changed foreseen.change self.old.entries ≡ entries_after coming.now self.old.entries) }
         ensures gives { IfOk result (λ foreseen. foreseen.given ≡ given coming.now self.old.entries) }
         ensures err { OnErr result (self.new ≡ self.old) }
     {

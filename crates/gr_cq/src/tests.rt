@@ -44,18 +44,33 @@ fn are_told(alloc: Global, events: &EventList, told: &[Told]) -> Result<bool, Fa
     Ok(events.len() == told.len())
 }
 
-// Each key turns at once, or once it was foreseen.
+// Tells the queries of all keys, at once or once that was foreseen.
+fn tell(
+    alloc: Global,
+    registry: &mut Registry,
+    all: &[Turned],
+    is_foreseen: bool,
+) -> Result<(), QueryEnd> {
+    if is_foreseen {
+        let foreseen = registry.foresee(alloc, &Coming::Note { turned: all })?;
+        let _ = registry.apply(foreseen);
+    } else {
+        registry.note(alloc, all)?;
+    }
+    Ok(())
+}
+
 #[test]
 fn a_query_is_told_of_what_it_matches(rt: HostRuntime) -> Result<(), Fail> {
     let alloc = rt.alloc();
     let query = Query::parse(alloc, "SELECT * FROM /trades t WHERE t.price > 100")?;
     let name = Key::read(alloc, b"q")?;
-    let all = [
-        turned(alloc, "t2", "{\"price\":50}", "{\"price\":101}")?,
-        turned(alloc, "t1", "{\"price\":150}", "{\"price\":160}")?,
-        turned(alloc, "t3", "{\"price\":120}", "{\"price\":99}")?,
-        turned(alloc, "t4", "", "{\"price\":10}")?,
-        turned(alloc, "t1", "{\"price\":160}", "")?,
+    let table = [
+        ("t2", "{\"price\":50}", "{\"price\":101}"),
+        ("t1", "{\"price\":150}", "{\"price\":160}"),
+        ("t3", "{\"price\":120}", "{\"price\":99}"),
+        ("t4", "", "{\"price\":10}"),
+        ("t1", "{\"price\":160}", ""),
     ];
     let told = [
         (QueryOp::Create, BaseOp::Update, "t2", "{\"price\":101}"),
@@ -63,48 +78,77 @@ fn a_query_is_told_of_what_it_matches(rt: HostRuntime) -> Result<(), Fail> {
         (QueryOp::Destroy, BaseOp::Update, "t3", "{\"price\":99}"),
         (QueryOp::Destroy, BaseOp::Destroy, "t1", ""),
     ];
-    for foreseen in [false, true] {
+    let mut all = Vec::new(alloc);
+    for (key, old, new) in table {
+        all.push(turned(alloc, key, old, new)?)?;
+    }
+    for is_foreseen in [false, true] {
         let mut registry = Registry::new(alloc)?;
         registry.enrol(alloc, 2, &name, &query)?;
-        if foreseen {
-            let foreseen = registry.foresee(alloc, &Coming::Note { turned: &all })?;
-            assert!(rt; are_told(alloc, &registry.apply(foreseen), &[])?);
-        } else {
-            registry.note(alloc, &all)?;
-        }
-        assert!(rt; are_told(alloc, &registry.take(alloc, 2, &name)?, &told)?);
-        assert!(rt; are_told(alloc, &registry.take(alloc, 2, &name)?, &[])?);
+        tell(alloc, &mut registry, &all, is_foreseen)?;
+        let events = registry.take(alloc, 2, &name)?;
+        assert!(rt; are_told(alloc, &events, &told)?);
+        assert!(rt; registry.take(alloc, 2, &name)?.is_empty());
     }
     Ok(())
+}
+
+#[derive(Clone, Copy)]
+enum Step {
+    Open(&'static str),
+    Stop,
+    Close,
+    Fetch,
+    /// From a value to another.
+    Turn(&'static str, &'static str),
+}
+
+// What a step of a query answers, and how many events are handed out.
+fn answered(
+    alloc: Global,
+    registry: &mut Registry,
+    name: &Key,
+    step: Step,
+) -> Result<Result<usize, QueryEnd>, Fail> {
+    Ok(match step {
+        Step::Open(text) => {
+            let query = Query::parse(alloc, text)?;
+            registry.enrol(alloc, 2, name, &query).map(|_| 0)
+        }
+        Step::Stop => registry.stop(2, name).map(|_| 0),
+        Step::Close => registry.close(2, name).map(|_| 0),
+        Step::Fetch => registry.take(alloc, 2, name).map(|events| events.len()),
+        Step::Turn(old, new) => {
+            let all = [turned(alloc, "a", old, new)?];
+            registry
+                .note(alloc, &all)
+                .map(|_| 0)
+                .map_err(QueryEnd::from)
+        }
+    })
 }
 
 #[test]
 fn a_query_runs_is_stopped_and_is_closed(rt: HostRuntime) -> Result<(), Fail> {
     let alloc = rt.alloc();
-    let (p, q) = (Key::read(alloc, b"p")?, Key::read(alloc, b"q")?);
-    let every = Query::parse(alloc, "SELECT * FROM /r")?;
-    let some = Query::parse(alloc, "SELECT * FROM /r WHERE x >= 2")?;
+    let steps = [
+        ("p", Step::Open("SELECT * FROM /r"), Ok(0)),
+        ("q", Step::Open("SELECT * FROM /r WHERE x >= 2"), Ok(0)),
+        ("p", Step::Turn("{\"x\":2}", "{\"x\":3}"), Ok(0)),
+        ("p", Step::Fetch, Ok(1)),
+        ("q", Step::Fetch, Ok(1)),
+        ("q", Step::Stop, Ok(0)),
+        ("q", Step::Turn("{\"x\":3}", "{\"x\":4}"), Ok(0)),
+        ("q", Step::Fetch, Ok(0)),
+        ("q", Step::Stop, Err(QueryEnd::NotRunning)),
+        ("q", Step::Close, Ok(0)),
+        ("q", Step::Fetch, Err(QueryEnd::Unknown)),
+        ("p", Step::Open("SELECT * FROM /r"), Err(QueryEnd::Taken)),
+    ];
     let mut registry = Registry::new(alloc)?;
-    registry.enrol(alloc, 2, &p, &every)?;
-    registry.enrol(alloc, 2, &q, &some)?;
-    registry.note(alloc, &[turned(alloc, "a", "{\"x\":2}", "{\"x\":3}")?])?;
-    let told = [(QueryOp::Update, BaseOp::Update, "a", "{\"x\":3}")];
-    assert!(rt; are_told(alloc, &registry.take(alloc, 2, &p)?, &told)?);
-    assert!(rt; are_told(alloc, &registry.take(alloc, 2, &q)?, &told)?);
-    registry.stop(2, &q)?;
-    registry.note(alloc, &[turned(alloc, "a", "{\"x\":3}", "{\"x\":4}")?])?;
-    assert!(rt; are_told(alloc, &registry.take(alloc, 2, &q)?, &[])?);
-    assert_eq!(rt; registry.stop(2, &q), Err(QueryEnd::NotRunning));
-    registry.close(2, &q)?;
-    assert_eq!(rt; registry.take(alloc, 2, &q).err(), Some(QueryEnd::Unknown));
-    assert_eq!(rt; registry.enrol(alloc, 2, &p, &every), Err(QueryEnd::Taken));
-    let fetch = Coming::Take { client: 2, name: &q };
-    assert_eq!(rt; registry.foresee(alloc, &fetch).err(), Some(QueryEnd::Unknown));
-    let open = Coming::Enrol {
-        client: 2,
-        name: &p,
-        query: &every,
-    };
-    assert_eq!(rt; registry.foresee(alloc, &open).err(), Some(QueryEnd::Taken));
+    for (name, step, wanted) in steps {
+        let name = Key::read(alloc, name.as_bytes())?;
+        assert_eq!(rt; answered(alloc, &mut registry, &name, step)?, wanted);
+    }
     Ok(())
 }
