@@ -11,4 +11,5 @@ mod Shorter
 mod Texts
 mod Utf8
 mod ValueRead
+pub mod KeyFronts
 pub mod Keys

@@ -1,5 +1,7 @@
 pub mod Fields
 pub mod KeyBytes
+pub mod KeyFront
+pub mod KeyHeld
 pub mod Sameness
 pub mod Scalars
 pub mod Shard

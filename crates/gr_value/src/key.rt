@@ -1,7 +1,11 @@
 ghost use Rattle.std.specs.Prelude.{◌≡◌, ◌≤◌, ◌<◌, IfOk, IfSome, IsTrue, Some, None, MatchResult, length};
 ghost use Rattle.gr_value.specs.KeyBytes.{is_key_byte, bad_place, IsKey, key_fault, FaultIs};
+ghost use Rattle.std.specs.Cmp.Lexicographic.{slice_cmp};
+ghost use Rattle.std.specs.Ordering.{nat_cmp};
+ghost use Rattle.gr_value.specs.KeyFront.{front_of};
 ghost use Rattle.gr_value.specs.Shard.{shard_of};
 
+use crate::near::{Near, front_of};
 use crate::{Copied, ItemList, KeyFault, Memory};
 use std::alloc::Global;
 use std::cmp::Ordering;
@@ -11,10 +15,18 @@ use std::sync::Arc;
 /// The most bytes of a key.
 const MOST_BYTES: usize = 255;
 
-/// A key: 1 to 255 bytes, each from 0x21 to 0x7E. Contracts see it as its bytes. Copies share them.
+// Where the bytes of a key stand.
+#[derive(Drop)]
+enum Held {
+    Near(Near),
+    Far(Arc<Vec<u8>>),
+}
+
+/// A key: 1 to 255 bytes, each from 0x21 to 0x7E. Contracts see it as its bytes. Up to 14 bytes stand
+/// in the key itself, and of more the copies share one place.
 #[derive(Drop)]
 pub struct Key {
-    shared: Arc<Vec<u8>>,
+    held: Held,
 }
 
 pub type KeyList = ItemList<Key>;
@@ -22,12 +34,13 @@ pub type KeyList = ItemList<Key>;
 impl Model for Key {
     ghost use Rattle.std.specs.Prelude.{List, ℕ};
     ghost use Rattle.gr_value.specs.KeyBytes.{IsKey};
+    ghost use Rattle.gr_value.specs.KeyHeld.{held_bytes, IsHeld};
 
     ghost Value = { List ℕ };
 
-    ghost view = { λ key. key.shared.value.items };
+    ghost view = { λ key. held_bytes key.held };
 
-    ghost invariant = { λ key. IsKey key.shared.value.items };
+    ghost invariant = { λ key. IsKey (held_bytes key.held) × IsHeld key.held };
 }
 
 fn is_key_byte(byte: u8) -> bool
@@ -70,15 +83,45 @@ impl Key {
         requires { IsKey bytes.now }
         ensures { IfOk result (λ key. key ≡ bytes.now) }
     {
-        let shared = Arc::new(alloc, Vec::from_slice(alloc, bytes)?)?;
-        Ok(Key { shared })
+        let held = match Near::of_bytes(bytes) {
+            Some(near) => Held::Near(near),
+            None => Held::Far(Arc::new(alloc, Vec::from_slice(alloc, bytes)?)?),
+        };
+        Ok(Key { held })
     }
 
+    #[inline]
     pub fn bytes(&self) -> &[u8]
         ensures bytes { result.now ≡ self.now }
         ensures key { IsKey self.now }
     {
-        self.shared.as_slice()
+        match &self.held {
+            Held::Near(near) => near.as_slice(),
+            Held::Far(shared) => shared.as_slice(),
+        }
+    }
+
+    // By their fronts keys are told apart without a look at the rest, which may stand elsewhere.
+    #[inline]
+    fn front(&self) -> u64
+        ensures front { result ≡ front_of self.now }
+        ensures key { IsKey self.now }
+    {
+        match &self.held {
+            Held::Near(near) => near.front(),
+            Held::Far(shared) => front_of(shared.as_slice()),
+        }
+    }
+
+    // The order of keys whose fronts are equal.
+    fn cmp_behind(&self, other: &Key) -> Ordering
+        requires { front_of self.now ≡ front_of other.now }
+        ensures { result ≡ slice_cmp nat_cmp self.now other.now }
+    {
+        match (&self.held, &other.held) {
+            (Held::Near(one), Held::Near(two)) => one.back().cmp(&two.back()),
+            _ => self.bytes().cmp(other.bytes()),
+        }
     }
 
     /// The shard of this key where there are so many, counted from 0.
@@ -105,7 +148,7 @@ impl PartialEq for Key {
     ghost laws = { Prim.search (comparing, rules) };
 
     fn eq(&self, other: &Key) -> bool {
-        self.bytes() == other.bytes()
+        self.front() == other.front() && self.bytes() == other.bytes()
     }
 }
 
@@ -148,13 +191,21 @@ impl Ord for Key {
     ghost matches_eq = { Prim.search (comparing, rules) };
 
     fn cmp(&self, other: &Key) -> Ordering {
-        self.bytes().cmp(other.bytes())
+        let (one, two) = (self.front(), other.front());
+        if one == two {
+            self.cmp_behind(other)
+        } else {
+            one.cmp(&two)
+        }
     }
 }
 
 impl Copied for Key {
     fn copy(&self, _alloc: Global) -> Result<Key, Memory> {
-        let shared = Arc::try_clone(&self.shared)?;
-        Ok(Key { shared })
+        let held = match &self.held {
+            Held::Near(near) => Held::Near(near.copy()),
+            Held::Far(shared) => Held::Far(Arc::try_clone(shared)?),
+        };
+        Ok(Key { held })
     }
 }

@@ -6,6 +6,7 @@ mod fault;
 mod key;
 mod list;
 mod memory;
+mod near;
 mod plain;
 mod printing;
 mod reading;

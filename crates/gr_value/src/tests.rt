@@ -1,4 +1,5 @@
 use crate::{Copied, Key, KeyFault, KeyList, Memory, Scalar, Value, ValueFault};
+use std::cmp::Ordering;
 
 // What the value of a text prints, or why the text is none.
 fn printed(rt: &HostRuntime, text: &[u8]) -> Result<Vec<u8>, ValueFault> {
@@ -144,6 +145,35 @@ fn keys_are_read(rt: HostRuntime) {
 }
 
 #[test]
+fn keys_are_in_the_order_of_their_bytes(rt: HostRuntime) {
+    // Pairs in order: they part at the first byte, at the eighth, the ninth, the fourteenth and the
+    // fifteenth, and where one ends.
+    let cases: [(&[u8], &[u8]); 11] = [
+        (b"a", b"b"),
+        (b"a", b"aa"),
+        (b"Z", b"a"),
+        (b"abcdefgh", b"abcdefgi"),
+        (b"abcdefgh", b"abcdefgh!"),
+        (b"abcdefgh!~", b"abcdefghi!"),
+        (b"abcdefghijklmn", b"abcdefghijklmo"),
+        (b"abcdefghijklmn", b"abcdefghijklmn!"),
+        (b"abcdefghijklmn!", b"abcdefghijklmo"),
+        (b"abcdefghijklmno", b"abcdefghijklmnp"),
+        (b"abcdefghijklmno", b"b"),
+    ];
+    for (less, more) in cases {
+        let less = Key::read(rt.alloc(), less).expect(&rt, "it is a key");
+        let more = Key::read(rt.alloc(), more).expect(&rt, "it is a key");
+        assert_eq!(rt; less.cmp(&more), Ordering::Less);
+        assert_eq!(rt; more.cmp(&less), Ordering::Greater);
+        assert!(rt; less != more);
+        let copy = less.copy(rt.alloc()).expect(&rt, "there is memory");
+        assert_eq!(rt; less.cmp(&copy), Ordering::Equal);
+        assert!(rt; less == copy);
+    }
+}
+
+#[test]
 fn keys_have_shards(rt: HostRuntime) {
     // Eight times z draws 2384944384, which only its remainder by 2^32 is, and 7 divides no power of 2.
     let cases: [(&[u8], u8, u8); 4] = [
@@ -165,6 +195,9 @@ fn lists_hold_keys(rt: HostRuntime) {
     let key = Key::read(rt.alloc(), b"k").expect(&rt, "it is a key");
     keys.push(key).expect(&rt, "there is memory");
     let copy = keys.copy(rt.alloc()).expect(&rt, "there is memory");
+    let last = Key::read(rt.alloc(), b"last").expect(&rt, "it is a key");
+    keys.push(last).expect(&rt, "there is memory");
+    keys.reverse();
     assert_eq!(rt; keys.pop().map(|key| key.bytes().len()), Some(1));
     assert_eq!(rt; copy.len(), 1);
     assert!(rt; copy.get(1).is_none());

@@ -1,0 +1,87 @@
+ghost use Rattle.std.specs.Prelude.{◌≡◌, ◌<◌, ◌≤◌, drop, length, MatchOption};
+ghost use Rattle.gr_value.specs.KeyFront.{front_of};
+
+use std::marker::Model;
+
+/// The most bytes that stand in the value itself.
+const ROOM: usize = 14;
+
+/// A few bytes that stand in the value itself, with zeros behind them.
+#[derive(Drop)]
+pub struct Near {
+    len: u8,
+    all: [u8; ROOM],
+}
+
+impl Model for Near {
+    ghost use Rattle.std.specs.Prelude.{List, ℕ, take};
+    ghost use Rattle.gr_value.specs.KeyFront.{IsPadded};
+
+    ghost Value = { List ℕ };
+
+    ghost view = { λ near. take near.len near.all };
+
+    ghost invariant = { λ near. IsPadded near.len near.all };
+}
+
+impl Near {
+    /// These bytes, if they are few enough.
+    pub fn of_bytes(bytes: &[u8]) -> Option<Near>
+        ensures { MatchOption result (14 < length bytes.now) (λ near. near ≡ bytes.now) }
+    {
+        if bytes.len() > ROOM {
+            return None;
+        }
+        let mut all = [0; ROOM];
+        let front = &mut all[..bytes.len()];
+        front.copy_from_slice(bytes);
+        Some(Near {
+            len: bytes.len() as u8,
+            all,
+        })
+    }
+
+    #[inline]
+    pub fn as_slice(&self) -> &[u8]
+        ensures { result.now ≡ self.now }
+    {
+        &self.all[..usize::from(self.len)]
+    }
+
+    /// The first eight bytes as a number, the first one counting most.
+    #[inline]
+    pub fn front(&self) -> u64
+        ensures { result ≡ front_of self.now }
+    {
+        front_of(&self.all)
+    }
+
+    /// The last eight of the bytes that have room, as such a number.
+    #[inline]
+    pub fn back(&self) -> u64
+        ensures back { result ≡ front_of (drop 6 self.now) }
+        ensures few { length self.now ≤ 14 }
+    {
+        front_of(&self.all[6..])
+    }
+
+    pub fn copy(&self) -> Near
+        ensures { result ≡ self.now }
+    {
+        Near {
+            len: self.len,
+            all: self.all,
+        }
+    }
+}
+
+/// The first eight bytes as a number, the first one counting most.
+#[inline]
+pub fn front_of(bytes: &[u8]) -> u64
+    requires { 8 ≤ length bytes.now }
+    ensures { result ≡ front_of bytes.now }
+{
+    u64::from_be_bytes([
+        bytes[0], bytes[1], bytes[2], bytes[3], bytes[4], bytes[5], bytes[6], bytes[7],
+    ])
+}
