@@ -94,7 +94,7 @@ at_its_key past change win is q same =
 
 -- the slots once a change was taken in
 slots_taken : (id : Identity) (opening : ℕ) (now : Kept) (past : List Deed) (change : Change) (told : Verdict) → IsKept id opening now
-    past
+  past
     → told ≡ verdict past change → Stands (with_change (applied told change) now.clock now.slots) (Taken change told ∷ past)
 slots_taken id opening now past change Applied kept is =
     let win = at_its_key past change true

@@ -69,7 +69,7 @@ has_row q [] = refl
 has_row q (row ∷ rest) = at_key (bytes_eq row.key q) (has_row q rest)
   where
     at_key : (b : Bool) → has_key q rest ≡ is_some (row_at q rest) → (b || has_key q rest) ≡ is_some (if b then Some row else row_at q
-        rest)
+      rest)
     at_key true next = refl
     at_key false next = next
 
@@ -181,7 +181,7 @@ module _ (ids_ : List Id) where
 
   -- what is there stays
   there_stays : (q : List ℕ) (slot : Slot) (olds left : Entries) → slot_at q left ≡ Some slot → slot_at q (olds_from left olds) ≡ Some
-      slot
+    slot
   there_stays q slot [] left there = there
   there_stays q slot (old ∷ olds) left there = there_stays q slot olds (with_unknown ids_ left old) (at_key (bytes_eq old.0 q) refl)
     where
@@ -306,7 +306,7 @@ winner-one_row q test row (first ∷ rest) old apart is =
         let none : has_key q rest ≡ false = subst (λ k. has_key k rest ≡ false) ((bytes_eq-Decides first.key q).0 same) apart.0 in
         let row_is : first ≡ row = cc in
         subst (λ r. winner q (filter test (first ∷ rest) ++ old) ≡ (if test r && wins r (winner q old) then Some r else winner q old))
-        row_is
+          row_is
         (at_test (test first) (winner-no_row q test rest old none))
       where
         at_test : (t : Bool) → winner q (filter test rest ++ old) ≡ winner q old
@@ -441,7 +441,7 @@ stands_merged image past slots known_ clock_ in_order sorted known_is clock_is s
 
 of_shard_rows : (id : Identity) (test : Change → Bool) (rows old : List Change)
     → AllByRecursion (λ row. shard_of row.key id.shards ≡ id.shard) rows → AllByRecursion (λ row. shard_of row.key id.shards ≡ id.shard)
-    old
+      old
     → AllByRecursion (λ row. shard_of row.key id.shards ≡ id.shard) (filter test rows ++ old)
 of_shard_rows id test [] old rows_here all = all
 of_shard_rows id test (row ∷ rest) old rows_here all = at_test (test row) (of_shard_rows id test rest old rows_here.1 all)

@@ -29,5 +29,5 @@ invariant_of-self-2 c =
     ∙ ap (λ m. with_change m was.clock was.slots) c.as_ref-made.ensures.value in
     rw (pushed, reverse-append, noted, entered)
     (kept_called was.id was.opening (kept was.slots was.vector.ids was.floor was.clock was.joined was.to was.heard was.given) past
-    c.args.client c.args.seq
+      c.args.client c.args.seq
     c.args.ask.now done.reply done.made done.to c.self.invariant here gives)

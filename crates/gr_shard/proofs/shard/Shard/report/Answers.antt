@@ -20,7 +20,7 @@ invariant_of-self-2 c =
     ∙ ap (λ copy. was.history.deeds ++ Reported copy ∷ []) c.in_ok-copy-2.ensures in
     rw (pushed, reverse-append)
     (kept_reported was.id was.opening (kept was.slots was.vector.ids was.floor was.clock was.joined was.to was.heard was.given) past
-    report
+      report
     c.self.invariant record {
       member_is = refl;
       at_is = c.len.ensures ∙ sym (length-reverse was.history.deeds);

@@ -29,5 +29,5 @@ invariant_of-self-2 c =
     ∙ ap (λ m. with_change m was.clock was.slots) c.applied.ensures in
     rw (pushed, reverse-append, noted, entered)
     (kept_taken was.id was.opening (kept was.slots was.vector.ids was.floor was.clock was.joined was.to was.heard was.given) past change
-    told
+      told
     c.self.invariant here is)
