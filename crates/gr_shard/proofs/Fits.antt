@@ -8,7 +8,7 @@ use Rattle.gr_stamp.specs.declared.stamp.TheConstants.{LIMIT}
 use Rattle.gr_history.specs.declared.identity.Identity.{Identity}
 use Rattle.gr_history.specs.declared.image.Image.{Image}
 use Rattle.gr_history.specs.declared.deed.Deed.{Deed}
-use Rattle.gr_history.specs.declared.deed.Deed.TheVariants.{Call, Taken, Gave, Imaged, Reported, Heard, Swept}
+use Rattle.gr_history.specs.declared.deed.Deed.TheVariants.{Call, Asked, Taken, Gave, Imaged, Reported, Heard, Swept}
 use Rattle.gr_history.specs.Gifts.{IsImageOf, own_changes}
 use Rattle.gr_history.specs.Lawful.{AreInOrder}
 use Rattle.gr_history.specs.Made.{made, made_at}
@@ -38,6 +38,7 @@ among_reverse x (first ∷ rest) a =
 
 made_came_at : (deed : Deed) (past : List Deed) (change : Change) → Among change (made_at deed) → Among change (came deed past)
 made_came_at (Call client seq ask reply made to) past change a = a
+made_came_at (Asked client seq ask reply) past change a = absurd a
 made_came_at (Taken taken verdict) past change a = absurd a
 made_came_at (Gave to what) past change a = absurd a
 made_came_at (Imaged image) past change a = absurd a

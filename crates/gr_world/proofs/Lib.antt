@@ -1,6 +1,7 @@
 pub mod Events
 pub mod Whole
 pub mod Causes
+pub mod Handing
 pub mod Joins
 pub mod Causal
 pub mod Clients

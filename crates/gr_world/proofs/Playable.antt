@@ -77,7 +77,7 @@ HasStated heading (Deliver to client seq) = IsMember heading to
 HasStated heading (line.Report member) = IsMember heading member
 HasStated heading (Hear by of number) = IsMember heading by × IsMember heading of
 HasStated heading (Sweep member moment) = IsMember heading member
-HasStated heading (Join joiner provider) = Unit {0}
+HasStated heading (Join joiner provider) = IsMember heading joiner
 
 line_stated : (heading : Heading) (line : Line) (past : List Line) → StandsAfter heading past line → HasStated heading line
 line_stated heading (Step client seq act) past stands = stands.0
@@ -85,7 +85,7 @@ line_stated heading (Deliver to client seq) past stands = stands.0
 line_stated heading (line.Report member) past stands = stands.0
 line_stated heading (Hear by of number) past stands = (stands.0, stands.1)
 line_stated heading (Sweep member moment) past stands = stands.0
-line_stated heading (Join joiner provider) past stands = tt
+line_stated heading (Join joiner provider) past stands = (omega (arith, stands.0), stands.1)
 
 all_stated : (heading : Heading) (past : List Line) → AllStand heading past → AllByRecursion (HasStated heading) past
 all_stated heading [] all = tt
@@ -112,7 +112,7 @@ playable heading (Deliver to client seq) stated built = stated
 playable heading (line.Report member) stated built = stated
 playable heading (Hear by of number) stated built = stated
 playable heading (Sweep member moment) stated built = stated
-playable heading (Join joiner provider) stated built = absurd (cc)
+playable heading (Join joiner provider) stated built = stated
 
 pub can_play : (heading : Heading) (lines : List Line) → IsScript heading lines → is_built lines ≡ true
     → (i : ℕ) (line : Line) → i < length lines → line ≡ get_or lines i line → CanPlay heading line

@@ -202,12 +202,13 @@ call_plays heading old new member shard client seq ask done is stated at_home at
     (subst (λ m. IsWorld heading (does heading m shard doing events) new) at_home here)
 
 -- A deed that makes nothing, and tells no client anything.
-record IsQuiet (deed : Deed) : Type 0 where
-  unmade : (client number : ℕ) → made_by_deed client number deed ≡ None
-  untold : (client : ℕ) → told_by_deed client deed ≡ None
+pub record IsQuiet (deed : Deed) : Type 0 where
+  pub unmade : (client number : ℕ) → made_by_deed client number deed ≡ None
+  pub untold : (client : ℕ) → told_by_deed client deed ≡ None
 
 quiet_task : (id : Identity) (opening : ℕ) (past : List Deed) (task_ : Task) → IsQuiet (deed_of id opening past (doing_of task_))
 quiet_task id opening past (task.Take change) = record { unmade = λ client number. refl; untold = λ client. refl }
+quiet_task id opening past (task.Merge image) = record { unmade = λ client number. refl; untold = λ client. refl }
 quiet_task id opening past task.Report = record { unmade = λ client number. refl; untold = λ client. refl }
 quiet_task id opening past (task.Hear report) = record { unmade = λ client number. refl; untold = λ client. refl }
 quiet_task id opening past (task.Sweep moment) = record { unmade = λ client number. refl; untold = λ client. refl }
@@ -219,17 +220,18 @@ untold_left heading events member shard deed quiet =
     numbers_same 1 (length heading.clients) (λ client. answers client events) (λ client. answers client (Did member shard deed ∷ events))
     (λ client low high. ap (λ o. numbered_answers (add_some o (told client events))) (sym (quiet.untold client)))
 
--- A task adds its deed.
-pub task_plays : (heading : Heading) (old new : World) (member shard : ℕ) (task_ : Task) (deed : Deed)
+-- What is quiet adds its deed.
+pub quiet_plays : (heading : Heading) (old new : World) (member shard : ℕ) (doing : Doing) (deed : Deed)
     → IsMember heading member → shard < heading.shards
-    → IsDone old.grid new.grid member shard (doing_of task_) deed
+    → ((id : Identity) (opening : ℕ) (past : List Deed) → IsQuiet (deed_of id opening past doing))
+    → IsDone old.grid new.grid member shard doing deed
     → new.tellings ≡ old.tellings → new.made ≡ old.made
-    → Plays heading (does heading member shard (doing_of task_)) old new
-task_plays heading old new member shard task_ deed is within did tells made_same events world =
+    → Plays heading (does heading member shard doing) old new
+quiet_plays heading old new member shard doing deed is within is_quiet did tells made_same events world =
     let past = history member shard events in
-    let done = done_left heading events old.grid new.grid member shard (doing_of task_) deed is within world.grid_is did in
-    let added = deed_of (identity_at heading member shard) heading.floor past (doing_of task_) in
-    let quiet = quiet_task (identity_at heading member shard) heading.floor past task_ in
+    let done = done_left heading events old.grid new.grid member shard doing deed is within world.grid_is did in
+    let added = deed_of (identity_at heading member shard) heading.floor past doing in
+    let quiet = is_quiet (identity_at heading member shard) heading.floor past in
     record {
       grid_is = done.1;
       tellings_are = tells ∙ world.tellings_are ∙ untold_left heading events member shard added quiet;
@@ -237,6 +239,16 @@ task_plays heading old new member shard task_ deed is within did tells made_same
           λ client number low. ap (λ table. get nat_cmp table (number_of client number)) made_same ∙ world.made_are client number low
           ∙ ap (λ o. or_else o (made_by client number events)) (sym (quiet.unmade client number));
     }
+
+-- A task adds its deed.
+pub task_plays : (heading : Heading) (old new : World) (member shard : ℕ) (task_ : Task) (deed : Deed)
+    → IsMember heading member → shard < heading.shards
+    → IsDone old.grid new.grid member shard (doing_of task_) deed
+    → new.tellings ≡ old.tellings → new.made ≡ old.made
+    → Plays heading (does heading member shard (doing_of task_)) old new
+task_plays heading old new member shard task_ deed is within did tells made_same =
+    quiet_plays heading old new member shard (doing_of task_) deed is within (λ id opening past. quiet_task id opening past task_) did tells
+    made_same
 
 -- What was made is taken in, in the shard of its key.
 pub deliver_plays : (heading : Heading) (old new : World) (to client seq shard : ℕ) (change : Change) → seq < 2 ^ 32

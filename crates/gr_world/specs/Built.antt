@@ -7,7 +7,7 @@ use Rattle.gr_script.specs.declared.line.Line.{Line}
 use Rattle.gr_script.specs.declared.line.Line.TheVariants.{Step, Deliver, Hear, Sweep, Join}
 use Rattle.gr_script.specs.declared.line.Line.TheVariants as line
 
--- All but queries and joins.
+-- All but queries.
 abbrev pub is_built_line : Line → Bool
 is_built_line (Step client seq (act.Call ask)) = true
 is_built_line (Step client seq (act.Query ask)) = false
@@ -16,7 +16,7 @@ is_built_line (Deliver to client seq) = true
 is_built_line (line.Report member) = true
 is_built_line (Hear by of number) = true
 is_built_line (Sweep member moment) = true
-is_built_line (Join joiner provider) = false
+is_built_line (Join joiner provider) = true
 
 -- the place of the first line that isn't built, counted from 0
 abbrev pub unbuilt : List Line → Option ℕ

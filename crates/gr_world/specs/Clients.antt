@@ -84,7 +84,7 @@ pub record Numbered : Type 0 where
 abbrev pub told_by_deed : ℕ → Deed → Option Numbered
 told_by_deed client (Call own seq ask reply made to) =
     if own == client then Some (record { number = seq; answer = answer.Reply reply }) else None
-told_by_deed client (Asked client seq ask reply) = None
+told_by_deed client (Asked own seq ask reply) = None
 told_by_deed client (Taken change verdict) = None
 told_by_deed client (Gave to what) = None
 told_by_deed client (Imaged image) = None

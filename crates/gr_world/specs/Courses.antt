@@ -4,6 +4,8 @@ use Rattle.gr_value.specs.Shard.{shard_of}
 use Rattle.gr_stamp.specs.declared.change.Change.{Change}
 use Rattle.gr_vector.specs.declared.report.Report.{Report}
 use Rattle.gr_history.specs.declared.identity.Identity.{Identity}
+use Rattle.gr_history.specs.declared.image.Gift.{Gift}
+use Rattle.gr_history.specs.declared.image.Gift.TheVariants as gift
 use Rattle.gr_history.specs.declared.image.What.{What}
 use Rattle.gr_history.specs.declared.image.What.TheVariants as what
 use Rattle.gr_history.specs.Asks.{key_of}
@@ -60,6 +62,11 @@ abbrev pub takes_all : Heading → ℕ → ℕ → List Change → List Event �
 takes_all heading member shard [] before = before
 takes_all heading member shard (change ∷ rest) before =
     takes_all heading member shard rest (does heading member shard (Takes change) before)
+
+-- A joiner takes in what it was given: it merges an image, and takes in changes.
+abbrev pub takes_gift : Heading → ℕ → ℕ → Gift → List Event → List Event
+takes_gift heading joiner shard (gift.Image image) before = does heading joiner shard (Merges image) before
+takes_gift heading joiner shard (gift.Own changes) before = takes_all heading joiner shard changes before
 
 -- A member gives its image or its own changes to the joiner, who takes them in at once.
 abbrev pub gives : Heading → ℕ → ℕ → ℕ → What → List Event → List Event

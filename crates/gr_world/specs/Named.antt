@@ -9,7 +9,7 @@ use Rattle.gr_world.specs.Events.{Event, Did, Peeked}
 -- what a deed made, where it is this step of the client
 abbrev pub made_by_deed : ℕ → ℕ → Deed → Option Change
 made_by_deed client number (Call own seq ask reply made to) = if own == client && seq == number then made else None
-made_by_deed client number (Asked client seq ask reply) = None
+made_by_deed client number (Asked own seq ask reply) = None
 made_by_deed client number (Taken change verdict) = None
 made_by_deed client number (Gave to what) = None
 made_by_deed client number (Imaged image) = None

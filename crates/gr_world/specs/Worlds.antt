@@ -127,4 +127,4 @@ CanPlay heading (Deliver to client seq) = IsMember heading to
 CanPlay heading (line.Report member) = IsMember heading member
 CanPlay heading (Hear by of number) = IsMember heading by × IsMember heading of
 CanPlay heading (Sweep member moment) = IsMember heading member
-CanPlay heading (Join joiner provider) = ⊥
+CanPlay heading (Join joiner provider) = IsMember heading joiner

@@ -15,6 +15,7 @@ fn is_built(line: &Line) -> bool
             | Line::Report { .. }
             | Line::Hear { .. }
             | Line::Sweep { .. }
+            | Line::Join { .. }
     )
 }
 

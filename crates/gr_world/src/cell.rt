@@ -1,12 +1,12 @@
 ghost use Rattle.std.specs.Prelude.{◌≡◌, [], IfOk, OnOk, option_copied, reverse, slice_get};
 ghost use Rattle.gr_shard.specs.View.{IsPlace};
-ghost use Rattle.gr_world.specs.Doings.{Calls, Reports, call_with};
+ghost use Rattle.gr_world.specs.Doings.{Calls, Gives, Reports, call_with};
 ghost use Rattle.gr_world.specs.Named.{numbered, reports};
-ghost use Rattle.gr_world.specs.Tasks.{BelongsTo, doing_of};
+ghost use Rattle.gr_world.specs.Tasks.{BelongsTo, IsGiven, doing_of};
 ghost use Rattle.gr_world.specs.Worlds.{deed_at, longer};
 
 use crate::task::Task;
-use gr_history::{Ask, Done, Identity};
+use gr_history::{Ask, Done, Gift, Identity, What};
 use gr_shard::Shard;
 use gr_value::Memory;
 use gr_vector::Report;
@@ -85,6 +85,15 @@ impl Cell {
         self.shard.call(alloc, client, seq, ask)
     }
 
+    /// Gives a joiner the image or the own changes.
+    pub fn give(&mut self, alloc: Global, to: u8, what: What) -> Result<Gift, Memory>
+        requires { BelongsTo self.old (Gives to what) }
+        ensures given { IfOk result (IsGiven self.old what) }
+        ensures added { OnOk result (self.new ≡ longer self.old (deed_at self.old (Gives to what))) }
+    {
+        self.shard.give(alloc, to, what)
+    }
+
     /// Does one thing, which adds its deed.
     pub fn does(&mut self, alloc: Global, task: Task) -> Result<(), Memory>
         requires { BelongsTo self.old (doing_of task) }
@@ -95,6 +104,7 @@ impl Cell {
                 let _ = self.shard.take_in(alloc, change)?;
                 Ok(())
             }
+            Task::Merge(image) => self.shard.merge(alloc, image),
             Task::Report => self.report(alloc),
             Task::Hear(report) => self.shard.hear(alloc, report),
             Task::Sweep(moment) => {

@@ -1,14 +1,14 @@
 ghost use Rattle.std.specs.Prelude.{◌≡◌, ◌≤◌, IfOk, OnOk, length};
-ghost use Rattle.gr_world.specs.Doings.{Calls, call_with};
+ghost use Rattle.gr_world.specs.Doings.{Calls, Gives, call_with};
 ghost use Rattle.gr_shard.specs.View.{IsPlace};
 ghost use Rattle.gr_world.specs.Numbered.{numbers_from, PairsFrom};
-ghost use Rattle.gr_world.specs.Tasks.{BelongsTo, doing_of};
+ghost use Rattle.gr_world.specs.Tasks.{BelongsTo, IsGiven, doing_of};
 ghost use Rattle.gr_world.specs.Worlds.{IsCell, IsDone, IsMemberOf, account_at, deed_at, new_row};
 
 use crate::cell::Cell;
 use crate::row::Row;
 use crate::task::Task;
-use gr_history::{Ask, Done, Identity, MemberRecordList};
+use gr_history::{Ask, Done, Gift, Identity, MemberRecordList, What};
 use gr_value::Memory;
 use std::alloc::Global;
 use std::marker::Model;
@@ -70,6 +70,25 @@ impl Grid {
     {
         let row = &mut self.rows[usize::from(member) - 1];
         row.call(alloc, shard, client, seq, ask)
+    }
+
+    /// A member gives a joiner the image of a shard or the changes that it made there.
+    pub fn give(
+        &mut self,
+        alloc: Global,
+        member: u8,
+        shard: u8,
+        to: u8,
+        what: What,
+    ) -> Result<Gift, Memory>
+        requires cell { IsCell self.old member shard }
+        requires here { BelongsTo (account_at self.old member shard) (Gives to what) }
+        ensures given { IfOk result (IsGiven (account_at self.old member shard) what) }
+        ensures done { OnOk result
+            (IsDone self.old self.new member shard (Gives to what) (deed_at (account_at self.old member shard) (Gives to what))) }
+    {
+        let row = &mut self.rows[usize::from(member) - 1];
+        row.give(alloc, shard, to, what)
     }
 
     /// Does one thing at a member's shard, which adds its deed.

@@ -4,6 +4,7 @@
 mod built;
 mod cell;
 mod grid;
+mod joining;
 mod laws;
 mod replaying;
 mod row;

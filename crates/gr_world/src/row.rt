@@ -1,14 +1,14 @@
 ghost use Rattle.std.specs.Prelude.{◌≡◌, ◌<◌, IfOk, OnOk, length};
 ghost use Rattle.gr_shard.specs.Records.{IsRecordOf};
 ghost use Rattle.gr_shard.specs.View.{IsPlace};
-ghost use Rattle.gr_world.specs.Doings.{Calls, call_with};
+ghost use Rattle.gr_world.specs.Doings.{Calls, Gives, call_with};
 ghost use Rattle.gr_world.specs.Numbered.{PairsFrom};
-ghost use Rattle.gr_world.specs.Tasks.{BelongsTo, doing_of};
+ghost use Rattle.gr_world.specs.Tasks.{BelongsTo, IsGiven, doing_of};
 ghost use Rattle.gr_world.specs.Worlds.{account_in, deed_at, new_row, row_with};
 
 use crate::cell::Cell;
 use crate::task::Task;
-use gr_history::{Ask, Done, Identity, MemberRecord, ShardRecordList};
+use gr_history::{Ask, Done, Gift, Identity, MemberRecord, ShardRecordList, What};
 use gr_value::Memory;
 use std::alloc::Global;
 use std::marker::Model;
@@ -68,6 +68,17 @@ impl Row {
     {
         let cell = &mut self.cells[usize::from(shard)];
         cell.call(alloc, client, seq, ask)
+    }
+
+    /// Gives a joiner the image of a shard or the changes that were made there.
+    pub fn give(&mut self, alloc: Global, shard: u8, to: u8, what: What) -> Result<Gift, Memory>
+        requires within { shard < length self.old }
+        requires here { BelongsTo (account_in self.old shard) (Gives to what) }
+        ensures given { IfOk result (IsGiven (account_in self.old shard) what) }
+        ensures added { OnOk result (self.new ≡ row_with self.old shard (deed_at (account_in self.old shard) (Gives to what))) }
+    {
+        let cell = &mut self.cells[usize::from(shard)];
+        cell.give(alloc, to, what)
     }
 
     /// Does one thing at a shard, which adds its deed.

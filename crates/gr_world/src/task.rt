@@ -1,3 +1,4 @@
+use gr_history::Image;
 use gr_stamp::Change;
 use gr_vector::Report;
 
@@ -6,6 +7,8 @@ use gr_vector::Report;
 pub enum Task<'a> {
     /// A change comes.
     Take(&'a Change),
+    /// An image of this shard comes.
+    Merge(&'a Image),
     /// A report is made.
     Report,
     /// Another member's report comes.

@@ -248,7 +248,7 @@ impl World {
             Line::Sweep { member, moment } => {
                 Ok(self.at_each_shard(alloc, script, *member, Task::Sweep(*moment))?)
             }
-            Line::Join { .. } => Ok(()),
+            Line::Join { member, from } => Ok(self.join(alloc, script, *member, *from)?),
         }
     }
 

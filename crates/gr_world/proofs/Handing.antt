@@ -1,0 +1,124 @@
+-- A joiner takes in what every other member gives it.
+use Rattle.std.proofs.Common.{zero, suc, ◌≡◌, ◌∙◌, ap, sym, subst, refl, ℕ, ◌+◌, ◌≤◌, ◌<◌, List, [], ◌∷◌, length, reverse, take, get_or, add-one, arith}
+use Rattle.std.specs.List.{AllByRecursion}
+use Rattle.std.proofs.lemmas.List.{reverse-reverse}
+use Rattle.gr_value.specs.Shard.{shard_of}
+use Rattle.gr_stamp.specs.declared.change.Change.{Change}
+use Rattle.gr_history.specs.declared.deed.Deed.{Deed}
+use Rattle.gr_history.specs.declared.identity.Identity.{Identity}
+use Rattle.gr_history.specs.declared.image.Gift.{Gift}
+use Rattle.gr_history.specs.declared.image.Gift.TheVariants as gift
+use Rattle.gr_history.specs.declared.image.Image.{Image}
+use Rattle.gr_history.specs.declared.image.What.{What}
+use Rattle.gr_history.specs.declared.image.What.TheVariants as what
+use Rattle.gr_history.specs.Gifts.{IsGiftOf, IsImageOf, own_changes}
+use Rattle.gr_shard.specs.Merges.{IsGiftFor}
+use Rattle.gr_script.specs.Rules.{Heading, IsMember}
+use Rattle.gr_world.specs.declared.world.World.{World}
+use Rattle.gr_world.specs.Courses.{does, gives, identity_at, takes_all, takes_gift}
+use Rattle.gr_world.specs.Doings.{Takes, Gives, image_of}
+use Rattle.gr_world.specs.Events.{Event, history}
+use Rattle.gr_world.specs.Tasks.{IsGiven}
+use Rattle.gr_world.specs.Worlds.{IsAtWork, IsDone, IsWorld, Plays, account_at, account_left, deed_at}
+use Rattle.gr_world.proofs.Worlds.{cell_left, quiet_plays}
+
+-- one change more is taken in
+takes_more : (heading : Heading) (member shard : ℕ) (changes : List Change) (i : ℕ) (d : Change) (before : List Event) → i < length changes
+    → takes_all heading member shard (take (suc i) changes) before
+    ≡ does heading member shard (Takes (get_or changes i d)) (takes_all heading member shard (take i changes) before)
+takes_more heading member shard [] i d before less = absurd (omega (arith, less))
+takes_more heading member shard (change ∷ rest) zero d before less = refl
+takes_more heading member shard (change ∷ rest) (suc i) d before less =
+    takes_more heading member shard rest i d (does heading member shard (Takes change) before) (omega (arith, less))
+
+pub takes_more_plays : (heading : Heading) (first now next : World) (member shard : ℕ) (changes : List Change) (i : ℕ) (change : Change)
+    → i < length changes → change ≡ get_or changes i change
+    → Plays heading (takes_all heading member shard (take i changes)) first now
+    → Plays heading (does heading member shard (Takes change)) now next
+    → Plays heading (takes_all heading member shard (take (i + 1) changes)) first next
+takes_more_plays heading first now next member shard changes i change less is so_far more events world =
+    let before = takes_all heading member shard (take i changes) events in
+    let here = subst (λ one. IsWorld heading (does heading member shard (Takes one) before) next) is (more before (so_far events world)) in
+    rw add-one (subst (λ all. IsWorld heading all next) (sym (takes_more heading member shard changes i change events less)) here)
+
+-- each of the changes is of the shard
+pub shard_here : (shards shard : ℕ) (changes : List Change) (i : ℕ) (d : Change)
+    → AllByRecursion (λ change. shard_of change.key shards ≡ shard) changes → i < length changes
+    → shard_of (get_or changes i d).key shards ≡ shard
+shard_here shards shard [] i d all less = absurd (omega (arith, less))
+shard_here shards shard (change ∷ rest) zero d all less = all.0
+shard_here shards shard (change ∷ rest) (suc i) d all less = shard_here shards shard rest i d all.1 (omega (arith, less))
+
+-- ---- what is given
+
+-- the one gift that a history has
+gift_of : ℕ → ℕ → List Deed → What → Gift
+gift_of member opening past what.Image = gift.Image (image_of member opening past)
+gift_of member opening past what.Own = gift.Own (own_changes past)
+
+image_is : (member opening : ℕ) (past : List Deed) (image : Image) → IsImageOf member opening past image → image.vector.spare ≡ 0
+    → image ≡ image_of member opening past
+image_is member opening past image is spare =
+    let giver = is.giver_is in
+    let at = is.at_is in
+    let rows = is.rows_are in
+    let vector = is.vector_is in
+    let floor = is.floor_is in
+    cc
+
+gift_is : (id : Identity) (member opening : ℕ) (past : List Deed) (what_ : What) (given : Gift)
+    → IsGiftOf member opening past what_ given → IsGiftFor id given → given ≡ gift_of member opening past what_
+unfolding gift_of
+gift_is id member opening past what.Image (gift.Image image) is fits = ap gift.Image (image_is member opening past image is fits.1)
+gift_is id member opening past what.Image (gift.Own changes) is fits = absurd is
+gift_is id member opening past what.Own (gift.Image image) is fits = absurd is
+gift_is id member opening past what.Own (gift.Own changes) is fits = ap gift.Own is
+
+-- what fits one member's shard fits the other members' shards of that number
+pub fits_too : (heading : Heading) (giver joiner shard : ℕ) (given : Gift) → IsGiftFor (identity_at heading giver shard) given
+    → IsGiftFor (identity_at heading joiner shard) given
+fits_too heading giver joiner shard (gift.Image image) fits =
+    (record { in_order = fits.0.in_order; of_shard = fits.0.of_shard; low = fits.0.low }, fits.1)
+fits_too heading giver joiner shard (gift.Own changes) fits = fits
+
+-- whose shard a cell is
+pub work_id : (heading : Heading) (world : World) (member shard : ℕ) → IsAtWork heading world → IsMember heading member
+    → shard < heading.shards → (account_at world.grid member shard).id ≡ identity_at heading member shard
+work_id heading world member shard (events, left) is within =
+    ap (λ grid. (account_at grid member shard).id) left.grid_is ∙ ap (λ account. account.id) (cell_left heading events member shard is within)
+
+-- ---- a gift is given and taken in
+
+pub give_plays : (heading : Heading) (old new : World) (giver shard joiner : ℕ) (what_ : What) (deed : Deed)
+    → IsMember heading giver → shard < heading.shards
+    → IsDone old.grid new.grid giver shard (Gives joiner what_) deed
+    → new.tellings ≡ old.tellings → new.made ≡ old.made
+    → Plays heading (does heading giver shard (Gives joiner what_)) old new
+give_plays heading old new giver shard joiner what_ deed is within done tells made_same =
+    quiet_plays heading old new giver shard (Gives joiner what_) deed is within
+    (λ id opening past. record { unmade = λ client number. refl; untold = λ client. refl }) done tells made_same
+
+gives_are : (heading : Heading) (joiner shard giver : ℕ) (what_ : What) (before : List Event)
+    → takes_gift heading joiner shard (gift_of giver heading.floor (history giver shard before) what_)
+    (does heading giver shard (Gives joiner what_) before)
+    ≡ gives heading joiner shard giver what_ before
+unfolding gift_of
+gives_are heading joiner shard giver what.Image before = refl
+gives_are heading joiner shard giver what.Own before = refl
+
+pub handed_over : (heading : Heading) (old mid new : World) (joiner shard giver : ℕ) (what_ : What) (given : Gift)
+    → IsMember heading giver → shard < heading.shards
+    → IsGiven (account_at old.grid giver shard) what_ given
+    → Plays heading (does heading giver shard (Gives joiner what_)) old mid
+    → Plays heading (takes_gift heading joiner shard given) mid new
+    → Plays heading (gives heading joiner shard giver what_) old new
+handed_over heading old mid new joiner shard giver what_ given is within gave give_done take_done events world =
+    let past = history giver shard events in
+    let cell = ap (λ grid. account_at grid giver shard) world.grid_is ∙ cell_left heading events giver shard is within in
+    let here = subst (λ account. IsGiven account what_ given) cell gave in
+    let of = subst (λ deeds. IsGiftOf giver heading.floor deeds what_ given) (reverse-reverse past) here.0 in
+    let one = gift_is (identity_at heading giver shard) giver heading.floor past what_ given of here.1 in
+    let after = take_done (does heading giver shard (Gives joiner what_) events) (give_done events world) in
+    let same = ap (λ g. takes_gift heading joiner shard g (does heading giver shard (Gives joiner what_) events)) one
+    ∙ gives_are heading joiner shard giver what_ events in
+    subst (λ all. IsWorld heading all new) same after
