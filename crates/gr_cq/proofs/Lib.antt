@@ -1,3 +1,4 @@
 pub mod Rooms
 pub mod Telling
 pub mod Finding
+pub mod Pairs

@@ -1,5 +1,6 @@
 -- Steps along lists of open queries, and their room.
-use Rattle.std.proofs.Common.{◌≡◌, ℕ, zero, suc, ◌+◌, ◌≤◌, ◌<◌, List, [], ◌∷◌, ◌++◌, length, map, take, drop, set, get_or, Vec, Global, refl, sym, ap, subst, arith}
+use Rattle.std.proofs.Common.{◌≡◌, ℕ, zero, suc, ◌+◌, ◌≤◌, ◌<◌, List, [], ◌∷◌, ◌++◌, length, take, set, get_or, Vec}
+use Rattle.std.proofs.Common.{Global, sym, subst, arith}
 use Rattle.std.specs.List.{AllByRecursion}
 use Rattle.std.proofs.Math.Seq.{map-set_same}
 use Rattle.std.proofs.lemmas.List.{take_more_set}
@@ -43,7 +44,8 @@ none_roomy all = record { one_more = λ le. absurd (never le); each = no_room al
 
 -- there is room for what was foreseen
 pub fits_made : (spare : ℕ) (all : Vec Open Global) (it : Plan) (given : List Event) → IsRoomy spare all
-    → IsMadeFor (record { entries = entries_of all.items; spare = spare }) (record { change = change_of it; given = given }) → FitsIn all it
+    → IsMadeFor (record { entries = entries_of all.items; spare = spare }) (record { change = change_of it; given = given }) → FitsIn all
+    it
 fits_made spare all (plan.Enrol one) given roomy made = roomy.one_more made.room
 fits_made spare all (plan.Take client name) given roomy made = tt
 fits_made spare all (plan.Note lists) given roomy made =

@@ -1,4 +1,4 @@
--- What a call that is coming refuses, hands out and leaves.
+-- What a call that is coming refuses and hands out, and the queries after it.
 use Rattle.std.specs.Prelude.{List, [], Option, None}
 use Rattle.gr_oql.specs.declared.event.Event.{Event}
 use Rattle.gr_cq.specs.declared.coming.Coming.{Coming}
@@ -17,7 +17,7 @@ given (Enrol client name query) entries = []
 given (Take client name) entries = waiting_of (find client name.now entries)
 given (Note turned) entries = []
 
-abbrev pub left : Coming → List Entry → List Entry
-left (Enrol client name query) entries = enrolled client name.now query.now entries
-left (Take client name) entries = changed_at client name.now kept_taken entries
-left (Note turned) entries = noted turned.now entries
+abbrev pub entries_after : Coming → List Entry → List Entry
+entries_after (Enrol client name query) entries = enrolled client name.now query.now entries
+entries_after (Take client name) entries = changed_at client name.now kept_taken entries
+entries_after (Note turned) entries = noted turned.now entries

@@ -26,6 +26,9 @@ pub record Queries : Type 0 where
 abbrev pub is_at : ℕ → List ℕ → Entry → Bool
 is_at client name entry = entry.client == client && bytes_eq entry.name name
 
+abbrev pub is_same_query : ℕ → List ℕ → ℕ → List ℕ → Bool
+is_same_query one name two other = one == two && bytes_eq name other
+
 -- the query of that client and name, if it is running or stopped
 abbrev pub find : ℕ → List ℕ → List Entry → Option Kept
 find client name [] = None
@@ -57,9 +60,11 @@ abbrev pub kept_noted : List Turned → Kept → Kept
 kept_noted turned kept = kept_with (coming_to turned kept) kept
 
 -- a query that runs, with no events yet
+abbrev pub kept_opened : Question → Kept
+kept_opened question = record { question = question; runs = true; waiting = [] }
+
 abbrev pub entry_opened : ℕ → List ℕ → Question → Entry
-entry_opened client name question =
-    record { client = client; name = name; kept = record { question = question; runs = true; waiting = [] } }
+entry_opened client name question = record { client = client; name = name; kept = kept_opened question }
 
 abbrev pub enrolled : ℕ → List ℕ → Question → List Entry → List Entry
 enrolled client name question entries = entries ++ entry_opened client name question ∷ []

@@ -4,3 +4,4 @@ pub mod Ends
 pub mod Coming
 pub mod Foresight
 pub mod View
+pub mod Laws

@@ -3,14 +3,18 @@
 
 mod coming;
 mod foreseen;
+mod laws;
 mod open;
 mod opens;
 mod query_end;
 mod registry;
+#[cfg(test)]
+mod tests;
 mod waiting;
 
 pub use coming::Coming;
 pub use foreseen::Foreseen;
 pub use gr_oql::Turned;
+pub use laws::queries_stay_apart;
 pub use query_end::QueryEnd;
 pub use registry::Registry;

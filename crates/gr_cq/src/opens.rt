@@ -48,7 +48,11 @@ pub fn reserve_each(all: &mut [Open], room: usize) -> Result<(), Memory>
 }
 
 /// What each query is told of these keys, in their order.
-pub fn coming_to_each(alloc: Global, all: &[Open], turned: &[Turned]) -> Result<Vec<Vec<Event>>, Memory>
+pub fn coming_to_each(
+    alloc: Global,
+    all: &[Open],
+    turned: &[Turned],
+) -> Result<Vec<Vec<Event>>, Memory>
     ensures { IfOk result (λ lists. events_in lists.items ≡ coming_to_each turned.now (entries_of all.now)) }
 {
     let mut lists = Vec::new(alloc);

@@ -2,7 +2,7 @@ ghost use Rattle.std.specs.Prelude.{◌≡◌, ◌≤◌, [], IfOk, OnOk, OnErr}
 ghost use Rattle.gr_cq.specs.Entries.{find, changed_at, kept_stopped, kept_taken, enrolled, closed, noted, entry_opened};
 ghost use Rattle.gr_cq.specs.Ends.{enrol_end, stop_end, known_end, ended, EndsBy, waiting_of};
 ghost use Rattle.gr_cq.specs.Foresight.{changed, IsMadeFor, IsWithin, Enrolling, Taking, Telling, coming_to_each};
-ghost use Rattle.gr_cq.specs.Coming.{coming_end, given, left};
+ghost use Rattle.gr_cq.specs.Coming.{coming_end, given, entries_after};
 
 use crate::foreseen::Foreseen;
 use crate::open::Open;
@@ -58,7 +58,7 @@ impl Registry {
     ) -> Result<(), QueryEnd>
         ensures refused { EndsBy (enrol_end (find client name.now self.old.entries)) result }
         ensures ok { OnOk result (self.new ≡ record { entries = enrolled client name.now query.now self.old.entries; spare = 0 }) }
-        ensures err { OnErr result (self.new.entries ≡ self.old.entries) }
+        ensures err { OnErr result (self.new ≡ self.old) }
     {
         let foreseen = self.foresee_enrol(alloc, client, name, query)?;
         let _ = self.apply(foreseen);
@@ -101,7 +101,7 @@ impl Registry {
         ensures refused { EndsBy (known_end (find client name.now self.old.entries)) result }
         ensures events { IfOk result (λ events. events ≡ waiting_of (find client name.now self.old.entries)) }
         ensures ok { OnOk result (self.new ≡ record { entries = changed_at client name.now kept_taken self.old.entries; spare = 0 }) }
-        ensures err { OnErr result (self.new.entries ≡ self.old.entries) }
+        ensures err { OnErr result (self.new ≡ self.old) }
     {
         let foreseen = self.foresee_take(alloc, client, name)?;
         Ok(self.apply(foreseen))
@@ -122,7 +122,7 @@ impl Registry {
         ensures refused { EndsBy (coming_end coming.now self.old.entries) result }
         ensures entries { self.new.entries ≡ self.old.entries }
         ensures made { IfOk result (IsMadeFor self.new) }
-        ensures leaves { IfOk result (λ foreseen. changed foreseen.change self.old.entries ≡ left coming.now self.old.entries) }
+        ensures leaves { IfOk result (λ foreseen. changed foreseen.change self.old.entries ≡ entries_after coming.now self.old.entries) }
         ensures gives { IfOk result (λ foreseen. foreseen.given ≡ given coming.now self.old.entries) }
         ensures err { OnErr result (self.new ≡ self.old) }
     {

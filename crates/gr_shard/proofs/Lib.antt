@@ -10,3 +10,4 @@ pub mod Puts
 pub mod Reports
 pub mod Slots
 pub mod Sweeps
+pub mod Following

@@ -3,6 +3,7 @@
 
 mod entering;
 mod giving;
+mod in_step;
 mod making;
 mod merging;
 mod regions;
@@ -13,4 +14,5 @@ mod tests;
 mod told;
 
 pub use gr_history::{Done, Identity};
+pub use in_step::queries_stay_in_step;
 pub use shard::Shard;

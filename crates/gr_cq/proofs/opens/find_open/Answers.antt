@@ -11,4 +11,5 @@ returns-in_err-place c =
 pub returns : goal.returns
 returns c =
     ap (λ one. Some (kept_of one)) c.index-all-place.is
-    ∙ sym (found_at c.args.client c.args.name.now c.args.all.now c.in_ok-place.place c.index-all-place.result (sym c.in_ok-place.ensures.place))
+    ∙ sym (found_at c.args.client c.args.name.now c.args.all.now c.in_ok-place.place c.index-all-place.result (sym
+    c.in_ok-place.ensures.place))

@@ -1,5 +1,5 @@
-use Rattle.std.proofs.Common.{◌≡◌, ◌∙◌, ◌<◌, length, sym, arith}
-use Rattle.gr_cq.proofs.Telling.{fit_within, fit_here, fit_more, told_more, told_last}
+use Rattle.std.proofs.Common.{◌∙◌, ◌<◌, length, sym, arith}
+use Rattle.gr_cq.proofs.Telling.{fit_within, told_last}
 use Rattle.gr_cq.proofs.opens.hear_each.Goals as goal
 
 pub offset_bounds-all-place : goal.offset_bounds-all-place

@@ -1,4 +1,4 @@
-use Rattle.std.proofs.Common.{◌∙◌, sym}
+use Rattle.std.proofs.Common.{◌∙◌}
 use Rattle.gr_cq.proofs.Finding.{is_found}
 use Rattle.gr_cq.proofs.opens.is_open.Goals as goal
 

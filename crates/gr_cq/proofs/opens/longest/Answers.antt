@@ -1,4 +1,4 @@
-use Rattle.std.proofs.Common.{◌≤◌, length, Vec, Global, sym, subst, arith}
+use Rattle.std.proofs.Common.{◌≤◌, length, Vec, Global, subst, arith}
 use Rattle.gr_oql.specs.declared.event.Event.{Event}
 use Rattle.gr_cq.proofs.Telling.{longest_more}
 use Rattle.gr_cq.proofs.opens.longest.Goals as goal
@@ -7,11 +7,11 @@ use Rattle.gr_cq.proofs.opens.longest.Goals.{then-len-most, else-len-most}
 pub loop-events-preserved : goal.loop-events-preserved
 loop-events-preserved c =
     let more : c.loop-events.most ≤ c.if-len-most.most = elim c.if-len-most.branch [
-      then-len-most w ↦ omega (arith, w.if-len-most, w.len-most, w.most-is, c.len.ensures)
+      | then-len-most w ↦ omega (arith, w.if-len-most, w.len-most, w.most-is, c.len.ensures)
       | else-len-most w ↦ omega (arith, w.if-len-most, w.most-is)
     ] in
     let this : length c.events-item.result.items ≤ c.if-len-most.most = elim c.if-len-most.branch [
-      then-len-most w ↦ omega (arith, w.if-len-most, w.len-most, w.most-is, c.len.ensures)
+      | then-len-most w ↦ omega (arith, w.if-len-most, w.len-most, w.most-is, c.len.ensures)
       | else-len-most w ↦ omega (arith, w.if-len-most, w.most-is, c.len.ensures, c.events-item.result.ok)
     ] in
     record {

@@ -1,6 +1,5 @@
-use Rattle.std.proofs.Common.{rules, ap, sym, ◌∙◌}
+use Rattle.std.proofs.Common.{rules, ap, ◌∙◌}
 use Rattle.std.proofs.lemmas.Fn.{filter_same}
-use Rattle.gr_cq.specs.Entries.{closed}
 use Rattle.gr_cq.specs.View.{entries_of}
 use Rattle.gr_cq.proofs.Finding.{closed_of}
 use Rattle.gr_cq.proofs.Rooms.{none_roomy}
@@ -12,5 +11,6 @@ invariant_of-self c = none_roomy c.retain.new.self
 pub returns-clause-ok : goal.returns-clause-ok
 returns-clause-ok c =
     rw (← c.self.view_is)
-    (ap (λ all. record { entries = entries_of all; spare = 0 }) (filter_same _ _ _ (λ x b f' k. search rules) _ _ c.retain.ensures.filtered)
+    (ap (λ all. record { entries = entries_of all; spare = 0 }) (filter_same _ _ _ (λ x b f' k. search rules) _ _
+    c.retain.ensures.filtered)
     ∙ ap (λ entries. record { entries = entries; spare = 0 }) (closed_of c.args.client c.args.name.now c.self.inside.all.items))

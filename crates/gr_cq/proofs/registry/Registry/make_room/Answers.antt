@@ -10,5 +10,6 @@ invariant_of-self-in_err-reserve_each c =
     record {
       one_more = λ le. omega (arith, c.self.invariant.one_more le, c.reserve.ensures.len, c.reserve.ensures.capacity);
       each = subst (HaveRoom c.self.inside.spare) (sym (with_items_is c.reserve.new.self c.reserve_each.new.all all))
-          (c.reserve_each.ensures.kept c.self.inside.spare (rw (c.deref_mut.ensures.value, c.reserve.ensures.items) c.self.invariant.each));
+          (c.reserve_each.ensures.kept c.self.inside.spare (rw (c.deref_mut.ensures.value, c.reserve.ensures.items)
+          c.self.invariant.each));
     }

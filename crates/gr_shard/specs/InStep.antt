@@ -1,0 +1,73 @@
+-- The open queries of a shard, and what keeps them in step with its history.
+use Rattle.std.specs.Prelude.{◌≡◌, ℕ, List, [], Bool, true, false, Option, Some, None, if◌then◌else◌}
+use Rattle.gr_oql.specs.declared.event.Event.{Event}
+use Rattle.gr_cq.specs.Entries.{Kept, Entry, find, enrolled, changed_at, kept_stopped, kept_taken, closed}
+use Rattle.gr_history.specs.declared.query_ask.QueryAsk.{QueryAsk}
+use Rattle.gr_history.specs.declared.query_ask.QueryAsk.TheVariants.{Enrol, Stop, Close, Fetch}
+use Rattle.gr_history.specs.declared.query_reply.QueryReply.{QueryReply}
+use Rattle.gr_history.specs.declared.query_reply.QueryReply.TheVariants as reply
+use Rattle.gr_history.specs.declared.query_reply.Row.{Row}
+use Rattle.gr_history.specs.declared.deed.Deed.{Deed}
+use Rattle.gr_history.specs.Queries.{State, Neither, Running, Halted, state, asked_of, waiting, rows_of}
+
+-- what is kept of a query in this state, with these waiting events
+abbrev pub kept_in : State → List Event → Option Kept
+kept_in Neither waits = None
+kept_in (Running opening) waits = Some (record { question = opening.question; runs = true; waiting = waits })
+kept_in (Halted opening stop) waits = Some (record { question = opening.question; runs = false; waiting = waits })
+
+-- Of each client and name the state and the waiting events are kept that the history gives.
+abbrev pub IsInStep : List Entry → List Deed → Type 0
+IsInStep entries past = (client : ℕ) (name : List ℕ) → find client name entries ≡ kept_in (state client name past) (waiting client name
+    past)
+
+-- a deed that asks nothing of any query
+abbrev pub IsUnasked : Deed → Type 0
+IsUnasked deed = (client : ℕ) (name : List ℕ) → asked_of client name deed ≡ None
+
+abbrev pub enrol_reply : List Row → Option Kept → QueryReply
+enrol_reply rows None = reply.Opened rows
+enrol_reply rows (Some kept) = reply.Taken
+
+abbrev pub stop_reply : Option Kept → QueryReply
+stop_reply None = reply.Unknown
+stop_reply (Some kept) = if kept.runs then reply.Stopped else reply.NotRunning
+
+abbrev pub close_reply : Option Kept → QueryReply
+close_reply None = reply.Unknown
+close_reply (Some kept) = reply.Closed
+
+abbrev pub fetch_reply : Option Kept → QueryReply
+fetch_reply None = reply.Unknown
+fetch_reply (Some kept) = reply.Fetched kept.waiting
+
+-- the rows of a query that is opened
+abbrev pub rows_of_ask : QueryAsk → List Deed → List Row
+rows_of_ask (Enrol name question) past = rows_of question past
+rows_of_ask (Stop name) past = []
+rows_of_ask (Close name) past = []
+rows_of_ask (Fetch name) past = []
+
+-- what is answered by the query that is found; the rows are those of a query that is opened
+abbrev pub reply_by : QueryAsk → List Row → Option Kept → QueryReply
+reply_by (Enrol name question) rows found = enrol_reply rows found
+reply_by (Stop name) rows found = stop_reply found
+reply_by (Close name) rows found = close_reply found
+reply_by (Fetch name) rows found = fetch_reply found
+
+-- one list where a query is found, and another where none is
+abbrev pub where_found : Option Kept → List Entry → List Entry → List Entry
+where_found None entries others = others
+where_found (Some kept) entries others = entries
+
+abbrev pub is_running : Option Kept → Bool
+is_running None = false
+is_running (Some kept) = kept.runs
+
+-- the open queries once a client asked
+abbrev pub served : ℕ → QueryAsk → List Entry → List Entry
+served client (Enrol name question) entries = where_found (find client name entries) entries (enrolled client name question entries)
+served client (Stop name) entries =
+    if is_running (find client name entries) then changed_at client name kept_stopped entries else entries
+served client (Close name) entries = where_found (find client name entries) (closed client name entries) entries
+served client (Fetch name) entries = where_found (find client name entries) (changed_at client name kept_taken entries) entries
