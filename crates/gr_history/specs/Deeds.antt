@@ -3,15 +3,16 @@ use Rattle.std.specs.Prelude.{ℕ, List, Bool, true, false, ◌==◌}
 use Rattle.gr_history.specs.declared.verdict.Verdict.{Verdict}
 use Rattle.gr_history.specs.declared.verdict.Verdict.TheVariants as verdict
 use Rattle.gr_history.specs.declared.deed.Deed.{Deed}
-use Rattle.gr_history.specs.declared.deed.Deed.TheVariants.{Call, Taken, Gave, Imaged, Reported, Heard, Swept}
+use Rattle.gr_history.specs.declared.deed.Deed.TheVariants.{Call, Asked, Taken, Gave, Imaged, Reported, Heard, Swept}
 
 pub record Deeds : Type 0 where
   pub deeds : List Deed
   pub spare : ℕ
 
--- whether it is a call of the client
+-- whether it is a step of the client
 abbrev pub is_of_client : ℕ → Deed → Bool
 is_of_client client (Call own seq ask reply made to) = own == client
+is_of_client client (Asked own seq ask reply) = own == client
 is_of_client client (Taken change told) = false
 is_of_client client (Gave to what) = false
 is_of_client client (Imaged image) = false
@@ -34,6 +35,7 @@ repeats verdict.Repeat = true
 -- whether a change that was taken in was discarded
 unfoldable pub is_discarded : Deed → Bool
 is_discarded (Call client seq ask reply made to) = false
+is_discarded (Asked client seq ask reply) = false
 is_discarded (Taken change told) = discards told
 is_discarded (Gave to what) = false
 is_discarded (Imaged image) = false
@@ -44,6 +46,7 @@ is_discarded (Swept moment expired) = false
 -- whether a change that was taken in was there before
 unfoldable pub is_repeat : Deed → Bool
 is_repeat (Call client seq ask reply made to) = false
+is_repeat (Asked client seq ask reply) = false
 is_repeat (Taken change told) = repeats told
 is_repeat (Gave to what) = false
 is_repeat (Imaged image) = false

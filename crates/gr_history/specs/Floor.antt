@@ -4,7 +4,7 @@ use Rattle.std.specs.List.{filter_map}
 use Rattle.gr_stamp.specs.declared.change.Change.{Change}
 use Rattle.gr_stamp.specs.Winner.{is_removal}
 use Rattle.gr_history.specs.declared.deed.Deed.{Deed}
-use Rattle.gr_history.specs.declared.deed.Deed.TheVariants.{Call, Taken, Gave, Imaged, Reported, Heard, Swept}
+use Rattle.gr_history.specs.declared.deed.Deed.TheVariants.{Call, Asked, Taken, Gave, Imaged, Reported, Heard, Swept}
 use Rattle.gr_history.specs.Standing.{standing}
 
 -- the tombstone, where a removal stands
@@ -15,6 +15,7 @@ removal_of (Some change) = if is_removal change.kind then Some change else None
 -- The tombstones that expire at a deed: those of the keys that a sweep names.
 abbrev pub expired_at : Deed → List Deed → List Change
 expired_at (Call client seq ask reply made to) past = []
+expired_at (Asked client seq ask reply) past = []
 expired_at (Taken change verdict) past = []
 expired_at (Gave to what) past = []
 expired_at (Imaged image) past = []
@@ -36,6 +37,7 @@ greatest_ver (change ∷ rest) = max change.stamp.ver (greatest_ver rest)
 abbrev pub floor : ℕ → List Deed → ℕ
 floor opening [] = opening
 floor opening (Call client seq ask reply made to ∷ past) = floor opening past
+floor opening (Asked client seq ask reply ∷ past) = floor opening past
 floor opening (Taken change verdict ∷ past) = floor opening past
 floor opening (Gave to what ∷ past) = floor opening past
 floor opening (Imaged image ∷ past) = max image.floor (floor opening past)

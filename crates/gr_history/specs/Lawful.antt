@@ -5,12 +5,13 @@ use Rattle.gr_value.specs.Shard.{shard_of}
 use Rattle.gr_stamp.specs.declared.change.Change.{Change}
 use Rattle.gr_history.specs.declared.identity.Identity.{Identity}
 use Rattle.gr_history.specs.declared.deed.Deed.{Deed}
-use Rattle.gr_history.specs.declared.deed.Deed.TheVariants.{Call, Taken, Gave, Imaged, Reported, Heard, Swept}
+use Rattle.gr_history.specs.declared.deed.Deed.TheVariants.{Call, Asked, Taken, Gave, Imaged, Reported, Heard, Swept}
 use Rattle.gr_history.specs.Standing.{changes}
 use Rattle.gr_history.specs.Stable.{due}
 use Rattle.gr_history.specs.Calls.{call_gives}
 use Rattle.gr_history.specs.Verdicts.{verdict}
 use Rattle.gr_history.specs.Gifts.{IsReportOf}
+use Rattle.gr_history.specs.Queries.{query_gives}
 use Rattle.gr_history.specs.Regions.{keys_of}
 
 -- the rows are in the order of their keys, and no two have one key
@@ -21,6 +22,7 @@ AreInOrder rows = map (λ row. row.key) rows ≡ keys_of rows
 abbrev pub IsLawfulDeed : Identity → ℕ → Deed → List Deed → Type 0
 IsLawfulDeed id opening (Call client seq ask reply made to) past =
     record { reply = reply; made = made; to = to } ≡ call_gives id opening past ask
+IsLawfulDeed id opening (Asked client seq ask reply) past = reply ≡ query_gives client ask past
 IsLawfulDeed id opening (Taken change told) past = told ≡ verdict past change
 IsLawfulDeed id opening (Gave to what) past = Unit {0}
 IsLawfulDeed id opening (Imaged image) past = AreInOrder image.rows

@@ -7,9 +7,13 @@ pub mod Gifts
 pub mod Ids
 pub mod Lawful
 pub mod Made
+pub mod Places
+pub mod Queries
+pub mod QueryRows
 pub mod Recipients
 pub mod Regions
 pub mod Rows
 pub mod Stable
 pub mod Standing
+pub mod Turned
 pub mod Verdicts

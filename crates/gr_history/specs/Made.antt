@@ -3,10 +3,11 @@ use Rattle.std.specs.Prelude.{List, [], ◌∷◌, ◌++◌}
 use Rattle.std.specs.Option.{option_to_list}
 use Rattle.gr_stamp.specs.declared.change.Change.{Change}
 use Rattle.gr_history.specs.declared.deed.Deed.{Deed}
-use Rattle.gr_history.specs.declared.deed.Deed.TheVariants.{Call, Taken, Gave, Imaged, Reported, Heard, Swept}
+use Rattle.gr_history.specs.declared.deed.Deed.TheVariants.{Call, Asked, Taken, Gave, Imaged, Reported, Heard, Swept}
 
 abbrev pub made_at : Deed → List Change
 made_at (Call client seq ask reply made to) = option_to_list made
+made_at (Asked client seq ask reply) = []
 made_at (Taken change verdict) = []
 made_at (Gave to what) = []
 made_at (Imaged image) = []

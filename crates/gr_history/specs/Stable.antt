@@ -6,7 +6,7 @@ use Rattle.gr_vector.specs.declared.report.Report.{Report}
 use Rattle.gr_vector.specs.Ids.{Id, has_id, covers}
 use Rattle.gr_history.specs.declared.identity.Identity.{Identity}
 use Rattle.gr_history.specs.declared.deed.Deed.{Deed}
-use Rattle.gr_history.specs.declared.deed.Deed.TheVariants.{Call, Taken, Gave, Imaged, Reported, Heard, Swept}
+use Rattle.gr_history.specs.declared.deed.Deed.TheVariants.{Call, Asked, Taken, Gave, Imaged, Reported, Heard, Swept}
 use Rattle.gr_history.specs.Ids.{id_of, ids}
 use Rattle.gr_history.specs.Standing.{changes, standing}
 use Rattle.gr_stamp.specs.Winner.{is_removal}
@@ -22,6 +22,7 @@ is_later report (Some before) = nat_lt before.at report.at
 abbrev pub last_heard : ℕ → List Deed → Option Report
 last_heard member [] = None
 last_heard member (Call client seq ask reply made to ∷ past) = last_heard member past
+last_heard member (Asked client seq ask reply ∷ past) = last_heard member past
 last_heard member (Taken change verdict ∷ past) = last_heard member past
 last_heard member (Gave to what ∷ past) = last_heard member past
 last_heard member (Imaged image ∷ past) = last_heard member past

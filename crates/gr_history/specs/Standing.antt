@@ -7,12 +7,13 @@ use Rattle.gr_stamp.specs.Winner.{winner, holds}
 use Rattle.gr_vector.specs.Ids.{Id, has_id}
 use Rattle.gr_history.specs.declared.verdict.Verdict.TheVariants.{Applied, Discarded, Repeat}
 use Rattle.gr_history.specs.declared.deed.Deed.{Deed}
-use Rattle.gr_history.specs.declared.deed.Deed.TheVariants.{Call, Taken, Gave, Imaged, Reported, Heard, Swept}
+use Rattle.gr_history.specs.declared.deed.Deed.TheVariants.{Call, Asked, Taken, Gave, Imaged, Reported, Heard, Swept}
 use Rattle.gr_history.specs.Ids.{id_of, ids}
 
 -- The changes that come in at a deed: what a call made, a change that is new, an image's rows that are new.
 abbrev pub came : Deed → List Deed → List Change
 came (Call client seq ask reply made to) past = option_to_list made
+came (Asked client seq ask reply) past = []
 came (Taken change Applied) past = change ∷ []
 came (Taken change Discarded) past = change ∷ []
 came (Taken change Repeat) past = []
@@ -46,6 +47,7 @@ is_known ids (Some change) = has_id (id_of change) ids
 -- stands and has no row of the key.
 abbrev pub drops : List ℕ → Deed → Option Change → Bool
 drops key (Call client seq ask reply made to) stands = false
+drops key (Asked client seq ask reply) stands = false
 drops key (Taken change verdict) stands = false
 drops key (Gave to what) stands = false
 drops key (Imaged image) stands = not (has_key key image.rows) && is_known image.vector.ids stands

@@ -1,7 +1,7 @@
 ghost use Rattle.std.specs.Prelude.{◌≡◌, IfOk};
 ghost use Rattle.gr_history.specs.Deeds.{is_of_client, is_discarded, is_repeat};
 
-use crate::{Ask, Image, Reply, Verdict, What};
+use crate::{Ask, Image, QueryAsk, QueryReply, Reply, Verdict, What};
 use gr_stamp::Change;
 use gr_value::{Copied, KeyList, Memory};
 use gr_vector::Report;
@@ -19,6 +19,13 @@ pub enum Deed {
         reply: Reply,
         made: Option<Change>,
         to: u8,
+    },
+    /// A client's step on one of its queries.
+    Asked {
+        client: u8,
+        seq: u32,
+        ask: QueryAsk,
+        reply: QueryReply,
     },
     /// A change came, and what became of it.
     Taken {
@@ -50,12 +57,13 @@ pub enum Deed {
 }
 
 impl Deed {
-    /// Whether it is a call of this client.
+    /// Whether it is a step of this client.
     pub fn is_of(&self, client: u8) -> bool
         ensures { result ≡ is_of_client client self.now }
     {
         match self {
             Deed::Call { client: own, .. } => *own == client,
+            Deed::Asked { client: own, .. } => *own == client,
             _ => false,
         }
     }
@@ -106,6 +114,17 @@ impl Copied for Deed {
                 reply: reply.copy(alloc)?,
                 made: made.copy(alloc)?,
                 to: *to,
+            }),
+            Deed::Asked {
+                client,
+                seq,
+                ask,
+                reply,
+            } => Ok(Deed::Asked {
+                client: *client,
+                seq: *seq,
+                ask: ask.copy(alloc)?,
+                reply: reply.copy(alloc)?,
             }),
             Deed::Taken { change, verdict } => Ok(Deed::Taken {
                 change: change.copy(alloc)?,

@@ -16,9 +16,13 @@ pub struct History {
 
 impl Model for History {
     ghost use Rattle.std.specs.Prelude.{◌-◌, vec_len, vec_capacity};
+    ghost use Rattle.std.specs.Coded.{codes};
+    ghost use Rattle.gr_oql.specs.Question.{question_code};
     ghost use Rattle.gr_history.specs.Deeds.{Deeds};
 
     ghost Value = { Deeds };
+
+    ghost coded = { Prim.hlevel (codes, question_code) };
 
     ghost view = { λ history. record { deeds = history.deeds.items; spare = vec_capacity history.deeds - vec_len history.deeds } };
 }

@@ -8,6 +8,8 @@ mod history;
 mod identity;
 mod image;
 mod query_ask;
+mod query_reply;
+mod query_rows;
 mod record;
 mod reply;
 mod rows;
@@ -20,6 +22,8 @@ pub use history::History;
 pub use identity::Identity;
 pub use image::{Gift, Image, What};
 pub use query_ask::QueryAsk;
+pub use query_reply::{QueryReply, QueryReplyList, Row, RowList};
+pub use query_rows::{a_query_is_stopped_and_closed, a_query_is_told_of_changes};
 pub use record::{
     Answer, AnswerList, ClientRecord, ClientRecordList, MemberRecord, MemberRecordList, Record,
     Region, ShardRecord, ShardRecordList,

@@ -1,4 +1,4 @@
-use crate::{History, Reply};
+use crate::{History, QueryReplyList, Reply};
 use gr_stamp::ChangeList;
 use gr_value::{ItemList, Value};
 use gr_vector::Vector;
@@ -39,6 +39,8 @@ pub enum Answer {
     Reply(Reply),
     /// The value that was present at the key, and how long the history of its shard was.
     Peeked { value: Option<Value>, at: u64 },
+    /// What each shard told of a query, from shard 0 on.
+    Asked(QueryReplyList),
 }
 
 pub type AnswerList = ItemList<Answer>;

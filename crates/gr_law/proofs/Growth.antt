@@ -6,12 +6,12 @@ use Rattle.std.proofs.lemmas.Bool.Decides.{nat_tests}
 use Rattle.gr_stamp.specs.declared.change.Change.{Change}
 use Rattle.gr_history.specs.declared.image.Image.{Image}
 use Rattle.gr_history.specs.declared.deed.Deed.{Deed}
-use Rattle.gr_history.specs.declared.deed.Deed.TheVariants.{Call, Taken, Gave, Imaged, Reported, Heard, Swept}
+use Rattle.gr_history.specs.declared.deed.Deed.TheVariants.{Call, Asked, Taken, Gave, Imaged, Reported, Heard, Swept}
 use Rattle.gr_history.specs.Made.{made, made_at}
 use Rattle.gr_law.specs.Grids.{Among, Older, Grid, identity, at_place}
-use Rattle.gr_law.specs.Integrity.{giver_of, IsMade, IsGenuine, IsGenuineDeed, HasNoImage, IsImagedOnce, IsHeardDeed, AreHeard, IsWhole}
+use Rattle.gr_law.specs.Integrity.{giver_of, IsMade, IsGenuine, IsGenuineDeed, IsImagedOnce, IsHeardDeed, AreHeard, IsWhole}
 use Rattle.gr_law.specs.Integrity.{IsGift}
-use Rattle.gr_history.specs.Lawful.{IsLawful, IsLawfulDeed}
+use Rattle.gr_history.specs.Lawful.{IsLawful}
 use Rattle.gr_history.specs.Gifts.{IsImageOf}
 use Rattle.gr_history.specs.declared.image.What.TheVariants as what
 use Rattle.gr_law.specs.Next.{IsFirstImage, IsNext}
@@ -30,6 +30,7 @@ still_made grid m deed change h = at_test (change.stamp.member == m)
 
 still_heard : (grid : Grid) (m : ℕ) (deed one : Deed) → IsHeardDeed grid one → IsHeardDeed (pushed grid m deed) one
 still_heard grid m deed (Call client seq ask reply own to) h = tt
+still_heard grid m deed (Asked client seq ask reply) h = tt
 still_heard grid m deed (Taken change how) h = tt
 still_heard grid m deed (Gave to what) h = tt
 still_heard grid m deed (Imaged image) h = tt
@@ -86,6 +87,7 @@ still_gift grid m me deed image gift = record {
 
 still_genuine_deed : (grid : Grid) (m me : ℕ) (deed one : Deed) → IsGenuineDeed grid me one → IsGenuineDeed (pushed grid m deed) me one
 still_genuine_deed grid m me deed (Call client seq ask reply own to) h = tt
+still_genuine_deed grid m me deed (Asked client seq ask reply) h = tt
 still_genuine_deed grid m me deed (Taken change how) h = still_made grid m deed change h
 still_genuine_deed grid m me deed (Gave to what) h = tt
 still_genuine_deed grid m me deed (Imaged image) h = (h.0, still_gift grid m me deed image h.1)
@@ -93,7 +95,8 @@ still_genuine_deed grid m me deed (Reported report) h = tt
 still_genuine_deed grid m me deed (Heard report) h = tt
 still_genuine_deed grid m me deed (Swept moment named) h = tt
 
-still_genuine : (grid : Grid) (m me : ℕ) (deed : Deed) (past : List Deed) → IsGenuine grid me past → IsGenuine (pushed grid m deed) me past
+still_genuine : (grid : Grid) (m me : ℕ) (deed : Deed) (past : List Deed) → IsGenuine grid me past → IsGenuine (pushed grid m deed) me
+    past
 still_genuine grid m me deed [] h = tt
 still_genuine grid m me deed (first ∷ past) h = (still_genuine_deed grid m me deed first h.0, still_genuine grid m me deed past h.1)
 
@@ -102,7 +105,8 @@ all_heard grid m deed [] h = tt
 all_heard grid m deed (first ∷ past) h = (still_heard grid m deed first h.0, all_heard grid m deed past h.1)
 
 -- a fact of each history, with the one deed more
-at_each : (grid : Grid) (m : ℕ) (deed : Deed) (P : ℕ → List Deed → Type 0) → P m (deed ∷ grid.history m) → ((i : ℕ) → P i (grid.history i))
+at_each : (grid : Grid) (m : ℕ) (deed : Deed) (P : ℕ → List Deed → Type 0) → P m (deed ∷ grid.history m) → ((i : ℕ) → P i (grid.history
+    i))
     → (i : ℕ) → P i ((pushed grid m deed).history i)
 at_each grid m deed P new old i = at_test (i == m) refl
   where
@@ -115,6 +119,7 @@ at_each grid m deed P new old i = at_test (i == m) refl
 
 once_more : (deed : Deed) (past : List Deed) → IsFirstImage deed past → IsImagedOnce past → IsImagedOnce (deed ∷ past)
 once_more (Call client seq ask reply own to) past first h = h
+once_more (Asked client seq ask reply) past first h = h
 once_more (Taken change how) past first h = h
 once_more (Gave to what) past first h = h
 once_more (Imaged image) past first h = first
@@ -141,7 +146,9 @@ whole_pushed grid whole m deed next = record {
       (λ i. all_heard grid m deed (grid.history i) (whole.heard i));
 }
 
-pub same_grid : (grid : Grid) (history : ℕ → List Deed) → ((i : ℕ) → grid.history i ≡ history i) → grid ≡ record grid { history = history }
+pub same_grid : (grid : Grid) (history : ℕ → List Deed) → ((i : ℕ) → grid.history i ≡ history i) → grid ≡ record grid {
+  history = history;
+}
 same_grid grid history e = λ j. record grid { history = λ i. e i j }
 
 -- The same, where the new histories are given member by member.

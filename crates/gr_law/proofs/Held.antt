@@ -12,7 +12,7 @@ use Rattle.std.proofs.lemmas.Slice.Eq.{bytes_eq-Decides}
 use Rattle.gr_history.specs.declared.image.Image.{Image}
 use Rattle.gr_history.specs.declared.verdict.Verdict.TheVariants.{Applied, Discarded, Repeat}
 use Rattle.gr_history.specs.declared.deed.Deed.{Deed}
-use Rattle.gr_history.specs.declared.deed.Deed.TheVariants.{Call, Taken, Gave, Imaged, Reported, Heard, Swept}
+use Rattle.gr_history.specs.declared.deed.Deed.TheVariants.{Call, Asked, Taken, Gave, Imaged, Reported, Heard, Swept}
 use Rattle.gr_history.specs.Ids.{id_of, ids_at, ids}
 use Rattle.gr_vector.specs.Ids.{has_id}
 use Rattle.gr_history.specs.Standing.{came, standing, changes}
@@ -61,6 +61,8 @@ settled grid sound me (Call client seq ask reply (Some c) to ∷ past) o law own
     more_settled key (took grid past) (gone grid past) c (standing key past)
     (settled grid sound me past (older_past (Call client seq ask reply (Some c) to) past
     (grid.history me) o) law.1 own.1 orderly.2 given key) (orderly.0 c (inl refl))
+settled grid sound me (Asked client seq ask reply ∷ past) o law own orderly given key =
+    settled grid sound me past (older_past (Asked client seq ask reply) past (grid.history me) o) law.1 own.1 orderly.2 given key
 settled grid sound me (Taken c Applied ∷ past) o law own orderly given key =
     more_settled key (took grid past) (gone grid past) c (standing key past)
     (settled grid sound me past (older_past (Taken c Applied) past (grid.history me) o) law.1 own.1 orderly.2 given key)
@@ -154,6 +156,7 @@ apart_fewer grid few many (deed ∷ past) into h = (at_deed deed h.0, apart_fewe
   where
     at_deed : (d : Deed) → IsApart grid many d → IsApart grid few d
     at_deed (Call client seq ask reply one to) h = tt
+    at_deed (Asked client seq ask reply) h = tt
     at_deed (Taken c how) h = tt
     at_deed (Gave to what) h = tt
     at_deed (Imaged image) h = λ change tombstone a. h change tombstone (into change a)
@@ -185,6 +188,7 @@ apart_gone grid all change a (deed ∷ past) h unknown tombstone t same = ⊎_el
     at_deed : (d : Deed) → IsApart grid all d → has_id (id_of change) (ids_at d) ≡ false → Among tombstone (gone_at grid d past)
         → Among tombstone (expired_at d past ++ expired past) ⊎ (beats change.stamp tombstone.stamp ≡ true)
     at_deed (Call client seq ask reply one to) h none t = absurd t
+    at_deed (Asked client seq ask reply) h none t = absurd t
     at_deed (Taken c how) h none t = absurd t
     at_deed (Gave to what) h none t = absurd t
     at_deed (Imaged image) h none t = inr (h change tombstone a none t same)
@@ -207,6 +211,7 @@ orderly_from grid id opening (deed ∷ past) law late apart = (
   where
     at_deed : (d : Deed) → IsApart grid (came deed past ++ changes past) d → IsOrderlyDeed grid d past
     at_deed (Call client seq ask reply one to) h = tt
+    at_deed (Asked client seq ask reply) h = tt
     at_deed (Taken c how) h = tt
     at_deed (Gave to what) h = tt
     at_deed (Imaged image) h = λ change a unknown tombstone t same.
@@ -222,7 +227,8 @@ best_one grid sound key all made_ one two a b =
     let s = unbeaten-same one.stamp two.stamp (b.unbeaten one a.among a.of_key) (a.unbeaten two b.among b.of_key) in
     made_unique grid sound one two (made_ one a.among) (made_ two b.among) (one_name one two s.1 s.2)
 
-winner_is : (grid : Grid) → IsSound grid → (key : List ℕ) (all : List Change) → ((change : Change) → Among change all → IsMade grid change)
+winner_is : (grid : Grid) → IsSound grid → (key : List ℕ) (all : List Change) → ((change : Change) → Among change all → IsMade grid
+    change)
     → (best : Change) → Best key all best → winner key all ≡ Some best
 winner_is grid sound key all made_ best b = at_winner (winner key all) (winner-best key all)
   where
@@ -295,6 +301,7 @@ givers_late grid whole me (deed ∷ past) = (at_deed deed, givers_late grid whol
   where
     at_deed : (d : Deed) → IsGiverLate grid d
     at_deed (Call client seq ask reply one to) = tt
+    at_deed (Asked client seq ask reply) = tt
     at_deed (Taken c how) = tt
     at_deed (Gave to what) = tt
     at_deed (Imaged image) = older_late (giver_of grid image) (grid.history image.from) (giver_older grid image)
@@ -310,6 +317,7 @@ all_apart grid whole me all made_ (deed ∷ past) own = (at_deed deed own.0, all
   where
     at_deed : (d : Deed) → IsGenuineDeed grid me d → IsApart grid all d
     at_deed (Call client seq ask reply one to) own = tt
+    at_deed (Asked client seq ask reply) own = tt
     at_deed (Taken c how) own = tt
     at_deed (Gave to what) own = tt
     at_deed (Imaged image) own = λ change tombstone a unknown t same.

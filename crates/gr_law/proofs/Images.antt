@@ -42,10 +42,10 @@ filter_map_has {B = B} f x y (first ∷ rest) (inr a) is = at_value (f first) re
     at_value None e a = rw e a
     at_value (Some c) e a = rw e (inr a)
 
-cmp_same : (xs ys : List ℕ) → slice_cmp nat_cmp xs ys ≡ Equal → xs ≡ ys
+pub cmp_same : (xs ys : List ℕ) → slice_cmp nat_cmp xs ys ≡ Equal → xs ≡ ys
 cmp_same xs ys e = (bytes_eq-Decides xs ys).0 (sym (is_eq-slice_cmp xs ys) ∙ ap is_eq e)
 
-key_added : (key : List ℕ) (keys : List (List ℕ)) → Among key (with_key key keys)
+pub key_added : (key : List ℕ) (keys : List (List ℕ)) → Among key (with_key key keys)
 key_added key [] = inl refl
 key_added key (first ∷ keys) = at_order (slice_cmp nat_cmp key first) refl (key_added key keys)
   where
@@ -55,7 +55,7 @@ key_added key (first ∷ keys) = at_order (slice_cmp nat_cmp key first) refl (ke
     at_order Equal e a = inl (cmp_same key first e)
     at_order Greater e a = inr a
 
-key_kept : (key other : List ℕ) (keys : List (List ℕ)) → Among key keys → Among key (with_key other keys)
+pub key_kept : (key other : List ℕ) (keys : List (List ℕ)) → Among key keys → Among key (with_key other keys)
 key_kept key other [] a = absurd a
 key_kept key other (first ∷ keys) a = at_order (slice_cmp nat_cmp other first) a (key_kept key other keys)
   where

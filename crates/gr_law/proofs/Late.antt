@@ -10,7 +10,7 @@ use Rattle.gr_stamp.specs.declared.change.Change.{Change}
 use Rattle.gr_vector.specs.Ids.{Id, has_id, top}
 use Rattle.gr_vector.specs.declared.report.Report.{Report}
 use Rattle.gr_history.specs.declared.deed.Deed.{Deed}
-use Rattle.gr_history.specs.declared.deed.Deed.TheVariants.{Call, Taken, Gave, Imaged, Reported, Heard, Swept}
+use Rattle.gr_history.specs.declared.deed.Deed.TheVariants.{Call, Asked, Taken, Gave, Imaged, Reported, Heard, Swept}
 use Rattle.gr_history.specs.Ids.{id_of, ids}
 use Rattle.gr_history.specs.Made.{made_at, made}
 use Rattle.gr_history.specs.Standing.{names, standing}
@@ -96,6 +96,7 @@ due_stable id moment from past change h =
 expired_here : (id : Identity) (opening : ℕ) (deed : Deed) (past : List Deed) → IsLawfulDeed id opening deed past
     → (tombstone : Change) → Among tombstone (expired_at deed past) → IsExpired id past tombstone
 expired_here id opening (Call client seq ask reply own to) past law tombstone a = absurd a
+expired_here id opening (Asked client seq ask reply) past law tombstone a = absurd a
 expired_here id opening (Taken change how) past law tombstone a = absurd a
 expired_here id opening (Gave to what) past law tombstone a = absurd a
 expired_here id opening (Imaged image) past law tombstone a = absurd a
@@ -108,7 +109,8 @@ expired_here id opening (Swept moment named) past law tombstone a =
     let same : d.0.key ≡ n.0 = (bytes_eq-Decides d.0.key n.0).0 (standing_best n.0 past d.0 d.1.stands).of_key in
     at_one d.0 n.0 one same d.1
   where
-    same_removal : (o : Option Change) (c : Change) → o ≡ Some c → is_removal c.kind ≡ true → removal_of o ≡ Some tombstone → c ≡ tombstone
+    same_removal : (o : Option Change) (c : Change) → o ≡ Some c → is_removal c.kind ≡ true → removal_of o ≡ Some tombstone → c ≡
+        tombstone
     same_removal o c e r h = let k : removal_of o ≡ Some c = rw (e, r) refl in cc
 
     at_one : (c : Change) (key : List ℕ) → c ≡ tombstone → c.key ≡ key → IsDue id moment past key c → IsExpired id past tombstone
@@ -155,6 +157,7 @@ last_among i [] report h = absurd (no h)
     no : None ≡ Some report → ⊥
     no e = cc
 last_among i (Call client seq ask reply own to ∷ past) report h = let s = last_among i past report h in (inr s.0, s.1)
+last_among i (Asked client seq ask reply ∷ past) report h = let s = last_among i past report h in (inr s.0, s.1)
 last_among i (Taken change how ∷ past) report h = let s = last_among i past report h in (inr s.0, s.1)
 last_among i (Gave to what ∷ past) report h = let s = last_among i past report h in (inr s.0, s.1)
 last_among i (Imaged image ∷ past) report h = let s = last_among i past report h in (inr s.0, s.1)
@@ -265,7 +268,8 @@ late_greater grid whole me h o tombstone change t is unknown same =
     let o' = older_trans e.past h (grid.history me) e.older o in
     let law' = older_lawful (identity grid me) (grid.opening me) e.past h e.older law in
     let own' = older_genuine grid me e.past h e.older own in
-    let known = standing_sound grid sound me e.past o' law' own' (all_carried grid sound me e.past own') tombstone.key tombstone e.stood in
+    let known = standing_sound grid sound me e.past o' law' own' (all_carried grid sound me e.past own') tombstone.key tombstone e.stood
+    in
     let unknown' = unknown_before (id_of change) e.past h e.older unknown in
     let i = change.stamp.member in
     ⊎_elim

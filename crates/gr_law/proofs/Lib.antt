@@ -11,3 +11,11 @@ pub mod Imaged
 pub mod Held
 pub mod Small
 pub mod Growth
+pub mod Keys
+pub mod Turning
+pub mod Following
+pub mod Waiting
+pub mod KeptUp
+pub mod AsMaps
+pub mod Opened
+pub mod Queries

@@ -185,7 +185,8 @@ made_once id opening one two (deed ∷ past) law a b same =
     at_places (inr a) (inr b) next = next a b
 
 -- In a sound record equal ids are equal changes.
-pub made_unique : (grid : Grid) → IsSound grid → (one two : Change) → IsMade grid one → IsMade grid two → id_of one ≡ id_of two → one ≡ two
+pub made_unique : (grid : Grid) → IsSound grid → (one two : Change) → IsMade grid one → IsMade grid two → id_of one ≡ id_of two → one ≡
+    two
 made_unique grid sound one two a b same =
     let m : one.stamp.member ≡ two.stamp.member = ap (λ i. i.member) same in
     let r : one.stamp.rv ≡ two.stamp.rv = ap (λ i. i.rv) same in

@@ -1,5 +1,6 @@
 -- Law 0: what is known of a key is reached by what stands or by the floor.
-use Rattle.std.proofs.Common.{◌≡◌, ◌⊎◌, ℕ, ◌≤◌, List, [], ◌∷◌, Bool, true, false, ◌&&◌, ◌||◌, not, refl, sym, ◌∙◌, subst, inl, inr, ⊎_elim}
+use Rattle.std.proofs.Common.{◌≡◌, ◌⊎◌, ℕ, ◌≤◌, List, [], ◌∷◌, Bool, true, false, ◌&&◌, ◌||◌, not, refl, sym, ◌∙◌, subst, inl, inr}
+use Rattle.std.proofs.Common.{⊎_elim}
 use Rattle.std.proofs.Common.{arith, max, bytes_eq}
 use Rattle.std.specs.Prelude.{Option, Some, None}
 use Rattle.std.proofs.lemmas.Slice.Eq.{bytes_eq-Decides}
@@ -8,7 +9,7 @@ use Rattle.gr_stamp.specs.declared.change.Change.{Change}
 use Rattle.gr_history.specs.declared.image.Image.{Image}
 use Rattle.gr_history.specs.declared.verdict.Verdict.TheVariants.{Applied, Discarded, Repeat}
 use Rattle.gr_history.specs.declared.deed.Deed.{Deed}
-use Rattle.gr_history.specs.declared.deed.Deed.TheVariants.{Call, Taken, Gave, Imaged, Reported, Heard, Swept}
+use Rattle.gr_history.specs.declared.deed.Deed.TheVariants.{Call, Asked, Taken, Gave, Imaged, Reported, Heard, Swept}
 use Rattle.gr_history.specs.Ids.{id_of, ids_at, ids}
 use Rattle.gr_vector.specs.Ids.{has_id}
 use Rattle.gr_history.specs.Made.{made}
@@ -25,11 +26,13 @@ use Rattle.gr_law.proofs.Lists.{known_ids, filter_keeps, has_either, either}
 use Rattle.gr_law.proofs.Winners.{bytes_eq-itself}
 use Rattle.gr_law.proofs.Made.{older_past, older_lawful, older_genuine, made_unique, at_place-older}
 use Rattle.gr_law.proofs.Images.{row_stands, stands_row}
-use Rattle.gr_law.proofs.Steps.{IsCarried, IsCarriedDeed, AreCarried, true_isnt_false, came_sound, standing_sound, standing_best, kept_ver}
+use Rattle.gr_law.proofs.Steps.{IsCarried, IsCarriedDeed, AreCarried, true_isnt_false, came_sound, standing_sound, standing_best}
+use Rattle.gr_law.proofs.Steps.{kept_ver}
 use Rattle.gr_law.proofs.Steps.{came_ver, named_expires, among_greatest, named_due, repeat_known}
 
 floor_grows : (opening : ℕ) (deed : Deed) (past : List Deed) → floor opening past ≤ floor opening (deed ∷ past)
 floor_grows opening (Call client seq ask reply own to) past = omega arith
+floor_grows opening (Asked client seq ask reply) past = omega arith
 floor_grows opening (Taken change how) past = omega arith
 floor_grows opening (Gave to what) past = omega arith
 floor_grows opening (Imaged image) past = omega arith
@@ -105,6 +108,7 @@ reach_grows grid sound me deed past o law own carried key =
         → drops key d (standing key past) ≡ true
         → ver_of (standing key past) ≤ floor (grid.opening me) (d ∷ past)
     dropped (Call client seq ask reply own_ to) law carried h = absurd (true_isnt_false (sym h))
+    dropped (Asked client seq ask reply) law carried h = absurd (true_isnt_false (sym h))
     dropped (Taken change how) law carried h = absurd (true_isnt_false (sym h))
     dropped (Gave to what) law carried h = absurd (true_isnt_false (sym h))
     dropped (Imaged image) law image_carried h =
@@ -197,6 +201,8 @@ new_reached grid sound me (Imaged image) past o law own carried before grows cha
         let low' : row.stamp.ver ≤ reach (grid.opening me) change.key (Imaged image ∷ past) =
         subst (λ k. row.stamp.ver ≤ reach (grid.opening me) k (Imaged image ∷ past)) e low in
         omega (arith, le, low')
+new_reached grid sound me (Asked client seq ask reply) past o law own carried before grows change is has = absurd (true_isnt_false (sym
+    has))
 new_reached grid sound me (Reported report) past o law own carried before grows change is has = absurd (true_isnt_false (sym has))
 new_reached grid sound me (Heard report) past o law own carried before grows change is has = absurd (true_isnt_false (sym has))
 new_reached grid sound me (Swept moment named) past o law own carried before grows change is has = absurd (true_isnt_false (sym has))
@@ -270,6 +276,7 @@ all_carried grid sound me (deed ∷ past) own = (at_deed deed own.0, all_carried
   where
     at_deed : (d : Deed) → IsGenuineDeed grid me d → IsCarriedDeed grid d
     at_deed (Call client seq ask reply own_ to) own = tt
+    at_deed (Asked client seq ask reply) own = tt
     at_deed (Taken change how) own = tt
     at_deed (Gave to what) own = tt
     at_deed (Imaged image) own = gift_carried grid sound me image own.1

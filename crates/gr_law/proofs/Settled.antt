@@ -13,7 +13,7 @@ use Rattle.gr_stamp.specs.Version.{Version, beats}
 use Rattle.gr_stamp.specs.Winner.{winner, wins, is_removal}
 use Rattle.gr_stamp.proofs.Order.{beats_itself, beats-greater}
 use Rattle.gr_history.specs.declared.deed.Deed.{Deed}
-use Rattle.gr_history.specs.declared.deed.Deed.TheVariants.{Call, Taken, Gave, Imaged, Reported, Heard, Swept}
+use Rattle.gr_history.specs.declared.deed.Deed.TheVariants.{Call, Asked, Taken, Gave, Imaged, Reported, Heard, Swept}
 use Rattle.gr_history.specs.Ids.{id_of, ids_at, ids}
 use Rattle.gr_vector.specs.Ids.{has_id}
 use Rattle.gr_history.specs.Standing.{names, lasting, standing}
@@ -59,6 +59,7 @@ known_taken grid sound me (deed ∷ past) le o law own change is h = ⊎_elim
         → IsGenuineDeed grid me d
         → has_id (id_of change) (ids_at d) ≡ true → Among change (taken_at d)
     at_deed (Call client seq ask reply one to) o law own h = known_here grid sound me client seq ask reply one to past o law change is h
+    at_deed (Asked client seq ask reply) o law own h = absurd (true_isnt_false (sym h))
     at_deed (Taken c how) o law own h = inl (one_id grid sound change c is own h)
     at_deed (Gave to what) o law own h = absurd (true_isnt_false (sym h))
     at_deed (Imaged image) o law own h = absurd (omega (arith, le, own.0))
@@ -81,10 +82,12 @@ known_took grid sound me (deed ∷ past) o law own change is h = ⊎_elim
         → IsGenuineDeed grid me d
         → has_id (id_of change) (ids_at d) ≡ true → Among change (took_at grid d)
     at_deed (Call client seq ask reply one to) o law own h = known_here grid sound me client seq ask reply one to past o law change is h
+    at_deed (Asked client seq ask reply) o law own h = absurd (true_isnt_false (sym h))
     at_deed (Taken c how) o law own h = inl (one_id grid sound change c is own h)
     at_deed (Gave to what) o law own h = absurd (true_isnt_false (sym h))
     at_deed (Imaged image) o law own h =
-        known_taken grid sound image.from (giver_of grid image) own.1.from_founder (giver_older grid image) (giver_lawful grid sound image)
+        known_taken grid sound image.from (giver_of grid image) own.1.from_founder (giver_older grid image) (giver_lawful grid sound
+        image)
         (giver_genuine grid sound image)
         change is (sym (known_ids image.vector.ids (giver_of grid image) own.1.is_image.vector_is (id_of change)) ∙ h)
     at_deed (Reported report) o law own h = absurd (true_isnt_false (sym h))
@@ -278,4 +281,10 @@ both_gone key xs ys xgone ygone (inr s) (inr t) = at_test (beats t.0.stamp s.0.s
       t.2,
       among_right t.0 xgone ygone t.3,
     )
-    at_test false e = inr (s.0, best_left key xs ys s.0 s.1 (top_below key ys t.0 s.0 t.1.unbeaten e), s.2, among_left s.0 xgone ygone s.3)
+    at_test false e = inr (
+      s.0,
+      best_left key xs ys s.0 s.1 (top_below key ys t.0 s.0 t.1.unbeaten e),
+      s.2,
+      among_left s.0 xgone ygone
+          s.3,
+    )

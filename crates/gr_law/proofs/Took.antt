@@ -42,7 +42,11 @@ pub taken_sound : (grid : Grid) (me : ℕ) (past : List Deed) → Older past (gr
     → (change : Change) → Among change (taken past) → IsMade grid change × (has_id (id_of change) (ids past) ≡ true)
 taken_sound grid me [] o law own change a = absurd a
 taken_sound grid me (deed ∷ past) o law own change a = ⊎_elim
-    (λ here. let s = taken_here grid me deed past o law.0 own.0 change here in (s.0, has_left (id_of change) (ids_at deed) (ids past) s.1))
+    (λ here. let s = taken_here grid me deed past o law.0 own.0 change here in (
+      s.0,
+      has_left (id_of change) (ids_at deed) (ids past)
+          s.1,
+    ))
     (λ there. let s = taken_sound grid me past (older_past deed past (grid.history me) o) law.1 own.1 change there in
     (s.0, has_right (id_of change) (ids_at deed) (ids past) s.1))
     (among_either change (taken_at deed) (taken past) a)

@@ -1,7 +1,8 @@
 -- The histories of all members at one shard, each listed the newest deed first.
-use Rattle.std.specs.Prelude.{◌≡◌, ◌⊎◌, ◌∷◌, [], ℕ, suc, List, nat_le, length, if◌then◌else◌}
+use Rattle.std.specs.Prelude.{◌≡◌, ◌⊎◌, ◌∷◌, [], ℕ, List}
 use Rattle.gr_history.specs.declared.identity.Identity.{Identity}
 use Rattle.gr_history.specs.declared.deed.Deed.{Deed}
+pub use Rattle.gr_history.specs.Places.{at_place}
 
 -- x is one of these
 abbrev pub Among : {A : Type 0} → A → List A → Type 0
@@ -12,11 +13,6 @@ Among x (first ∷ rest) = (x ≡ first) ⊎ Among x rest
 abbrev pub Older : List Deed → List Deed → Type 0
 Older q [] = q ≡ []
 Older q (deed ∷ past) = (q ≡ deed ∷ past) ⊎ Older q past
-
--- the history at a place
-abbrev pub at_place : ℕ → List Deed → List Deed
-at_place n [] = []
-at_place n (deed ∷ past) = if nat_le (suc (length past)) n then deed ∷ past else at_place n past
 
 -- all members' histories of one shard; none is outside 1 to `members`
 pub record Grid : Type 0 where

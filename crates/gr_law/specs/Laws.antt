@@ -6,7 +6,7 @@ use Rattle.gr_stamp.specs.Version.{beats}
 use Rattle.gr_stamp.specs.Winner.{winner, holds, is_removal}
 use Rattle.gr_vector.specs.Ids.{has_id}
 use Rattle.gr_history.specs.declared.deed.Deed.{Deed}
-use Rattle.gr_history.specs.declared.deed.Deed.TheVariants.{Call, Taken, Gave, Imaged, Reported, Heard, Swept}
+use Rattle.gr_history.specs.declared.deed.Deed.TheVariants.{Call, Asked, Taken, Gave, Imaged, Reported, Heard, Swept}
 use Rattle.gr_history.specs.Ids.{id_of, ids}
 use Rattle.gr_history.specs.Made.{made_at}
 use Rattle.gr_history.specs.Standing.{came, standing, present, changes}
@@ -18,6 +18,7 @@ use Rattle.gr_law.specs.Integrity.{IsMade, giver_of}
 -- what is made or taken in at a deed
 abbrev pub taken_at : Deed → List Change
 taken_at (Call client seq ask reply made to) = option_to_list made
+taken_at (Asked client seq ask reply) = []
 taken_at (Taken change verdict) = change ∷ []
 taken_at (Gave to what) = []
 taken_at (Imaged image) = []
@@ -33,6 +34,7 @@ taken (deed ∷ past) = taken_at deed ++ taken past
 -- the same, where an image brings what its giver had made or taken in by then
 abbrev pub took_at : Grid → Deed → List Change
 took_at grid (Call client seq ask reply made to) = option_to_list made
+took_at grid (Asked client seq ask reply) = []
 took_at grid (Taken change verdict) = change ∷ []
 took_at grid (Gave to what) = []
 took_at grid (Imaged image) = taken (giver_of grid image)
@@ -101,6 +103,7 @@ law_4 grid = (member : ℕ) (past : List Deed) → Older past (grid.history memb
 -- at the givers of its images, and what an image didn't know beats what had expired at its giver.
 abbrev pub IsGiverLate : Grid → Deed → Type 0
 IsGiverLate grid (Call client seq ask reply made to) = Unit {0}
+IsGiverLate grid (Asked client seq ask reply) = Unit {0}
 IsGiverLate grid (Taken change verdict) = Unit {0}
 IsGiverLate grid (Gave to what) = Unit {0}
 IsGiverLate grid (Imaged image) = IsLate (giver_of grid image)
@@ -115,6 +118,7 @@ AreGiversLate grid (deed ∷ past) = IsGiverLate grid deed × AreGiversLate grid
 -- the changes that an image's vector doesn't hold beat what had expired at the giver
 abbrev pub IsApart : Grid → List Change → Deed → Type 0
 IsApart grid all (Call client seq ask reply made to) = Unit {0}
+IsApart grid all (Asked client seq ask reply) = Unit {0}
 IsApart grid all (Taken change verdict) = Unit {0}
 IsApart grid all (Gave to what) = Unit {0}
 IsApart grid all (Imaged image) =

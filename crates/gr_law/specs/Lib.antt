@@ -2,4 +2,6 @@ pub mod Grids
 pub mod Integrity
 pub mod Laws
 pub mod Next
+pub mod Queries
+pub mod QueryMaps
 pub mod Small

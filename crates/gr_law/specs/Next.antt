@@ -1,7 +1,7 @@
 -- What is asked of a deed that comes next.
-use Rattle.std.specs.Prelude.{◌≡◌, ◌≤◌, ◌∷◌, [], ℕ, List}
+use Rattle.std.specs.Prelude.{◌≤◌, ℕ, List}
 use Rattle.gr_history.specs.declared.deed.Deed.{Deed}
-use Rattle.gr_history.specs.declared.deed.Deed.TheVariants.{Call, Taken, Gave, Imaged, Reported, Heard, Swept}
+use Rattle.gr_history.specs.declared.deed.Deed.TheVariants.{Call, Asked, Taken, Gave, Imaged, Reported, Heard, Swept}
 use Rattle.gr_history.specs.Lawful.{IsLawfulDeed}
 use Rattle.gr_law.specs.Grids.{Grid, identity}
 use Rattle.gr_law.specs.Integrity.{IsGenuineDeed, HasNoImage, IsHeardDeed}
@@ -9,6 +9,7 @@ use Rattle.gr_law.specs.Integrity.{IsGenuineDeed, HasNoImage, IsHeardDeed}
 -- an image comes once
 abbrev pub IsFirstImage : Deed → List Deed → Type 0
 IsFirstImage (Call client seq ask reply made to) past = Unit {0}
+IsFirstImage (Asked client seq ask reply) past = Unit {0}
 IsFirstImage (Taken change verdict) past = Unit {0}
 IsFirstImage (Gave to what) past = Unit {0}
 IsFirstImage (Imaged image) past = HasNoImage past

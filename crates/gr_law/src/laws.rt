@@ -1,10 +1,13 @@
 ghost use Rattle.gr_law.specs.Integrity.{IsSound, IsWhole};
-ghost use Rattle.std.specs.Prelude.{◌≡◌, Some, None};
+ghost use Rattle.std.specs.Prelude.{◌≡◌, ℕ, List, Some, None};
+ghost use Rattle.gr_history.specs.declared.deed.Deed.{Deed};
 ghost use Rattle.gr_history.specs.Standing.{standing};
 ghost use Rattle.gr_history.specs.Floor.{floor};
 ghost use Rattle.gr_law.specs.Small.{key, second, history_3, small};
 ghost use Rattle.gr_law.specs.Grids.{Grid, at_place};
 ghost use Rattle.gr_law.specs.Laws.{law_0, law_1, law_2, law_3, same_value, law_4, law_5};
+ghost use Rattle.gr_law.specs.Queries.{IsAnswered};
+ghost use Rattle.gr_law.specs.QueryMaps.{KeepsUp, law_queries};
 
 /// Where each history is lawful, and what was taken in was made and what was merged was given: what a
 /// member knows of a key is reached by what stands or by the floor; a new change has a greater version
@@ -13,6 +16,14 @@ pub fn laws_of_sound_records()
     ensures law_0 { (grid : Grid) → IsSound grid → law_0 grid }
     ensures law_1 { (grid : Grid) → IsSound grid → law_1 grid }
     ensures law_5 { (grid : Grid) → IsSound grid → law_5 grid }
+{}
+
+/// Where the steps on a query were answered lawfully: where it runs, the rows of its opening followed by
+/// its events since are its result over what is present, at each key and as maps, and the opening stands
+/// in the history; and what was handed out is those events, up to its stop where it is stopped.
+pub fn laws_of_queries()
+    ensures one_history { (client : ℕ) (name : List ℕ) (history : List Deed) → IsAnswered history → KeepsUp client name history }
+    ensures all_histories { (grid : Grid) → IsSound grid → law_queries grid }
 {}
 
 /// Where each report that was heard was made too: what comes in late beats each tombstone of its key

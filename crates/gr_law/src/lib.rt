@@ -3,4 +3,6 @@
 
 mod laws;
 
-pub use laws::{a_small_record_is_whole, laws_of_sound_records, laws_of_whole_records};
+pub use laws::{
+    a_small_record_is_whole, laws_of_queries, laws_of_sound_records, laws_of_whole_records,
+};

@@ -1,11 +1,13 @@
 -- What a query tells of changes, and what its events leave.
 use Rattle.std.specs.Prelude.{ℕ, List, [], ◌∷◌, Bool, true, false, Option, Some, None, option_map, bytes_eq, if◌then◌else◌}
+use Rattle.std.specs.List.{filter_map}
 use Rattle.gr_value.specs.declared.value.Field.{Field}
 use Rattle.gr_oql.specs.declared.event.BaseOp.{BaseOp}
 use Rattle.gr_oql.specs.declared.event.BaseOp.TheVariants as base
 use Rattle.gr_oql.specs.declared.event.Event.{Event}
 use Rattle.gr_oql.specs.declared.event.QueryOp.{QueryOp}
 use Rattle.gr_oql.specs.declared.event.QueryOp.TheVariants as op
+use Rattle.gr_oql.specs.declared.event.Turned.{Turned}
 use Rattle.gr_oql.specs.declared.truth.Truth.{Truth}
 use Rattle.gr_oql.specs.declared.truth.Truth.TheVariants.{Holds, Fails, Undefined}
 use Rattle.gr_oql.specs.Matching.{matches}
@@ -41,6 +43,14 @@ base_op old None = base.Destroy
 abbrev pub event_of : Question → List ℕ → Option (List Field) → Option (List Field) → Option Event
 event_of question key old new =
     option_map (λ told. record { op = told; base = base_op old new; key = key; value = new }) (classify question old new)
+
+-- what a query is told of a turned key, if anything
+abbrev pub told : Question → Turned → Option Event
+told question turned = event_of question turned.key turned.old turned.new
+
+-- what it is told of several, in order
+abbrev pub told_all : Question → List Turned → List Event
+told_all question all = filter_map (told question) all
 
 -- what stands at each key
 abbrev pub Present : Type 0

@@ -1,6 +1,6 @@
 ghost use Rattle.std.specs.Prelude.{◌≡◌, IfOk};
 ghost use Rattle.std.specs.Option.{option_copied};
-ghost use Rattle.gr_oql.specs.Events.{is_match, query_op, classify, base_op, event_of};
+ghost use Rattle.gr_oql.specs.Events.{is_match, query_op, classify, base_op, told};
 
 use crate::{Query, Truth};
 use gr_value::{Copied, ItemList, Key, Memory, Value};
@@ -22,6 +22,14 @@ pub enum BaseOp {
     Destroy,
 }
 
+/// A key with its value before and behind a deed, where there is one.
+#[derive(Drop)]
+pub struct Turned {
+    pub key: Key,
+    pub old: Option<Value>,
+    pub new: Option<Value>,
+}
+
 /// What a query tells of a change. The value is the new one, absent where there is none.
 #[derive(Drop)]
 pub struct Event {
@@ -34,23 +42,18 @@ pub struct Event {
 pub type EventList = ItemList<Event>;
 
 impl Event {
-    /// What a query tells where a key has had the old value and has the new one, of which one is there.
-    pub fn of(
-        alloc: Global,
-        query: &Query,
-        key: &Key,
-        old: Option<&Value>,
-        new: Option<&Value>,
-    ) -> Result<Option<Event>, Memory>
-        ensures { IfOk result (λ event. event ≡ event_of query.now key.now (option_copied old.entry) (option_copied new.entry)) }
+    /// What a query tells of a turned key, if anything.
+    pub fn of(alloc: Global, query: &Query, turned: &Turned) -> Result<Option<Event>, Memory>
+        ensures { IfOk result (λ event. event ≡ told query.now turned.now) }
     {
+        let (old, new) = (turned.old.as_ref(), turned.new.as_ref());
         let Some(op) = classify(query, old, new) else {
             return Ok(None);
         };
         Ok(Some(Event {
             op,
             base: base_op(old, new),
-            key: key.copy(alloc)?,
+            key: turned.key.copy(alloc)?,
             value: copied(alloc, new)?,
         }))
     }
@@ -67,7 +70,7 @@ impl Copied for Event {
     }
 }
 
-fn copied(alloc: Global, value: Option<&Value>) -> Result<Option<Value>, Memory>
+pub(crate) fn copied(alloc: Global, value: Option<&Value>) -> Result<Option<Value>, Memory>
     ensures { IfOk result (λ copy. copy ≡ option_copied value.entry) }
 {
     match value {

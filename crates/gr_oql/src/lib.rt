@@ -19,7 +19,7 @@ mod terms;
 mod tests;
 mod truth;
 
-pub use event::{BaseOp, Event, EventList, QueryOp, classify};
+pub use event::{BaseOp, Event, EventList, QueryOp, Turned, classify};
 pub use fault::{OqlFault, Part};
 pub use query::Query;
 pub use truth::Truth;

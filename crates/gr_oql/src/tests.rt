@@ -1,5 +1,6 @@
+use crate::event::copied;
 use crate::like::is_like;
-use crate::{BaseOp, Event, Query, QueryOp, classify};
+use crate::{BaseOp, Event, Query, QueryOp, Turned, classify};
 use gr_value::{Copied, Key, Value};
 use std::test::Fail;
 
@@ -36,7 +37,6 @@ fn a_pattern_of_many_parts_ends_at_a_long_text(rt: HostRuntime) -> Result<(), Fa
 fn changes_give_events(rt: HostRuntime) -> Result<(), Fail> {
     let alloc = rt.alloc();
     let query = Query::parse(alloc, "SELECT * FROM /r WHERE x > 1")?;
-    let key = Key::read(alloc, b"k")?;
     let (low, high) = (
         Value::read(alloc, b"{\"x\":1}")?,
         Value::read(alloc, b"{\"x\":2}")?,
@@ -64,8 +64,12 @@ fn changes_give_events(rt: HostRuntime) -> Result<(), Fail> {
     ];
     for (old, new, ops) in rows {
         assert_eq!(rt; classify(&query, old, new), ops.map(|(op, _)| op));
-        let event = Event::of(alloc, &query, &key, old, new)?;
-        let Some(event) = event else {
+        let turned = Turned {
+            key: Key::read(alloc, b"k")?,
+            old: copied(alloc, old)?,
+            new: copied(alloc, new)?,
+        };
+        let Some(event) = Event::of(alloc, &query, &turned)? else {
             assert!(rt; ops.is_none());
             continue;
         };

@@ -7,15 +7,14 @@ use Rattle.std.specs.Ordering.{nat_cmp, match_ordering}
 use Rattle.std.specs.Cmp.Lexicographic.{slice_cmp}
 use Rattle.std.specs.BTreeMap.{insert_entry}
 use Rattle.std.specs.Map.{values_of}
-use Rattle.gr_stamp.specs.declared.change.Change.{Change}
 use Rattle.gr_report.specs.Shown.{shown}
 
-pub shown-insert : (rows : List (List ℕ × Bor Change)) (key : List ℕ) (row : Bor Change)
+pub shown-insert : {A : Type 0} → (rows : List (List ℕ × Bor A)) (key : List ℕ) (row : Bor A)
     → shown (insert_entry (slice_cmp nat_cmp) rows key row) ≡ insert_entry (slice_cmp nat_cmp) (shown rows) key row.now
 shown-insert [] key row = refl
-shown-insert (entry ∷ rows) key row = at_order (slice_cmp nat_cmp key entry.0) (shown-insert rows key row)
+shown-insert {A = A} (entry ∷ rows) key row = at_order (slice_cmp nat_cmp key entry.0) (shown-insert rows key row)
   where
-    insert : List (List ℕ × Bor Change)
+    insert : List (List ℕ × Bor A)
     insert = insert_entry (slice_cmp nat_cmp) rows key row
 
     at_order : (o : Ordering) → shown insert ≡ insert_entry (slice_cmp nat_cmp) (shown rows) key row.now
@@ -26,7 +25,7 @@ shown-insert (entry ∷ rows) key row = at_order (slice_cmp nat_cmp key entry.0)
     at_order Equal rest = refl
     at_order Greater rest = ap (λ rest. (entry.0, entry.1.now) ∷ rest) rest
 
-pub values-shown : (rows : List (List ℕ × Bor Change)) → values_of (shown rows) ≡ map (λ row. row.now) (values_of rows)
+pub values-shown : {A : Type 0} → (rows : List (List ℕ × Bor A)) → values_of (shown rows) ≡ map (λ row. row.now) (values_of rows)
 values-shown [] = refl
 values-shown (entry ∷ rows) = ap (λ rest. entry.1.now ∷ rest) (values-shown rows)
 

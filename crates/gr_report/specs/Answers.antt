@@ -7,6 +7,7 @@ use Rattle.gr_history.specs.declared.reply.Reply.TheVariants.{Null, Value, Done,
 use Rattle.gr_history.specs.declared.record.Answer.{Answer}
 use Rattle.gr_history.specs.declared.record.Answer.TheVariants as answer
 use Rattle.gr_history.specs.declared.record.ClientRecord.{ClientRecord}
+use Rattle.gr_report.specs.Queries.{replies_text}
 use Rattle.gr_report.specs.Texts.{texts_from}
 
 abbrev pub reply_text : Reply → List ℕ
@@ -27,6 +28,7 @@ peeked_text (Some value) at = value_text value ++ codes " @" ++ decimal at
 abbrev pub answer_text : Answer → List ℕ
 answer_text (answer.Reply reply) = reply_text reply
 answer_text (answer.Peeked value at) = peeked_text value at
+answer_text (answer.Asked replies) = replies_text replies
 
 -- the line of one answer, with its client and the number of its step
 unfoldable pub answer_line : ℕ → ℕ → Answer → List ℕ

@@ -17,6 +17,7 @@ use Rattle.gr_history.specs.declared.reply.Reply.{Reply}
 use Rattle.gr_history.specs.declared.verdict.Verdict.{Verdict}
 use Rattle.gr_history.specs.declared.verdict.Verdict.TheVariants.{Applied, Discarded, Repeat}
 use Rattle.gr_report.specs.Answers.{reply_text}
+use Rattle.gr_report.specs.Queries.{query_step_text, shard_line}
 use Rattle.gr_report.specs.Regions.{stamp_text}
 
 -- words with a space in front of each
@@ -102,6 +103,7 @@ swept_text moment expired = codes "sweep " ++ decimal moment ++ codes " expired 
 
 abbrev pub deed_text : Deed → List ℕ
 deed_text (deed.Call client seq ask reply made to) = asked_text client seq ask ++ told_text reply made to
+deed_text (deed.Asked client seq ask reply) = query_step_text client seq ask ++ codes " -> " ++ shard_line reply
 deed_text (deed.Taken change verdict) = taken_text change verdict
 deed_text (deed.Gave to what) = codes "gave " ++ decimal to ++ what_text what
 deed_text (deed.Imaged image) = image_text image

@@ -2,6 +2,7 @@ pub mod Answers
 pub mod Counts
 pub mod Deeds
 pub mod Histories
+pub mod Queries
 pub mod Regions
 pub mod Report
 pub mod Rows

@@ -2,6 +2,7 @@ ghost use Rattle.std.specs.Prelude.{◌≡◌, ◌++◌, OnOk, option_copied};
 ghost use Rattle.gr_report.specs.Answers.{reply_text, peeked_text, answer_text, answer_line, client_text};
 
 use crate::put::{put_number, put_text};
+use crate::queries::put_replies;
 use crate::written::{Numbered, Written, put_numbered};
 use gr_history::{Answer, ClientRecord, Reply};
 use gr_value::{Memory, Value};
@@ -45,6 +46,7 @@ fn put_answer(alloc: Global, out: &mut Vec<u8>, answer: &Answer) -> Result<(), M
     match answer {
         Answer::Reply(reply) => put_reply(alloc, out, reply),
         Answer::Peeked { value, at } => put_peeked(alloc, out, value.as_ref(), *at),
+        Answer::Asked(replies) => put_replies(alloc, out, replies.as_slice()),
     }
 }
 

@@ -12,7 +12,8 @@ pub struct Counts {
     pub repeats: u128,
 }
 
-fn sum(total: u128, more: u64) -> u128
+/// Adds to a sum.
+pub fn sum(total: u128, more: u64) -> u128
     requires { total < 2 ^ 127 }
     ensures sum { result ≡ total + more }
     ensures most { result ≤ total + 2 ^ 64 }

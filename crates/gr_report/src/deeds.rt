@@ -7,6 +7,7 @@ ghost use Rattle.gr_value.specs.ValueText.{value_text};
 use crate::answers::put_reply;
 use crate::lists::{put_keys, put_list};
 use crate::put::{put_counted, put_number, put_text};
+use crate::queries::{put_query_step, put_shard_line};
 use crate::regions::put_stamp;
 use crate::written::Written;
 use gr_history::{Ask, Deed, Image, Reply, Verdict, What};
@@ -186,6 +187,16 @@ fn put_deed(alloc: Global, out: &mut Vec<u8>, deed: &Deed) -> Result<(), Memory>
         } => {
             put_asked(alloc, out, *client, *seq, ask)?;
             put_told(alloc, out, reply, change.as_ref(), *to)
+        }
+        Deed::Asked {
+            client,
+            seq,
+            ask,
+            reply,
+        } => {
+            put_query_step(out, *client, *seq, ask)?;
+            put_text(out, " -> ")?;
+            put_shard_line(out, reply)
         }
         Deed::Taken { change, verdict } => put_taken(alloc, out, change, *verdict),
         Deed::Gave { to, what } => {

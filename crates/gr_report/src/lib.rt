@@ -7,6 +7,7 @@ mod deeds;
 mod histories;
 mod lists;
 mod put;
+mod queries;
 mod regions;
 mod reporting;
 mod rows;

@@ -1,7 +1,8 @@
-ghost use Rattle.std.specs.Prelude.{◌≡◌, ◌++◌, IfOk, OnOk, flat_map};
+ghost use Rattle.std.specs.Prelude.{◌≡◌, ◌++◌, ℕ, List, IfOk, OnOk, flat_map};
 ghost use Rattle.std.specs.List.{fold};
+ghost use Rattle.std.specs.Map.{values_of};
 ghost use Rattle.gr_report.specs.Regions.{row_line};
-ghost use Rattle.gr_report.specs.Rows.{by_key, rows_of, with_row};
+ghost use Rattle.gr_report.specs.Rows.{with_row, by_key, rows_of};
 ghost use Rattle.gr_report.specs.Shown.{shown};
 
 use crate::written::Written;
@@ -11,26 +12,57 @@ use gr_value::{Copied, Key, Memory};
 use std::alloc::Global;
 use std::collections::BTreeMap;
 
-// Puts a shard's rows among those of others.
-fn gather<'a>(
+/// What has a key.
+pub trait Keyed {
+    // Its key.
+    ghost key: { Self → List ℕ };
+
+    fn key(&self) -> &Key
+        ensures { result.now ≡ key self.now };
+}
+
+impl Keyed for Change {
+    ghost key = { λ change. change.key };
+
+    fn key(&self) -> &Key {
+        &self.key
+    }
+}
+
+/// Puts rows among those of others.
+pub fn gather<'a, T: Keyed>(
     alloc: Global,
-    rows: &mut BTreeMap<Key, &'a Change>,
-    shard: &'a ShardRecord,
+    rows: &mut BTreeMap<Key, &'a T>,
+    more: &'a [T],
 ) -> Result<(), Memory>
-    ensures { OnOk result (shown rows.new.entries ≡ fold with_row (shown rows.old.entries) shard.now.region.rows) }
+    ensures { OnOk result (shown rows.new.entries ≡ fold (with_row T.key) (shown rows.old.entries) more.now) }
 {
-    for row in shard.region.rows.as_slice() {
-        rows.insert(row.key.copy(alloc)?, row)?;
+    for row in more {
+        rows.insert(row.key().copy(alloc)?, row)?;
+    }
+    Ok(())
+}
+
+/// Puts what was gathered last, in the order of the keys.
+pub fn put_gathered<T: Keyed + Written>(
+    alloc: Global,
+    out: &mut Vec<u8>,
+    rows: &BTreeMap<Key, &T>,
+) -> Result<(), Memory>
+    ensures { OnOk result (out.new.items ≡ out.old.items ++ flat_map T.text (values_of (shown rows.now.entries))) }
+{
+    for row in rows.values() {
+        row.put(alloc, out)?;
     }
     Ok(())
 }
 
 fn gather_all(alloc: Global, shards: &[ShardRecord]) -> Result<BTreeMap<Key, &Change>, Memory>
-    ensures { IfOk result (λ rows. shown rows.entries ≡ by_key (flat_map (λ shard. shard.region.rows) shards.now)) }
+    ensures { IfOk result (λ rows. shown rows.entries ≡ by_key (λ row. row.key) (flat_map (λ shard. shard.region.rows) shards.now)) }
 {
     let mut rows = BTreeMap::new(alloc);
     for shard in shards {
-        gather(alloc, &mut rows, shard)?;
+        gather(alloc, &mut rows, shard.region.rows.as_slice())?;
     }
     Ok(rows)
 }
@@ -39,8 +71,5 @@ fn gather_all(alloc: Global, shards: &[ShardRecord]) -> Result<BTreeMap<Key, &Ch
 pub fn put_rows(alloc: Global, out: &mut Vec<u8>, shards: &[ShardRecord]) -> Result<(), Memory>
     ensures { OnOk result (out.new.items ≡ out.old.items ++ flat_map row_line (rows_of shards.now)) }
 {
-    for row in gather_all(alloc, shards)?.values() {
-        row.put(alloc, out)?;
-    }
-    Ok(())
+    put_gathered(alloc, out, &gather_all(alloc, shards)?)
 }

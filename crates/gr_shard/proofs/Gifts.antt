@@ -7,7 +7,7 @@ use Rattle.std.specs.List.{AllByRecursion}
 use Rattle.gr_history.specs.declared.identity.Identity.{Identity}
 use Rattle.gr_history.specs.declared.image.What.{What}
 use Rattle.gr_history.specs.declared.deed.Deed.{Deed}
-use Rattle.gr_history.specs.declared.deed.Deed.TheVariants.{Call, Taken, Gave, Imaged, Reported, Heard, Swept}
+use Rattle.gr_history.specs.declared.deed.Deed.TheVariants.{Call, Asked, Taken, Gave, Imaged, Reported, Heard, Swept}
 use Rattle.gr_history.specs.Gifts.{own_changes}
 use Rattle.gr_history.specs.Made.{made, made_at}
 use Rattle.gr_history.specs.Recipients.{gave_to, is_recipient, member_bits, recipients}
@@ -20,6 +20,7 @@ use Rattle.gr_shard.proofs.Slots.{stands_unchanged}
 at_most_one : (deed : Deed) → reverse (made_at deed) ≡ made_at deed
 at_most_one (Call client seq ask reply None to) = refl
 at_most_one (Call client seq ask reply (Some change) to) = refl
+at_most_one (Asked client seq ask reply) = refl
 at_most_one (Taken change verdict) = refl
 at_most_one (Gave to what) = refl
 at_most_one (Imaged image) = refl
@@ -97,7 +98,6 @@ kept_new id opening to place aimed =
       of_shard = tt;
       stands = λ key. refl;
       noted = refl;
-      within = omega arith;
       floored = refl;
       low = place.opening_floor;
       clocked = refl;
@@ -124,7 +124,6 @@ module _ (id : Identity) (opening : ℕ) (now : Kept) (past : List Deed) where
         of_shard = kept.of_shard;
         stands = stands_unchanged now.slots (Gave to what) past (λ key. refl) kept.stands;
         noted = kept.noted;
-        within = kept.within;
         floored = kept.floored;
         low = kept.low;
         clocked = kept.clocked;

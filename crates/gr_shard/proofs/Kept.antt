@@ -45,9 +45,6 @@ made_wins id opening past key change made q same =
     makes_win id opening past key change made (standing q past)
     (subst (λ k. change.stamp.ver ≡ 1 + max (ver_of (standing k past)) (floor opening past)) here_is made.ver_is)
 
-top_within : (member : ℕ) (id : Id) (before : List Id) → id.rv ≤ LIMIT → top member before ≤ LIMIT → top member (id ∷ before) ≤ LIMIT
-top_within member id before new old = grind (arith, nat_tests)
-
 -- the slots once a call made this, if anything
 slots_called : (id : Identity) (opening : ℕ) (now : Kept) (past : List Deed) (client seq : ℕ) (ask : Ask) (reply : Reply)
     (made : Option Change)
@@ -69,7 +66,7 @@ of_shard_taken id past change Discarded here all = (here, all)
 of_shard_taken id past change Repeat here all = all
 
 -- what a verdict says of the change and what stands
-verdict_wins : (known : Bool) (stands : Option Change) (change : Change) → verdict_over known stands change ≡ Applied
+pub verdict_wins : (known : Bool) (stands : Option Change) (change : Change) → verdict_over known stands change ≡ Applied
     → wins change stands ≡ true
 verdict_wins true stands change is = absurd cc
 verdict_wins false None change is = refl
@@ -79,7 +76,7 @@ verdict_wins false (Some before) change is = at_test (beats change.stamp before.
     at_test true e = refl
     at_test false e = absurd cc
 
-verdict_loses : (known : Bool) (stands : Option Change) (change : Change) → verdict_over known stands change ≡ Discarded
+pub verdict_loses : (known : Bool) (stands : Option Change) (change : Change) → verdict_over known stands change ≡ Discarded
     → wins change stands ≡ false
 verdict_loses true stands change is = absurd cc
 verdict_loses false None change is = absurd cc
@@ -96,7 +93,8 @@ at_its_key past change win is q same =
     subst (λ k. wins change (standing k past) ≡ win) ((bytes_eq-Decides change.key q).0 same) is
 
 -- the slots once a change was taken in
-slots_taken : (id : Identity) (opening : ℕ) (now : Kept) (past : List Deed) (change : Change) (told : Verdict) → IsKept id opening now past
+slots_taken : (id : Identity) (opening : ℕ) (now : Kept) (past : List Deed) (change : Change) (told : Verdict) → IsKept id opening now
+  past
     → told ≡ verdict past change → Stands (with_change (applied told change) now.clock now.slots) (Taken change told ∷ past)
 slots_taken id opening now past change Applied kept is =
     let win = at_its_key past change true
@@ -126,7 +124,6 @@ module _ (id : Identity) (opening : ℕ) (now : Kept) (past : List Deed) where
     of_shard = kept.of_shard;
     stands = slots_called id opening now past client seq ask reply None to kept gives;
     noted = kept.noted;
-    within = kept.within;
     floored = kept.floored;
     low = kept.low;
     clocked = kept.clocked;
@@ -138,14 +135,12 @@ module _ (id : Identity) (opening : ℕ) (now : Kept) (past : List Deed) where
   }
   kept_called client seq ask reply (Some change) to kept here gives =
       let is = made_by_call id opening past ask reply change to gives in
-      let below : max (reach opening (key_of ask) past) (last_rv id past) < LIMIT = is.below in
       record {
         place = kept.place;
         lawful = (gives, kept.lawful);
         of_shard = (ap (λ k. shard_of k id.shards) is.key_is ∙ here, kept.of_shard);
         stands = slots_called id opening now past client seq ask reply (Some change) to kept gives;
         noted = ap (with_id (id_of change)) kept.noted;
-        within = top_within id.member (id_of change) (ids past) (omega (arith, is.rv_is)) kept.within;
         floored = kept.floored;
         low = kept.low;
         clocked = kept.clocked;
@@ -158,18 +153,17 @@ module _ (id : Identity) (opening : ℕ) (now : Kept) (past : List Deed) where
 
   -- Kept before a change is taken in, all is kept after it.
   pub kept_taken : (change : Change) (told : Verdict) → IsKept id opening now past → shard_of change.key id.shards ≡ id.shard
-      → change.stamp.rv ≤ LIMIT → told ≡ verdict past change
+      → told ≡ verdict past change
       → IsKept id opening
       (record now { slots = with_change (applied told change) now.clock now.slots; vector = with_id (id_of change) now.vector })
       (Taken change told ∷ past)
   unfolding recipients
-  kept_taken change told kept here low is = record {
+  kept_taken change told kept here is = record {
     place = kept.place;
     lawful = (is, kept.lawful);
     of_shard = of_shard_taken id past change told here kept.of_shard;
     stands = slots_taken id opening now past change told kept is;
     noted = ap (with_id (id_of change)) kept.noted;
-    within = top_within id.member (id_of change) (ids past) low kept.within;
     floored = kept.floored;
     low = kept.low;
     clocked = kept.clocked;

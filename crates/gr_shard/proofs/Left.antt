@@ -67,7 +67,7 @@ with_key-sorted key (first ∷ keys) sorted = at_order (slice_cmp nat_cmp key fi
         let less : slice_cmp nat_cmp first key ≡ Less = total.antisymm first key ∙ ap ordering_reverse is in
         (after_with_key first key keys less sorted.0, rest)
 
-keys_of-sorted : (all : List Change) → IsStrictlySortedBy (slice_cmp nat_cmp) (keys_of all)
+pub keys_of-sorted : (all : List Change) → IsStrictlySortedBy (slice_cmp nat_cmp) (keys_of all)
 unfolding IsStrictlySortedBy
 keys_of-sorted [] = tt
 keys_of-sorted (change ∷ past) = with_key-sorted change.key (keys_of past) (keys_of-sorted past)

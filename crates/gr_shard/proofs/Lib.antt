@@ -1,7 +1,10 @@
+pub mod Fits
 pub mod Gifts
 pub mod Kept
 pub mod Left
 pub mod Made
+pub mod Merges
+pub mod Ordered
 pub mod Pushed
 pub mod Puts
 pub mod Reports

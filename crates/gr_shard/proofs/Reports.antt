@@ -21,7 +21,6 @@ module _ (id : Identity) (opening : ℕ) (now : Kept) (past : List Deed) where
     of_shard = kept.of_shard;
     stands = stands_unchanged now.slots (Reported report) past (λ key. refl) kept.stands;
     noted = kept.noted;
-    within = kept.within;
     floored = kept.floored;
     low = kept.low;
     clocked = kept.clocked;
@@ -41,7 +40,6 @@ module _ (id : Identity) (opening : ℕ) (now : Kept) (past : List Deed) where
     of_shard = kept.of_shard;
     stands = stands_unchanged now.slots (Heard report) past (λ key. refl) kept.stands;
     noted = kept.noted;
-    within = kept.within;
     floored = kept.floored;
     low = kept.low;
     clocked = kept.clocked;

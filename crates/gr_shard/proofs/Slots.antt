@@ -42,7 +42,7 @@ pub stands_unchanged : (slots : Entries) (deed : Deed) (past : List Deed)
 stands_unchanged slots deed past same stands key = stands key ∙ sym (unchanged key deed past (same key))
 
 -- a change that wins stands from now on
-won_slot : (change : Change) (before : Option Change) (now then_ : ℕ) → wins change before ≡ true
+pub won_slot : (change : Change) (before : Option Change) (now then_ : ℕ) → wins change before ≡ true
     → slot_of (Some change) (if is_same_standing (Some change) before then then_ else now) ≡ Some (slot_from change now)
 won_slot change None now then_ win = refl
 won_slot change (Some before) now then_ win = rw (beats_apart change before win) refl

@@ -258,7 +258,6 @@ module _ (id : Identity) (opening moment : ℕ) (now : Kept) (past : List Deed) 
     of_shard = kept.of_shard;
     stands = stands_swept now.slots moment expired past ordered kept.stands;
     noted = kept.noted;
-    within = kept.within;
     floored =
         risen-greatest now.slots past now.floor expired
         (λ key. ap slot_ver (kept.stands key) ∙ slot_ver-slot_of (standing key past) (since key past))

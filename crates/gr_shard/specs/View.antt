@@ -3,8 +3,8 @@ use Rattle.std.specs.Prelude.{◌≡◌, ℕ, ◌≤◌, ◌<◌, List, Bool, le
 use Rattle.gr_stamp.specs.declared.stamp.TheConstants.{LIMIT}
 use Rattle.gr_history.specs.declared.identity.Identity.{Identity}
 use Rattle.gr_history.specs.declared.deed.Deed.{Deed}
-use Rattle.gr_vector.specs.Ids.{Id, top}
-use Rattle.gr_history.specs.Ids.{ids, known}
+use Rattle.gr_vector.specs.Ids.{Id}
+use Rattle.gr_history.specs.Ids.{known}
 use Rattle.gr_history.specs.Standing.{standing}
 use Rattle.gr_history.specs.Floor.{floor as floor_of}
 use Rattle.gr_history.specs.Clock.{clock as clock_of, since}
@@ -65,7 +65,6 @@ pub record IsKept (id : Identity) (opening : ℕ) (now : Kept) (past : List Deed
   pub of_shard : IsOfShard id past
   pub stands : (key : List ℕ) → slot_at key now.slots ≡ slot_of (standing key past) (since key past)
   pub noted : now.vector ≡ known past
-  pub within : top id.member (ids past) ≤ LIMIT
   pub floored : now.floor ≡ floor_of opening past
   pub low : now.floor ≤ LIMIT
   pub clocked : now.clock ≡ clock_of past

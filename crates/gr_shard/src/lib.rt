@@ -4,6 +4,7 @@
 mod entering;
 mod giving;
 mod making;
+mod merging;
 mod regions;
 mod shard;
 mod sweeping;

@@ -1,9 +1,7 @@
-ghost use Rattle.std.specs.Prelude.{◌≡◌, ◌≤◌, [], Some, IfOk, option_copied};
+ghost use Rattle.std.specs.Prelude.{◌≡◌, ◌≤◌, [], IfOk, option_copied};
 ghost use Rattle.gr_history.specs.declared.deed.Deed.TheVariants as deed;
 ghost use Rattle.gr_history.specs.Recipients.{member_bits};
 ghost use Rattle.gr_history.specs.Calls.{nothing_made};
-ghost use Rattle.gr_stamp.specs.declared.change.Change.{Change as ChangeOf};
-ghost use Rattle.gr_stamp.specs.declared.stamp.TheConstants.{LIMIT};
 ghost use Rattle.gr_shard.specs.Entries.{with_made};
 ghost use Rattle.gr_shard.specs.Gifts.{goes_to};
 
@@ -39,8 +37,7 @@ pub fn recipients(id: Identity, given: &[bool; 8]) -> u8
 /// Notes what was made or taken in, for which there is room.
 pub fn note(vector: &mut Vector, made: Option<&Change>)
     requires { 1 ≤ vector.old.spare }
-    ensures ids { vector.new.ids ≡ with_made (option_copied made.entry) vector.old.ids }
-    ensures within { (change : ChangeOf) → option_copied made.entry ≡ Some change → change.stamp.rv ≤ LIMIT }
+    ensures { vector.new.ids ≡ with_made (option_copied made.entry) vector.old.ids }
 {
     if let Some(change) = made {
         let _ = vector.note(change.stamp.member(), change.stamp.rv());

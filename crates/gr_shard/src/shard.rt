@@ -16,6 +16,7 @@ ghost use Rattle.gr_history.specs.Gifts.{IsGiftOf, IsImageOf, IsReportOf};
 ghost use Rattle.gr_stamp.specs.Winner.{put_value};
 ghost use Rattle.gr_shard.specs.Entries.{slot_of, slot_ver};
 ghost use Rattle.gr_history.specs.Stable.{due};
+ghost use Rattle.gr_shard.specs.Merges.{IsGiftFor, IsImageFor};
 ghost use Rattle.gr_shard.specs.Records.{IsRecordOf};
 ghost use Rattle.gr_shard.specs.Sweeps.{stands_stable};
 ghost use Rattle.gr_shard.specs.View.{IsPlace};
@@ -23,6 +24,7 @@ ghost use Rattle.gr_shard.specs.View.{IsPlace};
 use crate::entering::{applied, enter, value_of, ver_of, verdict_at};
 use crate::giving::{own_changes, standing};
 use crate::making::{deed_of, note, nothing_made, recipients};
+use crate::merging::merged;
 use crate::regions::region;
 use crate::sweeping::{drop_all, risen};
 use crate::told::tells;
@@ -55,9 +57,13 @@ pub struct Shard {
 
 impl Model for Shard {
     ghost use Rattle.std.specs.Prelude.{reverse};
+    ghost use Rattle.std.specs.Coded.{codes};
+    ghost use Rattle.gr_oql.specs.Question.{question_code};
     ghost use Rattle.gr_shard.specs.View.{Account, IsKept, kept};
 
     ghost Value = { Account };
+
+    ghost coded = { Prim.hlevel (codes, question_code) };
 
     ghost view = { λ shard. record { id = shard.id; opening = shard.opening; deeds = shard.history.deeds } };
 
@@ -170,6 +176,7 @@ impl Shard {
         requires from { 1 ≤ to }
         requires stated { to ≤ self.old.id.members }
         ensures gift { IfOk result (IsGiftOf self.old.id.member self.old.opening (reverse self.old.deeds) what) }
+        ensures fits { IfOk result (IsGiftFor self.old.id) }
         ensures added { OnOk result (self.new ≡ record self.old { deeds = self.old.deeds ++ deed.Gave to what ∷ [] }) }
         ensures err { OnErr result (self.new ≡ self.old) }
     {
@@ -179,6 +186,26 @@ impl Shard {
         self.to = recipients(self.id, &self.given);
         let _ = self.history.push(Deed::Gave { to, what });
         Ok(gift)
+    }
+
+    /// Merges an image that another member gave of this shard, and adds that to the history. From then
+    /// on calls are answered here. Takes time in proportion to the image and the slots.
+    pub fn merge(&mut self, alloc: Global, image: &Image) -> Result<(), Memory>
+        requires { IsImageFor self.old.id image.now }
+        ensures added { OnOk result (self.new ≡ record self.old { deeds = self.old.deeds ++ deed.Imaged image.now ∷ [] }) }
+        ensures err { OnErr result (self.new ≡ self.old) }
+    {
+        let slots = merged(alloc, &self.slots, image, &self.vector, self.clock)?;
+        let deed = Deed::Imaged {
+            image: image.copy(alloc)?,
+        };
+        self.history.reserve(1)?;
+        self.vector.unite(&image.vector)?;
+        self.slots = slots;
+        self.floor = image.floor.max(self.floor);
+        self.joined = true;
+        let _ = self.history.push(deed);
+        Ok(())
     }
 
     /// Drops the tombstones that have timed out at a moment, in seconds, or at the greatest moment so
@@ -289,7 +316,8 @@ impl Shard {
 
     // What is given now.
     fn gift(&self, alloc: Global, what: What) -> Result<Gift, Memory>
-        ensures { IfOk result (IsGiftOf self.now.id.member self.now.opening (reverse self.now.deeds) what) }
+        ensures gift { IfOk result (IsGiftOf self.now.id.member self.now.opening (reverse self.now.deeds) what) }
+        ensures fits { IfOk result (IsGiftFor self.now.id) }
     {
         match what {
             What::Image => Ok(Gift::Image(self.image(alloc)?)),
@@ -299,7 +327,9 @@ impl Shard {
 
     // All that stands, removals too.
     fn image(&self, alloc: Global) -> Result<Image, Memory>
-        ensures { IfOk result (IsImageOf self.now.id.member self.now.opening (reverse self.now.deeds)) }
+        ensures image { IfOk result (IsImageOf self.now.id.member self.now.opening (reverse self.now.deeds)) }
+        ensures fits { IfOk result (IsImageFor self.now.id) }
+        ensures room { IfOk result (λ image. image.vector.spare ≡ 0) }
     {
         Ok(Image {
             from: self.id.member,

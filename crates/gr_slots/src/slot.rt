@@ -2,7 +2,8 @@ ghost use Rattle.std.specs.Prelude.{◌≡◌, option_copied};
 ghost use Rattle.gr_stamp.specs.Winner.{put_value};
 
 use gr_stamp::{Kind, Stamp};
-use gr_value::Value;
+use gr_value::{Copied, Memory, Value};
+use std::alloc::Global;
 
 /// What stands at a key: a put, or a removal as a tombstone, with its stamp and the shard's clock when
 /// it came in, in seconds.
@@ -22,5 +23,15 @@ impl Slot {
             Kind::Put(value) => Some(value),
             Kind::Remove => None,
         }
+    }
+}
+
+impl Copied for Slot {
+    fn copy(&self, alloc: Global) -> Result<Slot, Memory> {
+        Ok(Slot {
+            kind: self.kind.copy(alloc)?,
+            stamp: self.stamp,
+            taken_at: self.taken_at,
+        })
     }
 }

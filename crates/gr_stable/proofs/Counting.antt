@@ -6,7 +6,7 @@ use Rattle.gr_vector.specs.Ids.{Id, has_id, covers}
 use Rattle.gr_vector.proofs.Order.{has_united}
 use Rattle.gr_history.specs.declared.identity.Identity.{Identity}
 use Rattle.gr_history.specs.declared.deed.Deed.{Deed}
-use Rattle.gr_history.specs.declared.deed.Deed.TheVariants.{Call, Taken, Gave, Imaged, Reported, Heard, Swept}
+use Rattle.gr_history.specs.declared.deed.Deed.TheVariants.{Call, Asked, Taken, Gave, Imaged, Reported, Heard, Swept}
 use Rattle.gr_history.specs.Ids.{ids, known}
 use Rattle.gr_history.specs.Stable.{last_heard, is_covered, is_stable_upto, is_stable}
 use Rattle.gr_stable.specs.Heard.{heard, heard_from, heard_after, with_report_from, is_stable_by}
@@ -28,6 +28,7 @@ heard_as deed past same member (suc n) =
 pub heard_next : (deed : Deed) (past : List Deed) → heard (deed ∷ past) ≡ heard_after deed (heard past)
 unfolding heard
 heard_next (Call client seq ask reply made to) past = heard_as (Call client seq ask reply made to) past (λ member. refl) 1 8
+heard_next (Asked client seq ask reply) past = heard_as (Asked client seq ask reply) past (λ member. refl) 1 8
 heard_next (Taken change verdict) past = heard_as (Taken change verdict) past (λ member. refl) 1 8
 heard_next (Gave to what) past = heard_as (Gave to what) past (λ member. refl) 1 8
 heard_next (Imaged image) past = heard_as (Imaged image) past (λ member. refl) 1 8

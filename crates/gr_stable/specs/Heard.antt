@@ -4,7 +4,7 @@ use Rattle.std.specs.Prelude.{Option, Some, None, if◌then◌else◌}
 use Rattle.gr_vector.specs.declared.report.Report.{Report}
 use Rattle.gr_vector.specs.Ids.{Id}
 use Rattle.gr_history.specs.declared.deed.Deed.{Deed}
-use Rattle.gr_history.specs.declared.deed.Deed.TheVariants.{Call, Taken, Gave, Imaged, Reported, Heard, Swept}
+use Rattle.gr_history.specs.declared.deed.Deed.TheVariants.{Call, Asked, Taken, Gave, Imaged, Reported, Heard, Swept}
 use Rattle.gr_history.specs.Stable.{is_later, last_heard, is_covered}
 
 -- of each member the report that counts, the first member's at the beginning
@@ -36,6 +36,7 @@ with_report report reports = with_report_from 1 report reports
 -- the reports that count after a deed
 abbrev pub heard_after : Deed → Reports → Reports
 heard_after (Call client seq ask reply made to) reports = reports
+heard_after (Asked client seq ask reply) reports = reports
 heard_after (Taken change verdict) reports = reports
 heard_after (Gave to what) reports = reports
 heard_after (Imaged image) reports = reports

@@ -148,6 +148,7 @@ impl Missing {
 
     pub fn top(&self) -> u64
         ensures top { result ≡ greatest self.now.gaps }
+        ensures within { result < END }
         ensures held { 1 ≤ result → holds result self.now.gaps ≡ true }
     {
         self.gaps[self.gaps.len() - 1].first - 1

@@ -115,7 +115,8 @@ impl Vector {
     pub fn top(&self, member: u8) -> u64
         requires a_member { 1 ≤ member }
         requires of_eight { member ≤ 8 }
-        ensures { result ≡ top member self.now.ids }
+        ensures top { result ≡ top member self.now.ids }
+        ensures within { result < END }
     {
         self.members[usize::from(member) - 1].top()
     }

@@ -6,7 +6,7 @@ use Rattle.gr_value.specs.Shard.{shard_of}
 use Rattle.gr_stamp.specs.declared.change.Change.{Change}
 use Rattle.gr_vector.specs.declared.report.Report.{Report}
 use Rattle.gr_history.specs.declared.deed.Deed.{Deed}
-use Rattle.gr_history.specs.declared.deed.Deed.TheVariants.{Call, Taken, Gave, Imaged, Reported, Heard, Swept}
+use Rattle.gr_history.specs.declared.deed.Deed.TheVariants.{Call, Asked, Taken, Gave, Imaged, Reported, Heard, Swept}
 use Rattle.gr_history.specs.Asks.{key_of}
 use Rattle.gr_history.specs.Made.{made, made_at}
 use Rattle.gr_history.specs.Lawful.{IsLawful, IsLawfulDeed, AreInOrder}
@@ -125,6 +125,7 @@ made_by_made heading client number (Peeked own seq key value at ∷ before) chan
 reports_made : (report : Report) (past : List Deed) → Among report (reports past) → Among (Reported report) past
 reports_made report [] a = absurd a
 reports_made report (Call client seq ask reply made to ∷ past) a = inr (reports_made report past a)
+reports_made report (Asked client seq ask reply ∷ past) a = inr (reports_made report past a)
 reports_made report (Taken change how ∷ past) a = inr (reports_made report past a)
 reports_made report (Gave to what ∷ past) a = inr (reports_made report past a)
 reports_made report (Imaged image ∷ past) a = inr (reports_made report past a)

@@ -14,7 +14,7 @@ use Rattle.gr_history.specs.declared.reply.Reply.TheVariants.{Limit, NotReady}
 use Rattle.gr_history.specs.declared.reply.Told.{Told}
 use Rattle.gr_history.specs.declared.identity.Identity.{Identity}
 use Rattle.gr_history.specs.declared.deed.Deed.{Deed}
-use Rattle.gr_history.specs.declared.deed.Deed.TheVariants.{Call, Taken, Gave, Imaged, Reported, Heard, Swept}
+use Rattle.gr_history.specs.declared.deed.Deed.TheVariants.{Call, Asked, Taken, Gave, Imaged, Reported, Heard, Swept}
 use Rattle.gr_history.specs.Asks.{key_of, told as table}
 use Rattle.gr_history.specs.Calls.{call_gives, given, nothing_made, made_change, reach, last_rv}
 use Rattle.gr_history.specs.Recipients.{recipients, is_ready}
@@ -156,6 +156,7 @@ pub one_deed : (id : Identity) (opening : ℕ) (past : List Deed) (deed : Deed) 
     → deed ≡ deed_of id opening past doing
 one_deed id opening past (Call client number ask reply made to) doing says law =
     subst (λ d. Call client number ask reply made to ≡ deed_of id opening past d) (sym says) (ap (call_with client number ask) law)
+one_deed id opening past (Asked client number ask reply) doing says law = absurd says
 one_deed id opening past (Taken change how) doing says law =
     subst (λ d. Taken change how ≡ deed_of id opening past d) (sym says) (ap (Taken change) law)
 one_deed id opening past (Gave to what) doing says law = subst (λ d. Gave to what ≡ deed_of id opening past d) (sym says) refl

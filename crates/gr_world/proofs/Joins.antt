@@ -1,5 +1,6 @@
 -- A joiner is given one image, by a founder, and changes that were made.
-use Rattle.std.proofs.Common.{suc, ◌≡◌, ◌⊎◌, ℕ, ◌+◌, ◌≤◌, ◌<◌, List, [], ◌∷◌, Bool, true, false, ◌==◌, refl, sym, ap, ◌∙◌, subst, inl, inr}
+use Rattle.std.proofs.Common.{suc, ◌≡◌, ◌⊎◌, ℕ, ◌+◌, ◌≤◌, ◌<◌, List, [], ◌∷◌, Bool, true, false, ◌==◌, refl, sym, ap, ◌∙◌, subst}
+use Rattle.std.proofs.Common.{inl, inr}
 use Rattle.std.proofs.Common.{arith, reverse, length, if◌then◌else◌}
 use Rattle.std.specs.Prelude.{Option, Some, None, nat_le}
 use Rattle.std.proofs.lemmas.Bool.Decides.{nat_tests}
@@ -34,7 +35,7 @@ use Rattle.gr_world.specs.Courses.{identity_at, does, for_each, delivers, hears,
 use Rattle.gr_world.specs.Causes.{grid_at, IsCausal}
 use Rattle.std.proofs.lemmas.Grind.{reverse_onto}
 use Rattle.gr_world.proofs.Events.{equal_numbers, history_here, more_made, no_image, other_shard, Spares}
-use Rattle.gr_world.proofs.Ordered.{standing_in_order}
+use Rattle.gr_shard.proofs.Ordered.{standing_in_order}
 use Rattle.gr_world.proofs.Whole.{whole_course}
 use Rattle.gr_world.proofs.Causes.{does_causal, each_keeps}
 

@@ -1,6 +1,5 @@
 pub mod Events
 pub mod Whole
-pub mod Ordered
 pub mod Causes
 pub mod Joins
 pub mod Causal

@@ -11,6 +11,7 @@ use Rattle.gr_world.specs.Clients.{AreServed}
 use Rattle.gr_law.proofs.Reached.{law_0-holds}
 use Rattle.gr_law.proofs.Took.{law_1-holds}
 use Rattle.gr_law.proofs.Late.{law_2-holds}
+use Rattle.gr_law.proofs.Queries.{law_queries-holds}
 use Rattle.gr_law.proofs.Held.{law_3-holds, law_4-holds, law_5-holds, same_value-holds}
 use Rattle.gr_script.specs.Rules.{IsScript}
 use Rattle.gr_world.specs.Histories.{IsLawAbiding}
@@ -35,6 +36,7 @@ whole_abiding grid whole = record {
   same = same_value-holds grid whole;
   no_removed = law_4-holds grid whole;
   one_history = law_5-holds grid whole.sound;
+  queries = law_queries-holds grid whole.sound;
 }
 
 pub script_abiding : (heading : Heading) (lines : List Line) → IsScript heading lines → (shard : ℕ)

@@ -2,7 +2,7 @@
 use Rattle.std.specs.Prelude.{◌≡◌, ℕ, List, [], ◌∷◌, length}
 use Rattle.gr_value.specs.Shard.{shard_of}
 use Rattle.gr_history.specs.declared.deed.Deed.{Deed}
-use Rattle.gr_history.specs.declared.deed.Deed.TheVariants.{Call, Taken, Gave, Imaged, Reported, Heard, Swept}
+use Rattle.gr_history.specs.declared.deed.Deed.TheVariants.{Call, Asked, Taken, Gave, Imaged, Reported, Heard, Swept}
 use Rattle.gr_history.specs.Asks.{key_of}
 use Rattle.gr_history.specs.Standing.{present}
 use Rattle.gr_law.specs.Grids.{Grid}
@@ -21,10 +21,11 @@ grid_at heading shard course = record {
   history = λ member. history member shard course;
 }
 
--- A call stands at its client's member, in the shard of its key.
+-- A call stands at its client's member, in the shard of its key. A query's step stands at its client's member.
 abbrev pub IsPlaced : Heading → ℕ → ℕ → Deed → Type 0
 IsPlaced heading member shard (Call client seq ask reply made to) =
     (member ≡ home_of heading client) × (shard ≡ shard_of (key_of ask) heading.shards)
+IsPlaced heading member shard (Asked client seq ask reply) = member ≡ home_of heading client
 IsPlaced heading member shard (Taken change verdict) = Unit {0}
 IsPlaced heading member shard (Gave to what) = Unit {0}
 IsPlaced heading member shard (Imaged image) = Unit {0}

@@ -5,7 +5,7 @@ use Rattle.gr_value.specs.Shard.{shard_of}
 use Rattle.gr_stamp.specs.declared.change.Change.{Change}
 use Rattle.gr_history.specs.declared.ask.Ask.{Ask}
 use Rattle.gr_history.specs.declared.deed.Deed.{Deed}
-use Rattle.gr_history.specs.declared.deed.Deed.TheVariants.{Call, Taken, Gave, Imaged, Reported, Heard, Swept}
+use Rattle.gr_history.specs.declared.deed.Deed.TheVariants.{Call, Asked, Taken, Gave, Imaged, Reported, Heard, Swept}
 use Rattle.gr_history.specs.declared.record.Answer.{Answer}
 use Rattle.gr_history.specs.declared.record.Answer.TheVariants as answer
 use Rattle.gr_history.specs.declared.reply.Reply.{Reply}
@@ -33,6 +33,7 @@ pub record Asking : Type 0 where
 
 abbrev pub asking_of : Deed → Option Asking
 asking_of (Call client seq ask reply made to) = Some (record { client = client; number = seq; ask = ask })
+asking_of (Asked client seq ask reply) = None
 asking_of (Taken change verdict) = None
 asking_of (Gave to what) = None
 asking_of (Imaged image) = None
@@ -83,6 +84,7 @@ pub record Numbered : Type 0 where
 abbrev pub told_by_deed : ℕ → Deed → Option Numbered
 told_by_deed client (Call own seq ask reply made to) =
     if own == client then Some (record { number = seq; answer = answer.Reply reply }) else None
+told_by_deed client (Asked client seq ask reply) = None
 told_by_deed client (Taken change verdict) = None
 told_by_deed client (Gave to what) = None
 told_by_deed client (Imaged image) = None

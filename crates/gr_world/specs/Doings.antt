@@ -9,7 +9,7 @@ use Rattle.gr_history.specs.declared.identity.Identity.{Identity}
 use Rattle.gr_history.specs.declared.image.Image.{Image}
 use Rattle.gr_history.specs.declared.image.What.{What}
 use Rattle.gr_history.specs.declared.deed.Deed.{Deed}
-use Rattle.gr_history.specs.declared.deed.Deed.TheVariants.{Call, Taken, Gave, Imaged, Reported, Heard, Swept}
+use Rattle.gr_history.specs.declared.deed.Deed.TheVariants.{Call, Asked, Taken, Gave, Imaged, Reported, Heard, Swept}
 use Rattle.gr_history.specs.Calls.{call_gives}
 use Rattle.gr_history.specs.Floor.{floor}
 use Rattle.gr_history.specs.Ids.{ids, known}
@@ -59,9 +59,11 @@ deed_of id opening past Reports = Reported (report_of id.member past)
 deed_of id opening past (Hears report) = Heard report
 deed_of id opening past (Sweeps moment) = Swept moment (due id moment past)
 
--- a deed says that this was done, and a report that was made has a vector with no room to spare
+-- A deed says that this was done, and a report that was made has a vector with no room to spare. Nothing that is
+-- done asks of a query yet.
 abbrev pub Says : Deed → Doing → Type 0
 Says (Call client seq ask reply made to) doing = doing ≡ Calls client seq ask
+Says (Asked client seq ask reply) doing = ⊥
 Says (Taken change told) doing = doing ≡ Takes change
 Says (Gave to what) doing = doing ≡ Gives to what
 Says (Imaged image) doing = doing ≡ Merges image

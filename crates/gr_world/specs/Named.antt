@@ -3,12 +3,13 @@ use Rattle.std.specs.Prelude.{ℕ, suc, List, [], ◌∷◌, ◌&&◌, ◌==◌,
 use Rattle.gr_stamp.specs.declared.change.Change.{Change}
 use Rattle.gr_vector.specs.declared.report.Report.{Report}
 use Rattle.gr_history.specs.declared.deed.Deed.{Deed}
-use Rattle.gr_history.specs.declared.deed.Deed.TheVariants.{Call, Taken, Gave, Imaged, Reported, Heard, Swept}
+use Rattle.gr_history.specs.declared.deed.Deed.TheVariants.{Call, Asked, Taken, Gave, Imaged, Reported, Heard, Swept}
 use Rattle.gr_world.specs.Events.{Event, Did, Peeked}
 
 -- what a deed made, where it is this step of the client
 abbrev pub made_by_deed : ℕ → ℕ → Deed → Option Change
 made_by_deed client number (Call own seq ask reply made to) = if own == client && seq == number then made else None
+made_by_deed client number (Asked client seq ask reply) = None
 made_by_deed client number (Taken change verdict) = None
 made_by_deed client number (Gave to what) = None
 made_by_deed client number (Imaged image) = None
@@ -30,6 +31,7 @@ made_by client number (Peeked own seq key value at ∷ before) = made_by client 
 abbrev pub reports : List Deed → List Report
 reports [] = []
 reports (Call client seq ask reply made to ∷ past) = reports past
+reports (Asked client seq ask reply ∷ past) = reports past
 reports (Taken change verdict ∷ past) = reports past
 reports (Gave to what ∷ past) = reports past
 reports (Imaged image ∷ past) = reports past

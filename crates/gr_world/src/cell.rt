@@ -22,10 +22,14 @@ pub struct Cell {
 
 impl Model for Cell {
     ghost use Rattle.std.specs.Prelude.{◌≡◌, reverse};
+    ghost use Rattle.std.specs.Coded.{codes};
+    ghost use Rattle.gr_oql.specs.Question.{question_code};
     ghost use Rattle.gr_shard.specs.View.{Account};
     ghost use Rattle.gr_world.specs.Named.{reports};
 
     ghost Value = { Account };
+
+    ghost coded = { Prim.hlevel (codes, question_code) };
 
     ghost view = { λ cell. cell.shard };
 

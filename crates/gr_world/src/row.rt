@@ -21,9 +21,13 @@ pub struct Row {
 
 impl Model for Row {
     ghost use Rattle.std.specs.Prelude.{List};
+    ghost use Rattle.std.specs.Coded.{codes};
+    ghost use Rattle.gr_oql.specs.Question.{question_code};
     ghost use Rattle.gr_shard.specs.View.{Account};
 
     ghost Value = { List Account };
+
+    ghost coded = { Prim.hlevel (codes, question_code) };
 
     ghost view = { λ row. row.cells.items };
 }

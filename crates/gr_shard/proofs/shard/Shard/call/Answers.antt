@@ -23,10 +23,11 @@ invariant_of-self-2 c =
     ∙ ap (λ deeds. deeds ++ c.in_ok-deed.deed ∷ []) c.in_ok-reserve.ensures.deeds
     ∙ ap (λ deed. was.history.deeds ++ deed ∷ []) c.in_ok-deed.ensures in
     let noted : c.note.new.vector.ids ≡ with_made done.made was.vector.ids =
-    c.note.ensures.ids ∙ ap (λ m. with_made m c.reserve-2.new.self.ids) c.as_ref-made.ensures.value
+    c.note.ensures ∙ ap (λ m. with_made m c.reserve-2.new.self.ids) c.as_ref-made.ensures.value
     ∙ ap (λ v. with_made done.made v.ids) c.in_ok-reserve-2.ensures.room in
     let entered : c.enter.new.slots ≡ with_change done.made was.clock was.slots = c.in_ok-enter.ensures.ok
     ∙ ap (λ m. with_change m was.clock was.slots) c.as_ref-made.ensures.value in
     rw (pushed, reverse-append, noted, entered)
-    (kept_called was.id was.opening (kept was.slots was.vector.ids was.floor was.clock was.joined was.to was.heard was.given) past c.args.client c.args.seq
+    (kept_called was.id was.opening (kept was.slots was.vector.ids was.floor was.clock was.joined was.to was.heard was.given) past
+      c.args.client c.args.seq
     c.args.ask.now done.reply done.made done.to c.self.invariant here gives)

@@ -23,7 +23,7 @@ returns-in_default c =
     rw (← c.self.view_is)
     (c.nothing_made.ensures
     ∙ spent_here was.id was.opening past c.args.key.now c.args.reply c.args.kind c.max-base.result c.top-last.result
-    (max_is _ _ c.max-base.ensures stands kept.floored) (top_is was.id.member past c.top-last.ensures kept.noted)
+    (max_is _ _ c.max-base.ensures stands kept.floored) (top_is was.id.member past c.top-last.ensures.top kept.noted)
     kept.place.some_member (omega (arith, kept.place.stated, kept.place.few)) c.in_default.ensures)
 
 pub returns : goal.returns
@@ -35,13 +35,5 @@ returns c =
     rw (← c.self.view_is)
     (made_here was.id was.opening past c.args.key.now c.in_ok-key.key c.args.reply c.args.kind c.in-Some.stamp c.max-base.result
     c.top-last.result was.to
-    (max_is _ _ c.max-base.ensures stands kept.floored) (top_is was.id.member past c.top-last.ensures kept.noted)
+    (max_is _ _ c.max-base.ensures stands kept.floored) (top_is was.id.member past c.top-last.ensures.top kept.noted)
     kept.aimed c.in_ok-key.ensures (c.in-Some.ensures.0, sym c.in-Some.ensures.1))
-
-pub overflow_add-last : goal.overflow_add-last
-overflow_add-last c =
-    let kept = c.self.invariant in
-    let was = c.self.inside in
-    let last : c.top-last.result ≡ top was.id.member (ids (reverse was.history.deeds)) =
-    top_is was.id.member (reverse was.history.deeds) c.top-last.ensures kept.noted in
-    omega (arith, last, kept.within)

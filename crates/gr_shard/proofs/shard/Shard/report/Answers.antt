@@ -19,11 +19,12 @@ invariant_of-self-2 c =
     ∙ ap (λ deeds. deeds ++ Reported c.in_ok-copy-2.field-0 ∷ []) c.in_ok-reserve.ensures.deeds
     ∙ ap (λ copy. was.history.deeds ++ Reported copy ∷ []) c.in_ok-copy-2.ensures in
     rw (pushed, reverse-append)
-    (kept_reported was.id was.opening (kept was.slots was.vector.ids was.floor was.clock was.joined was.to was.heard was.given) past report
+    (kept_reported was.id was.opening (kept was.slots was.vector.ids was.floor was.clock was.joined was.to was.heard was.given) past
+      report
     c.self.invariant record {
       member_is = refl;
       at_is = c.len.ensures ∙ sym (length-reverse was.history.deeds);
-      own_is = c.top.ensures ∙ ap (top was.id.member) c.self.invariant.noted ∙ top_known was.id.member past;
+      own_is = c.top.ensures.top ∙ ap (top was.id.member) c.self.invariant.noted ∙ top_known was.id.member past;
       vector_is = ap (λ v. v.ids) (c.in_ok-new.ensures ∙ c.in_ok-copy.ensures) ∙ c.self.invariant.noted;
     })
 
@@ -34,6 +35,6 @@ returns-clause-report c =
     rw (← c.self.view_is) record {
       member_is = refl;
       at_is = c.len.ensures ∙ sym (length-reverse was.history.deeds);
-      own_is = c.top.ensures ∙ ap (top was.id.member) c.self.invariant.noted ∙ top_known was.id.member past;
+      own_is = c.top.ensures.top ∙ ap (top was.id.member) c.self.invariant.noted ∙ top_known was.id.member past;
       vector_is = ap (λ v. v.ids) (c.in_ok-new.ensures ∙ c.in_ok-copy.ensures) ∙ c.self.invariant.noted;
     }

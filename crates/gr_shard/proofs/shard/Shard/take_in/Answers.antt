@@ -1,7 +1,6 @@
-use Rattle.std.proofs.Common.{◌≡◌, ◌≤◌, ◌∙◌, ap, [], ◌∷◌, ◌++◌, reverse, refl}
+use Rattle.std.proofs.Common.{◌≡◌, ◌∙◌, ap, [], ◌∷◌, ◌++◌, reverse}
 use Rattle.std.proofs.lemmas.List.{reverse-append}
 use Rattle.gr_value.specs.Shard.{shard_of}
-use Rattle.gr_stamp.specs.declared.stamp.TheConstants.{LIMIT}
 use Rattle.gr_vector.specs.Order.{with_id}
 use Rattle.gr_history.specs.declared.deed.Deed.TheVariants.{Taken}
 use Rattle.gr_history.specs.Ids.{id_of}
@@ -25,10 +24,10 @@ invariant_of-self-2 c =
     ∙ ap (λ deeds. deeds ++ Taken c.in_ok-copy.field-0 told ∷ []) c.in_ok-reserve.ensures.deeds
     ∙ ap (λ copy. was.history.deeds ++ Taken copy told ∷ []) c.in_ok-copy.ensures in
     let noted : c.note.new.vector.ids ≡ with_id (id_of change) was.vector.ids =
-    c.note.ensures.ids ∙ ap (λ v. with_id (id_of change) v.ids) c.in_ok-reserve-2.ensures.room in
-    let low : change.stamp.rv ≤ LIMIT = c.note.ensures.within change refl in
+    c.note.ensures ∙ ap (λ v. with_id (id_of change) v.ids) c.in_ok-reserve-2.ensures.room in
     let entered : c.enter.new.slots ≡ with_change (applied told change) was.clock was.slots = c.in_ok-enter.ensures.ok
     ∙ ap (λ m. with_change m was.clock was.slots) c.applied.ensures in
     rw (pushed, reverse-append, noted, entered)
-    (kept_taken was.id was.opening (kept was.slots was.vector.ids was.floor was.clock was.joined was.to was.heard was.given) past change told
-    c.self.invariant here low is)
+    (kept_taken was.id was.opening (kept was.slots was.vector.ids was.floor was.clock was.joined was.to was.heard was.given) past change
+      told
+    c.self.invariant here is)

@@ -1,6 +1,7 @@
 use Rattle.std.proofs.Common.{◌≡◌, ◌-◌, sym, ap, subst, arith, true}
+use Rattle.gr_vector.specs.declared.gap.TheConstants.{END}
 use Rattle.gr_vector.specs.Gaps.{greatest, holds}
-use Rattle.gr_vector.proofs.Apart.{not_empty}
+use Rattle.gr_vector.proofs.Apart.{not_empty, start_below}
 use Rattle.gr_vector.proofs.Ends.{last_is, last_some, greatest_held}
 use Rattle.gr_vector.proofs.missing.Missing.top.Goals as goal
 
@@ -24,3 +25,13 @@ returns-clause-held c =
     (omega (arith, some, c.self.inside.gaps.ok)) c.index.ensures) in
     rw (← c.self.view_is) (λ k. subst (λ n. holds n c.self.inside.gaps.items ≡ true) is
     (greatest_held c.self.inside.gaps.items c.self.invariant (omega (arith, is, k))))
+
+pub returns-clause-within : goal.returns-clause-within
+returns-clause-within c =
+    let some = not_empty c.self.inside.gaps.items c.self.invariant in
+    let is = last_is (c.len.result - 1) c.index.result.now c.self.inside.gaps.items c.self.invariant
+    (omega (arith, some, c.self.inside.gaps.ok)) c.index.ensures in
+    let below = start_below 1 END 1 c.self.inside.gaps.items c.self.invariant.0 (omega arith) in
+    let first = last_some (c.len.result - 1) c.index.result.now c.self.inside.gaps.items c.self.invariant
+    (omega (arith, some, c.self.inside.gaps.ok)) c.index.ensures in
+    omega (arith, is, below, first)

@@ -3,8 +3,8 @@ use Rattle.gr_vector.specs.Gaps.{holds, greatest}
 use Rattle.gr_vector.proofs.Tops.{at, member_is, top_ids}
 use Rattle.gr_vector.proofs.vector.Vector.top.Goals as goal
 
-pub returns : goal.returns
-returns c =
+pub returns-clause-top : goal.returns-clause-top
+returns-clause-top c =
     let is = member_is c.from.result c.args.member c.index.result.now c.self.inside.members.items c.from.ensures c.index.ensures
     c.requires.a_member c.requires.of_eight c.self.invariant.eight in
     let t : c.top.result ≡ greatest (at (c.args.member - 1) c.self.inside.members.items).gaps =

@@ -1,0 +1,49 @@
+-- A call that was foreseen.
+use Rattle.std.specs.Prelude.{◌≡◌, ◌≤◌, ℕ, List, [], ◌∷◌, ◌++◌, length, map, Some, None}
+use Rattle.std.specs.List.{AllByRecursion}
+use Rattle.gr_oql.specs.declared.event.Event.{Event}
+use Rattle.gr_oql.specs.declared.event.Turned.{Turned}
+use Rattle.gr_cq.specs.Entries.{Kept, Entry, Queries, find, with_kept, kept_with, kept_taken, changed_at, coming_to}
+
+-- what a call changes
+pub data Change : Type 0 where
+  Enrolling : Entry → Change
+  Taking : ℕ → List ℕ → Change
+  -- what each query is told, in their order
+  Telling : List (List Event) → Change
+
+-- beside it the events that are handed out
+pub record Foresight : Type 0 where
+  pub change : Change
+  pub given : List Event
+
+abbrev pub told_each : List (List Event) → List Entry → List Entry
+told_each [] entries = entries
+told_each (events ∷ lists) [] = []
+told_each (events ∷ lists) (entry ∷ entries) = with_kept (kept_with events) entry ∷ told_each lists entries
+
+abbrev pub changed : Change → List Entry → List Entry
+changed (Enrolling entry) entries = entries ++ entry ∷ []
+changed (Taking client name) entries = changed_at client name kept_taken entries
+changed (Telling lists) entries = told_each lists entries
+
+abbrev pub coming_to_each : List Turned → List Entry → List (List Event)
+coming_to_each turned entries = map (λ (entry : Entry). coming_to turned entry.kept) entries
+
+-- for these queries as they are
+abbrev pub IsOf : List Entry → Change → List Event → Type 0
+IsOf entries (Enrolling entry) given = (find entry.client entry.name entries ≡ None) × (given ≡ [])
+IsOf entries (Taking client name) given = (kept : Kept) × (find client name entries ≡ Some kept) × (given ≡ kept.waiting)
+IsOf entries (Telling lists) given = ((turned : List Turned) × (lists ≡ coming_to_each turned entries)) × (given ≡ [])
+
+-- as much as each query is told at most
+abbrev pub IsWithin : ℕ → Change → Type 0
+IsWithin spare (Enrolling entry) = Unit {0}
+IsWithin spare (Taking client name) = Unit {0}
+IsWithin spare (Telling lists) = AllByRecursion (λ (events : List Event). length events ≤ spare) lists
+
+-- It was made for this registry as it is, and there is room for it.
+pub record IsMadeFor (queries : Queries) (foreseen : Foresight) : Type 0 where
+  pub made : IsOf queries.entries foreseen.change foreseen.given
+  pub room : 1 ≤ queries.spare
+  pub within : IsWithin queries.spare foreseen.change

@@ -1,0 +1,6 @@
+pub mod Waiting
+pub mod Entries
+pub mod Ends
+pub mod Coming
+pub mod Foresight
+pub mod View

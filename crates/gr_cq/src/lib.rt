@@ -1,0 +1,16 @@
+//! The continuous queries that are open at a shard, and their waiting events.
+#![tactic(auto)]
+
+mod coming;
+mod foreseen;
+mod open;
+mod opens;
+mod query_end;
+mod registry;
+mod waiting;
+
+pub use coming::Coming;
+pub use foreseen::Foreseen;
+pub use gr_oql::Turned;
+pub use query_end::QueryEnd;
+pub use registry::Registry;

@@ -1,0 +1,107 @@
+ghost use Rattle.std.specs.Prelude.{◌≡◌, ◌≤◌, [], ◌++◌, length, map, true, false, Some, IfOk, IfSome, OnOk, OnErr, option_copied, option_map};
+ghost use Rattle.std.specs.List.{AllByRecursion};
+ghost use Rattle.gr_oql.specs.Events.{told_all};
+ghost use Rattle.gr_cq.specs.Entries.{is_at, find, changed_at, with_kept, kept_stopped, kept_taken, kept_with, coming_to, entry_opened};
+ghost use Rattle.gr_cq.specs.View.{kept_of, entry_of};
+
+use crate::waiting::Waiting;
+use gr_oql::{Event, EventList, Query, Turned};
+use gr_value::{Copied, Key, Memory};
+use std::alloc::Global;
+
+/// An open query: whose it is, its name, what it asks, whether it runs, and its waiting events.
+#[derive(Drop)]
+pub struct Open {
+    client: u8,
+    name: Key,
+    query: Query,
+    runs: bool,
+    waiting: Waiting,
+}
+
+impl Open {
+    /// A query that runs, with no events yet.
+    pub fn new(alloc: Global, client: u8, name: &Key, query: &Query) -> Result<Open, Memory>
+        ensures { IfOk result (λ one. entry_of one ≡ entry_opened client name.now query.now) }
+    {
+        Ok(Open {
+            client,
+            name: name.copy(alloc)?,
+            query: query.copy(alloc)?,
+            runs: true,
+            waiting: Waiting::new(alloc),
+        })
+    }
+
+    pub fn is_at(&self, client: u8, name: &Key) -> bool
+        ensures { result ≡ is_at client name.now (entry_of self.now) }
+    {
+        self.client == client && self.name == *name
+    }
+
+    pub fn runs(&self) -> bool
+        ensures { result ≡ self.now.runs }
+    {
+        self.runs
+    }
+
+    pub fn stop(&mut self)
+        ensures { entry_of self.new ≡ with_kept kept_stopped (entry_of self.old) }
+    {
+        self.runs = false;
+    }
+
+    /// Copies of the events that wait, in order.
+    pub fn waiting(&self, alloc: Global) -> Result<EventList, Memory>
+        ensures { IfOk result (λ events. events ≡ self.now.waiting.events) }
+    {
+        self.waiting.copies(alloc)
+    }
+
+    /// Leaves no event waiting.
+    pub fn clear(&mut self)
+        ensures { entry_of self.new ≡ with_kept kept_taken (entry_of self.old) }
+    {
+        self.waiting.clear();
+    }
+
+    pub fn reserve(&mut self, more: usize) -> Result<(), Memory>
+        ensures entry { entry_of self.new ≡ entry_of self.old }
+        ensures kept { self.old.waiting.spare ≤ self.new.waiting.spare }
+        ensures room { OnOk result (more ≤ self.new.waiting.spare) }
+    {
+        self.waiting.reserve(more)
+    }
+
+    /// Puts these events behind those that wait; there is room.
+    pub fn hear(&mut self, events: &mut Vec<Event>)
+        requires { length events.old.items ≤ self.old.waiting.spare }
+        ensures { entry_of self.new ≡ with_kept (kept_with events.old.items) (entry_of self.old) }
+    {
+        self.waiting.append(events);
+    }
+
+    /// What the query is told of these keys. One that was stopped is told nothing.
+    pub fn coming(&self, alloc: Global, turned: &[Turned]) -> Result<Vec<Event>, Memory>
+        ensures { IfOk result (λ events. events.items ≡ coming_to turned.now (kept_of self.now)) }
+    {
+        if self.runs {
+            Ok(told_all(alloc, &self.query, turned)?)
+        } else {
+            Ok(Vec::new(alloc))
+        }
+    }
+}
+
+// What a query is told of all these keys, in order.
+fn told_all(alloc: Global, query: &Query, turned: &[Turned]) -> Result<Vec<Event>, Memory>
+    ensures { IfOk result (λ events. events.items ≡ told_all query.now turned.now) }
+{
+    let mut events = Vec::new(alloc);
+    for one in turned {
+        if let Some(event) = Event::of(alloc, query, one)? {
+            events.push(event)?;
+        }
+    }
+    Ok(events)
+}

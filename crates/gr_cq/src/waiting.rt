@@ -1,0 +1,67 @@
+ghost use Rattle.std.specs.Prelude.{◌≡◌, ◌≤◌, [], ◌++◌, length, IfOk, OnOk};
+
+use gr_oql::{Event, EventList};
+use gr_value::{Copied, Memory};
+use std::alloc::Global;
+use std::marker::Model;
+
+/// Events that wait to be fetched. Contracts see them beside the number of further ones that there is
+/// room for.
+#[derive(Drop)]
+pub struct Waiting {
+    events: Vec<Event>,
+}
+
+impl Model for Waiting {
+    ghost use Rattle.std.specs.Prelude.{◌-◌, vec_len, vec_capacity};
+    ghost use Rattle.gr_cq.specs.Waiting.{Waits};
+
+    ghost Value = { Waits };
+
+    ghost view = { λ waiting. record { events = waiting.events.items; spare = vec_capacity waiting.events - vec_len waiting.events } };
+}
+
+impl Waiting {
+    pub fn new(alloc: Global) -> Waiting
+        ensures { result.events ≡ [] }
+    {
+        Waiting {
+            events: Vec::new(alloc),
+        }
+    }
+
+    /// Makes room for so many more.
+    pub fn reserve(&mut self, more: usize) -> Result<(), Memory>
+        ensures events { self.new.events ≡ self.old.events }
+        ensures kept { self.old.spare ≤ self.new.spare }
+        ensures room { OnOk result (more ≤ self.new.spare) }
+    {
+        self.events.reserve(more)?;
+        Ok(())
+    }
+
+    /// Moves all of these behind those that wait; there is room.
+    pub fn append(&mut self, more: &mut Vec<Event>)
+        requires { length more.old.items ≤ self.old.spare }
+        ensures { self.new.events ≡ self.old.events ++ more.old.items }
+    {
+        let _ = self.events.append(more);
+    }
+
+    pub fn clear(&mut self)
+        ensures { self.new.events ≡ [] }
+    {
+        self.events.clear();
+    }
+
+    /// Copies of all events, in order.
+    pub fn copies(&self, alloc: Global) -> Result<EventList, Memory>
+        ensures { IfOk result (λ copies. copies ≡ self.now.events) }
+    {
+        let mut copies = EventList::new(alloc)?;
+        for event in &self.events {
+            copies.push(event.copy(alloc)?)?;
+        }
+        Ok(copies)
+    }
+}

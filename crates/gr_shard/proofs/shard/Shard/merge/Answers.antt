@@ -1,0 +1,22 @@
+use Rattle.std.proofs.Common.{◌≡◌, ◌∙◌, ap, [], ◌∷◌, ◌++◌, reverse, max, true}
+use Rattle.std.proofs.lemmas.List.{reverse-append}
+use Rattle.gr_history.specs.declared.deed.Deed.TheVariants.{Imaged}
+use Rattle.gr_shard.specs.Merges.{IsImageFor, merged}
+use Rattle.gr_shard.specs.View.{kept}
+use Rattle.gr_shard.proofs.Merges.{kept_merged}
+use Rattle.gr_shard.proofs.Pushed.{on_ok}
+use Rattle.gr_shard.proofs.shard.Shard.merge.Goals as goal
+
+pub invariant_of-self-2 : goal.invariant_of-self-2
+invariant_of-self-2 c =
+    let was = c.self.inside in
+    let past = reverse was.history.deeds in
+    let image = c.args.image.now in
+    let fits : IsImageFor was.id image = rw (← c.self.view_is) at c.requires in
+    let pushed : c.push.new.self.deeds ≡ was.history.deeds ++ Imaged image ∷ [] =
+    on_ok c.push.result (c.push.ensures.room c.in_ok-reserve.ensures.room) c.push.ensures.ok
+    ∙ ap (λ deeds. deeds ++ Imaged c.in_ok-copy.field-0 ∷ []) c.in_ok-reserve.ensures.deeds
+    ∙ ap (λ copy. was.history.deeds ++ Imaged copy ∷ []) c.in_ok-copy.ensures in
+    rw (pushed, reverse-append, c.in_ok-unite.ensures.ids, c.in_ok-slots.ensures.merged, c.max-self-inside.ensures)
+    (kept_merged was.id was.opening (kept was.slots was.vector.ids was.floor was.clock was.joined was.to was.heard was.given) past image
+    c.self.invariant c.in_ok-slots.ensures.ordered fits)
