@@ -59,33 +59,6 @@ no_join kind.Hear is = absurd cc
 no_join kind.Sweep is = absurd cc
 no_join kind.Join is = absurd cc
 
-pub no_join_either : (one : LineKind) → is_kind kind.Report one ≡ true → is_kind kind.Join one ≡ false
-no_join_either kind.Georep is = refl
-no_join_either kind.Region is = refl
-no_join_either kind.Members is = refl
-no_join_either kind.Shards is = refl
-no_join_either kind.Inbox is = refl
-no_join_either kind.Trouble is = refl
-no_join_either kind.Floor is = refl
-no_join_either kind.Client is = refl
-no_join_either kind.Get is = refl
-no_join_either kind.Put is = refl
-no_join_either kind.PutIfAbsent is = refl
-no_join_either kind.Replace is = refl
-no_join_either kind.ReplaceIf is = refl
-no_join_either kind.Destroy is = refl
-no_join_either kind.Remove is = refl
-no_join_either kind.Peek is = refl
-no_join_either kind.Open is = refl
-no_join_either kind.Stop is = refl
-no_join_either kind.Close is = refl
-no_join_either kind.Fetch is = refl
-no_join_either kind.Deliver is = refl
-no_join_either kind.Report is = refl
-no_join_either kind.Hear is = refl
-no_join_either kind.Sweep is = refl
-no_join_either kind.Join is = absurd cc
-
 -- A line behind the heading states nothing of it.
 pub record StatesNone (one : LineKind) : Type 0 where
   pub region : is_kind kind.Region one ≡ false
