@@ -63,6 +63,34 @@ fields Hear = field.Word ∷ field.Member ∷ field.Member ∷ field.Ordinal ∷
 fields Sweep = field.Word ∷ field.Member ∷ (field.Number 0 4294967295) ∷ []
 fields Join = field.Word ∷ field.Member ∷ field.Member ∷ []
 
+-- which of the kinds it is, counted from 0
+abbrev pub place : LineKind → ℕ
+place Georep = 0
+place Region = 1
+place Members = 2
+place Shards = 3
+place Inbox = 4
+place Trouble = 5
+place Floor = 6
+place Client = 7
+place Get = 8
+place Put = 9
+place PutIfAbsent = 10
+place Replace = 11
+place ReplaceIf = 12
+place Destroy = 13
+place Remove = 14
+place Peek = 15
+place Open = 16
+place Stop = 17
+place Close = 18
+place Fetch = 19
+place Deliver = 20
+place Report = 21
+place Hear = 22
+place Sweep = 23
+place Join = 24
+
 -- A line of a greater rank stands behind one of a lesser.
 abbrev pub rank : LineKind → ℕ
 rank Georep = 0

@@ -1,5 +1,5 @@
 ghost use Rattle.std.specs.Prelude.{◌≡◌, if◌then◌else◌};
-ghost use Rattle.gr_script.specs.Forms.{word, fields, rank, is_step, is_kind, step_kinds, other_kinds, kind_of};
+ghost use Rattle.gr_script.specs.Forms.{word, fields, place, rank, is_step, is_kind, step_kinds, other_kinds, kind_of};
 
 /// What a line is, by its word.
 #[derive(Clone, Copy)]
@@ -283,9 +283,43 @@ pub(crate) fn is_step(kind: LineKind) -> bool
     )
 }
 
+// Which of the kinds it is, counted from 0.
+fn place(kind: LineKind) -> u8
+    ensures { result ≡ place kind }
+{
+    match kind {
+        LineKind::Georep => 0,
+        LineKind::Region => 1,
+        LineKind::Members => 2,
+        LineKind::Shards => 3,
+        LineKind::Inbox => 4,
+        LineKind::Trouble => 5,
+        LineKind::Floor => 6,
+        LineKind::Client => 7,
+        LineKind::Get => 8,
+        LineKind::Put => 9,
+        LineKind::PutIfAbsent => 10,
+        LineKind::Replace => 11,
+        LineKind::ReplaceIf => 12,
+        LineKind::Destroy => 13,
+        LineKind::Remove => 14,
+        LineKind::Peek => 15,
+        LineKind::Open => 16,
+        LineKind::Stop => 17,
+        LineKind::Close => 18,
+        LineKind::Fetch => 19,
+        LineKind::Deliver => 20,
+        LineKind::Report => 21,
+        LineKind::Hear => 22,
+        LineKind::Sweep => 23,
+        LineKind::Join => 24,
+    }
+}
+
 /// Whether lines of these kinds have the same word.
+#[tactic(auto, using(crate::proofs::KindPlaces::placed_alike))]
 pub(crate) fn is_kind(kind: LineKind, other: LineKind) -> bool
     ensures { result ≡ is_kind kind other }
 {
-    kind.word() == other.word()
+    place(kind) == place(other)
 }

@@ -1,22 +1,28 @@
-ghost use Rattle.std.specs.Prelude.{◌≡◌, ◌<◌, ℕ, [], ◌∷◌, List, length, reverse, IfOk};
-ghost use Rattle.gr_script.specs.Tallies.{count_in};
+ghost use Rattle.std.specs.Prelude.{◌≡◌, ◌<◌, ◌≤◌, ◌+◌, ◌^◌, ℕ, [], ◌∷◌, List, length, reverse, IfOk, OnOk, OnErr};
+ghost use Rattle.gr_script.specs.Tallies.{count_in, CountsOne, CountsNone};
+ghost use Rattle.gr_script.specs.declared.forms.LineKind.TheVariants as kind;
+ghost use Rattle.gr_script.specs.Forms.{is_kind, is_step, rank};
 ghost use Rattle.gr_script.specs.Index.{most_lines, counted};
 ghost use Rattle.gr_script.specs.declared.saying.Saying.{Saying};
 ghost use Rattle.gr_script.specs.Past.{stage, region, members, founders, clients, steps, reports, joins};
 ghost use Rattle.gr_script.specs.Past.{homes as homes_of, home, setting, sizes};
 
-use crate::forms::{LineKind, is_kind, is_step};
+use crate::forms::{LineKind, is_kind, is_step, rank};
 use crate::items::Setting;
 use crate::note::{counted, homes_with, is_query, next_rank, region_with, stated_with};
 use crate::saying::{Saying, number};
-use crate::tally::{count_in as count_of, counts_with};
+use crate::tally::{count_in as count_of, count_up, counts_with};
 use gr_value::{ItemList, Key, Memory};
 use std::alloc::Global;
 use std::collections::BTreeMap;
 use std::marker::Model;
+use std::mem::replace;
 
 /// How many mails an inbox has room for, where no line states it.
 const DEFAULT_INBOX: u128 = 16;
+
+/// The rank of the lines behind the heading.
+const LAST_RANK: u8 = 8;
 
 /// How many lines of some kinds there are.
 #[derive(Clone, Copy)]
@@ -207,8 +213,51 @@ impl Past {
         }
     }
 
+    /// Puts one line more behind these. Where memory is refused, no line stands for sure.
+    pub(crate) fn push(&mut self, alloc: Global, line: Saying) -> Result<(), Memory>
+        requires { length self.old < most_lines }
+        ensures { OnOk result (self.new ≡ line ∷ self.old) }
+    {
+        if rank(line.kind) < LAST_RANK {
+            let past = replace(self, Past::new(alloc)?);
+            *self = past.with(alloc, line)?;
+            Ok(())
+        } else {
+            self.push_behind(line)
+        }
+    }
+
+    // One line more behind the heading.
+    fn push_behind(&mut self, line: Saying) -> Result<(), Memory>
+        requires room { length self.old < most_lines }
+        requires late { 8 ≤ rank line.kind }
+        ensures { OnOk result (self.new ≡ line ∷ self.old) }
+    {
+        let kind = line.kind;
+        let first = number(0, line.items.as_slice());
+        let counted = counted_with(&line, self.counted);
+        self.sayings.push(line)?;
+        match count_line(
+            kind,
+            first,
+            &mut self.steps,
+            &mut self.reports,
+            &mut self.joins,
+        ) {
+            Ok(()) => {
+                self.stage = LAST_RANK;
+                self.counted = counted;
+                Ok(())
+            }
+            Err(refused) => {
+                self.sayings.pop();
+                Err(refused)
+            }
+        }
+    }
+
     /// These lines and one more.
-    pub(crate) fn with(self, alloc: Global, line: Saying) -> Result<Past, Memory>
+    fn with(self, alloc: Global, line: Saying) -> Result<Past, Memory>
         requires { length self < most_lines }
         ensures { IfOk result (λ past. past ≡ line ∷ self) }
     {
@@ -236,6 +285,34 @@ impl Past {
             joins,
             counted,
         })
+    }
+}
+
+// Counts a line of this kind at its first number.
+#[tactic(auto, using(crate::proofs::KindsApart::no_report, crate::proofs::KindsApart::no_join))]
+fn count_line(
+    form: LineKind,
+    first: u128,
+    steps: &mut BTreeMap<u128, u32>,
+    reports: &mut BTreeMap<u128, u32>,
+    joins: &mut BTreeMap<u128, u32>,
+) -> Result<(), Memory>
+    requires steps { count_in steps.old first + 1 < 2 ^ 32 }
+    requires reports { count_in reports.old first + 1 < 2 ^ 32 }
+    requires joins { count_in joins.old first + 1 < 2 ^ 32 }
+    ensures steps { OnOk result (CountsOne (is_step form) first steps.old steps.new) }
+    ensures reports { OnOk result (CountsOne (is_kind kind.Report form) first reports.old reports.new) }
+    ensures joins { OnOk result (CountsOne (is_kind kind.Join form) first joins.old joins.new) }
+    ensures err { OnErr result (CountsNone steps.old steps.new × CountsNone reports.old reports.new × CountsNone joins.old joins.new) }
+{
+    if is_step(form) {
+        count_up(steps, first)
+    } else if is_kind(LineKind::Report, form) {
+        count_up(reports, first)
+    } else if is_kind(LineKind::Join, form) {
+        count_up(joins, first)
+    } else {
+        Ok(())
     }
 }
 

@@ -146,18 +146,6 @@ fn lines_back(
     Ok(lines)
 }
 
-// The lines the other way round.
-fn turned(alloc: Global, lines: LineList) -> Result<LineList, Memory>
-    ensures { IfOk result (λ turned. turned ≡ reverse lines) }
-{
-    let mut turned = LineList::new(alloc)?;
-    let mut left = lines;
-    while let Some(line) = left.pop() {
-        turned.push(line)?;
-    }
-    Ok(turned)
-}
-
 /// The lines that are said, in order. How many steps each client has is known.
 pub(crate) fn lines_of(
     alloc: Global,
@@ -168,6 +156,7 @@ pub(crate) fn lines_of(
     requires narrow { AreNarrow (reverse sayings) }
     ensures { IfOk result (λ lines. lines ≡ reverse (lines_said (reverse sayings))) }
 {
-    let back = lines_back(alloc, steps, sayings)?;
-    Ok(turned(alloc, back)?)
+    let mut lines = lines_back(alloc, steps, sayings)?;
+    lines.reverse();
+    Ok(lines)
 }

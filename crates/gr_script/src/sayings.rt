@@ -1,4 +1,4 @@
-ghost use Rattle.std.specs.Prelude.{◌≡◌, ◌≤◌, ◌<◌, ◌+◌, [], length, IfOk};
+ghost use Rattle.std.specs.Prelude.{◌≡◌, ◌≤◌, ◌<◌, ◌+◌, [], length, OnOk};
 ghost use Rattle.gr_script.specs.Cuts.{line_count};
 ghost use Rattle.gr_script.specs.Halts.{Yields};
 ghost use Rattle.gr_script.specs.Index.{most_lines};
@@ -22,18 +22,19 @@ const MOST_LINES: u64 = 200000;
 /// How many lines the heading cannot lack.
 const REQUIRED_LINES: u8 = 4;
 
-// The earlier lines with one more, which may be skipped.
-fn past_with(alloc: Global, runs: bool, past: Past, line: &[u8]) -> Result<Past, Halt>
-    requires { length past < most_lines }
-    ensures exact { Yields (λ longer. longer) result (past_with runs past line.now) }
-    ensures longer { IfOk result (λ longer. length longer ≤ length past + 1) }
+// Takes in one line more, which may be skipped.
+fn take_line(alloc: Global, runs: bool, past: &mut Past, line: &[u8]) -> Result<(), Halt>
+    requires { length past.old < most_lines }
+    ensures exact { Yields (λ _. past.new) result (past_with runs past.old line.now) }
+    ensures longer { OnOk result (length past.new ≤ length past.old + 1) }
 {
     let text = text_said(text_at(line)?.as_bytes());
     if is_skipped(text) {
-        return Ok(past);
+        return Ok(());
     }
-    let saying = saying_at(alloc, runs, &past, text)?;
-    Ok(past.with(alloc, saying)?)
+    let saying = saying_at(alloc, runs, past, text)?;
+    past.push(alloc, saying)?;
+    Ok(())
 }
 
 // The text ends in front of the line of this number.
@@ -60,9 +61,8 @@ fn read_lines(alloc: Global, runs: bool, bytes: &[u8]) -> Result<Past, ScriptEnd
     let mut number = 1;
     let mut rest = bytes;
     while let Some((line, after)) = next_line(rest) {
-        match past_with(alloc, runs, past, line) {
-            Ok(longer) => past = longer,
-            Err(halt) => return Err(end_at(number, halt)),
+        if let Err(halt) = take_line(alloc, runs, &mut past, line) {
+            return Err(end_at(number, halt));
         }
         number += 1;
         rest = after;

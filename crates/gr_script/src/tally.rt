@@ -1,4 +1,4 @@
-ghost use Rattle.std.specs.Prelude.{◌≡◌, ℕ, ◌+◌, ◌≤◌, ◌<◌, ◌^◌, true, ◌&&◌, ◌==◌, if◌then◌else◌, IfOk};
+ghost use Rattle.std.specs.Prelude.{◌≡◌, ℕ, ◌+◌, ◌≤◌, ◌<◌, ◌^◌, true, ◌&&◌, ◌==◌, if◌then◌else◌, IfOk, OnOk, OnErr};
 ghost use Rattle.gr_script.specs.Tallies.{count_in};
 
 use gr_value::Memory;
@@ -30,6 +30,17 @@ pub(crate) fn counts_with(
     let count = count_in(&counts, number) + 1;
     counts.insert(number, count)?;
     Ok(counts)
+}
+
+/// Counts one more line of this number.
+pub(crate) fn count_up(counts: &mut BTreeMap<u128, u32>, number: u128) -> Result<(), Memory>
+    requires { count_in counts.old number + 1 < 2 ^ 32 }
+    ensures ok { OnOk result ((n : ℕ) → count_in counts.new n ≡ (if number == n then 1 else 0) + count_in counts.old n) }
+    ensures err { OnErr result ((n : ℕ) → count_in counts.new n ≡ count_in counts.old n) }
+{
+    let count = count_in(counts, number) + 1;
+    counts.insert(number, count)?;
+    Ok(())
 }
 
 /// The counts with one line of this number less, where the test holds.

@@ -1,24 +1,12 @@
-use Rattle.std.proofs.Common.{◌≡◌, ◌∙◌, ◌+◌, ℕ, List, [], ◌∷◌, ◌++◌, Bool, ◌&&◌, ◌<◌, length, cond, eqb, reverse, sym, ap, subst, arith}
+use Rattle.std.proofs.Common.{◌∙◌, ℕ, List, [], ◌∷◌, ◌++◌, ◌<◌, length, cond, reverse, sym, ap, subst, arith}
 use Rattle.std.proofs.lemmas.List.{reverse-append}
-use Rattle.std.proofs.lemmas.List.Sums.{sum_by-cons}
-use Rattle.gr_script.specs.declared.forms.LineKind.{LineKind}
 use Rattle.gr_script.specs.declared.forms.LineKind.TheVariants as kind
 use Rattle.gr_script.specs.declared.saying.Saying.{Saying}
 use Rattle.gr_script.specs.Forms.{is_step, is_kind}
 use Rattle.gr_script.specs.Index.{IsIndex, most_lines}
-use Rattle.gr_script.specs.Past.{count_at, number}
+use Rattle.gr_script.specs.Past.{number}
+use Rattle.gr_script.proofs.PastMore.{counted_more}
 use Rattle.gr_script.proofs.past.Past.with.Goals as goal
-
--- one more line is counted at its first number
-counted_more : (test : LineKind → Bool) (past : List Saying) (line : Saying) (holds : Bool) (first : ℕ) (old new : ℕ → ℕ)
-    → holds ≡ test line.kind → first ≡ number 0 line.items → ((n : ℕ) → new n ≡ cond (holds && eqb first n) 1 0 + old n)
-    → ((n : ℕ) → old n ≡ count_at test n past) → (n : ℕ) → new n ≡ count_at test n (line ∷ past)
-counted_more test past line holds first old new holds_is first_is more before n =
-    more n
-    ∙ ap (λ (b : Bool). cond (b && eqb first n) 1 0 + old n) holds_is
-    ∙ ap (λ (f : ℕ). cond (test line.kind && eqb f n) 1 0 + old n) first_is
-    ∙ ap (λ (m : ℕ). cond (test line.kind && eqb (number 0 line.items) n) 1 0 + m) (before n)
-    ∙ sym (sum_by-cons (λ (l : Saying). cond (test l.kind && eqb (number 0 l.items) n) 1 0) line past)
 
 pub invariant_of-result : goal.invariant_of-result
 invariant_of-result c =
