@@ -1,6 +1,7 @@
 pub mod Events
 pub mod Whole
 pub mod Causes
+pub mod Asking
 pub mod Joins
 pub mod Causal
 pub mod Clients

@@ -5,7 +5,7 @@ use Rattle.gr_history.specs.Asks.{key_of}
 use Rattle.gr_shard.specs.View.{Account}
 use Rattle.gr_world.specs.declared.task.Task.{Task}
 use Rattle.gr_world.specs.declared.task.Task.TheVariants as task
-use Rattle.gr_world.specs.Doings.{Doing, Calls, Takes, Gives, Merges, Reports, Hears, Sweeps}
+use Rattle.gr_world.specs.Doings.{Doing, Calls, Takes, Gives, Merges, Reports, Hears, Sweeps, Asks}
 
 abbrev pub doing_of : Task → Doing
 doing_of (task.Take change) = Takes change.now
@@ -22,3 +22,4 @@ BelongsTo account (Merges image) = Unit {0}
 BelongsTo account Reports = Unit {0}
 BelongsTo account (Hears report) = Unit {0}
 BelongsTo account (Sweeps moment) = Unit {0}
+BelongsTo account (Asks client number ask) = Unit {0}
