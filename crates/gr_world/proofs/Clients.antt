@@ -178,7 +178,8 @@ line_asks heading (Step client number (act.Call ask)) before i t =
   where
     at_test : (b : Bool) (reply : Reply) (made : Option Change) (to : ℕ)
         → askings (put_if b (Call client number ask reply made to) (history i t before))
-        ≡ add_some (if b then Some (record { client = client; number = number; ask = OfKey ask }) else None) (askings (history i t before))
+        ≡ add_some (if b then Some (record { client = client; number = number; ask = OfKey ask }) else None) (askings (history i t
+        before))
     at_test true reply made to = refl
     at_test false reply made to = refl
 line_asks heading (Step client number (act.Query ask)) before i t = query_asks heading client number ask heading.shards before i t
@@ -273,7 +274,8 @@ replies_stand-holds (Did m s deed ∷ before) member shard client number ask rep
     at_test true next (inr a) = among_some _ (told_by_deed client deed) (told client before) (next a)
     at_test false next a = among_some _ (told_by_deed client deed) (told client before) (next a)
 replies_stand-holds (Peeked own number_ key value at ∷ before) member shard client number ask reply made to a =
-    among_some _ (if own == client then Some (record { number = number_; answer = answer.Peeked value at }) else None) (told client before)
+    among_some _ (if own == client then Some (record { number = number_; answer = answer.Peeked value at }) else None) (told client
+    before)
     (replies_stand-holds before member shard client number ask reply made to a)
 replies_stand-holds (Gathered own number_ replies ∷ before) member shard client number ask reply made to a =
     among_some _ (if own == client then Some (record { number = number_; answer = answer.Asked replies }) else None) (told client before)

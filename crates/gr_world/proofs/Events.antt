@@ -73,7 +73,8 @@ Spares j m (Hears report) = Unit {0}
 Spares j m (Sweeps moment) = Unit {0}
 Spares j m (Asks client number ask) = Unit {0}
 
-pub no_image : (heading : Heading) (j t m s : ℕ) (doing : Doing) (before : List Event) → Spares j m doing → HasNoImage (history j t before)
+pub no_image : (heading : Heading) (j t m s : ℕ) (doing : Doing) (before : List Event) → Spares j m doing → HasNoImage (history j t
+    before)
     → HasNoImage (history j t (does heading m s doing before))
 no_image heading j t m s (Calls client number ask) before h none =
     at_put HasNoImage (t == s && j == m) _ (history j t before) none (λ a. a)

@@ -9,6 +9,7 @@ pub mod Placed
 pub mod Peeks
 pub mod Numbers
 pub mod Late
+pub mod Told
 pub mod Served
 pub mod Left
 pub mod Lists

@@ -21,6 +21,7 @@ use Rattle.gr_world.proofs.Numbers.{numbers_descend-holds}
 use Rattle.gr_world.proofs.Peeks.{peeks_stand-holds}
 use Rattle.gr_world.proofs.Late.{peeks_late-holds, peeks_grow-holds}
 use Rattle.gr_world.proofs.Placed.{calls_placed-holds, queries_placed-holds}
+use Rattle.gr_world.proofs.Told.{queries_stand-holds}
 use Rattle.gr_world.proofs.Whole.{whole_course}
 
 pub script_causal : (heading : Heading) (lines : List Line) → IsScript heading lines → IsCausal heading (course heading (reverse lines))
@@ -55,6 +56,7 @@ script_served heading lines is =
       answers = answers_stand-holds heading past;
       in_order = λ client. numbers_descend-holds heading client past is.lines_stand;
       replies = replies_stand-holds (course heading past);
+      stand = queries_stand-holds heading past;
       gathered = queries_told-holds heading (course heading past) (script_causal heading lines is);
       peeks = peeks_stand-holds heading past is.heading is.lines_stand;
       late = peeks_late-holds heading past is.heading is.lines_stand;

@@ -1,5 +1,6 @@
 -- What clients asked, and what they were told.
-use Rattle.std.specs.Prelude.{◌≡◌, ℕ, suc, ◌≤◌, ◌<◌, List, [], ◌∷◌, ◌&&◌, ◌==◌, nat_lt, Option, Some, None, length, map, if◌then◌else◌}
+use Rattle.std.specs.Prelude.{◌≡◌, ℕ, suc, ◌≤◌, ◌<◌, List, [], ◌∷◌, ◌&&◌, ◌==◌, nat_lt, get_or, Option, Some, None, length, map}
+use Rattle.std.specs.Prelude.{if◌then◌else◌}
 use Rattle.gr_value.specs.declared.value.Field.{Field}
 use Rattle.gr_value.specs.Shard.{shard_of}
 use Rattle.gr_stamp.specs.declared.change.Change.{Change}
@@ -10,6 +11,7 @@ use Rattle.gr_history.specs.declared.record.Answer.{Answer}
 use Rattle.gr_history.specs.declared.record.Answer.TheVariants as answer
 use Rattle.gr_history.specs.declared.query_ask.QueryAsk.{QueryAsk}
 use Rattle.gr_history.specs.declared.query_reply.QueryReply.{QueryReply}
+use Rattle.gr_history.specs.declared.query_reply.QueryReply.TheVariants.{Unknown}
 use Rattle.gr_history.specs.declared.reply.Reply.{Reply}
 use Rattle.gr_history.specs.Asks.{key_of}
 use Rattle.gr_history.specs.Standing.{present}
@@ -149,6 +151,17 @@ abbrev pub queries_told : Heading → List Event → Type 0
 queries_told heading course = (client number : ℕ) (replies : List QueryReply) → Among (Gathered client number replies) course
     → IsGathered heading client number replies course
 
+-- Among the answers to a step on a query, this is the shard's.
+pub record IsTold (client number shard : ℕ) (reply : QueryReply) (course : List Event) : Type 0 where
+  pub replies : List QueryReply
+  pub gathered : Among (Gathered client number replies) course
+  pub reply_is : get_or replies shard Unknown ≡ reply
+
+-- Each step on a query that stands in a history was answered its reply.
+abbrev pub queries_stand : Heading → List Event → Type 0
+queries_stand heading course = (member shard client number : ℕ) (ask : QueryAsk) (reply : QueryReply) → shard < heading.shards
+    → Among (Asked client number ask reply) (history member shard course) → IsTold client number shard reply course
+
 abbrev pub AllBelow : ℕ → List ℕ → Type 0
 AllBelow n [] = Unit {0}
 AllBelow n (first ∷ rest) = (first < n) × AllBelow n rest
@@ -196,6 +209,7 @@ pub record AreServed (heading : Heading) (past : List Line) (course : List Event
   pub in_order : numbers_descend past
   pub replies : replies_stand course
   pub gathered : queries_told heading course
+  pub stand : queries_stand heading course
   pub peeks : peeks_stand heading course
   pub late : peeks_late heading course
   pub growing : peeks_grow heading course

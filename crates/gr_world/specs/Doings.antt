@@ -37,8 +37,9 @@ image_of member opening past = record {
   floor = floor opening past;
 }
 
--- A client's step calls or asks something of a query, a change is taken in, a joiner is given something, an image is merged, a report is made,
--- a report is heard, or a sweep goes through. What comes of it is told by the history before.
+-- A client's step calls or asks something of a query, a change is taken in, a joiner is given something, an image
+-- is merged, a report is made, a report is heard, or a sweep goes through. What comes of it is told by the history
+-- before.
 pub data Doing : Type 0 where
   Calls : ℕ → ℕ → Ask → Doing
   Takes : Change → Doing
