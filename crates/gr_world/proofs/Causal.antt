@@ -10,11 +10,12 @@ use Rattle.gr_script.specs.declared.line.Line.TheVariants.{Step, Deliver, Hear, 
 use Rattle.gr_script.specs.declared.line.Line.TheVariants as line
 use Rattle.gr_script.specs.Rules.{Heading, IsHeading, IsMember, IsStated, IsWithin, AreWithin, home_of, StandsAfter, AllStand}
 use Rattle.gr_world.specs.Events.{history}
-use Rattle.gr_world.specs.Doings.{Calls, Reports, Sweeps}
+use Rattle.gr_world.specs.Doings.{Calls, Reports, Sweeps, Asks}
 use Rattle.gr_world.specs.Named.{reports, numbered}
 use Rattle.gr_world.specs.Courses.{does, hears, after, course}
 use Rattle.gr_world.specs.Causes.{IsCausal}
 use Rattle.gr_world.proofs.Causes.{does_causal, each_keeps, delivers_causal, hears_causal}
+use Rattle.gr_world.proofs.Asking.{gathered}
 use Rattle.gr_world.proofs.Joins.{joins_ready, course_unmerged}
 
 within_at : (least most : ℕ) (numbers : List ℕ) (i : ℕ) → AreWithin least most numbers → i < length numbers
@@ -35,7 +36,13 @@ line_causal : (heading : Heading) (line : Line) (past : List Line) → IsHeading
 line_causal heading (Step client number (act.Call ask)) past is stands h =
     does_causal heading (home_of heading client) (shard_of (key_of ask) heading.shards) (Calls client number ask) (course heading past)
     (home_stated heading client is stands.0) (refl, refl) h
-line_causal heading (Step client number (act.Query ask)) past is stands h = h
+line_causal heading (Step client number (act.Query ask)) past is stands h = (
+  gathered heading client number ask (course heading past),
+  each_keeps (λ n mid. IsCausal heading mid) heading.shards
+      (λ shard. does heading (home_of heading client) shard (Asks client number ask)) (course heading past) h
+      (λ shard mid less k. does_causal heading (home_of heading client) shard (Asks client number ask) mid
+      (home_stated heading client is stands.0) refl k),
+)
 line_causal heading (Step client number (act.Peek key)) past is stands h = ((refl, refl), h)
 line_causal heading (Deliver member client number) past is stands h =
     delivers_causal heading member client number (course heading past) stands.0 h

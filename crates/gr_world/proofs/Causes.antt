@@ -15,8 +15,8 @@ use Rattle.gr_law.specs.Integrity.{IsMade, HasNoImage, IsGift, IsWhole}
 use Rattle.gr_law.proofs.Lists.{among_left}
 use Rattle.gr_law.proofs.Made.{made_stamped}
 use Rattle.gr_script.specs.Rules.{Heading, IsMember, home_of}
-use Rattle.gr_world.specs.Events.{Event, Did, Peeked, history}
-use Rattle.gr_world.specs.Doings.{Doing, Calls, Takes, Gives, Merges, Reports, Hears, Sweeps, deed_of}
+use Rattle.gr_world.specs.Events.{Event, Did, Peeked, Gathered, history}
+use Rattle.gr_world.specs.Doings.{Doing, Calls, Takes, Gives, Merges, Reports, Hears, Sweeps, Asks, deed_of}
 use Rattle.gr_world.specs.Named.{made_by_deed, or_else, made_by, reports, numbered}
 use Rattle.gr_world.specs.Courses.{identity_at, does, for_each, delivers, hears}
 use Rattle.gr_world.specs.Causes.{grid_at, IsNextEvent, IsCausal}
@@ -33,6 +33,7 @@ May heading m s before (Merges image) = (heading.founders < m) × IsGift (grid_a
 May heading m s before Reports = Unit {0}
 May heading m s before (Hears report) = Among (Reported report) (history report.member s before)
 May heading m s before (Sweeps moment) = Unit {0}
+May heading m s before (Asks client number ask) = m ≡ home_of heading client
 
 pub does_causal : (heading : Heading) (m s : ℕ) (doing : Doing) (before : List Event) → IsMember heading m → May heading m s before doing
     → IsCausal heading before
@@ -65,6 +66,8 @@ does_causal heading m s doing before member may h = (next doing may, h)
         (record { from = member.0; to = member.1; lawful = tt; genuine = tt; once = tt; heard = may }, tt)
     next (Sweeps moment) may =
         (record { from = member.0; to = member.1; lawful = refl; genuine = tt; once = tt; heard = tt }, tt)
+    next (Asks client number ask) may =
+        (record { from = member.0; to = member.1; lawful = refl; genuine = tt; once = tt; heard = tt }, may)
 
 -- for_each keeps what each number's act keeps
 pub each_keeps : (P : ℕ → List Event → Type 0) (n : ℕ) (act : ℕ → List Event → List Event) (before : List Event)
@@ -116,9 +119,12 @@ made_by_made heading client number (Did m s deed ∷ before) change h e =
         → (made_by client number before ≡ Some change → IsMade (grid_at heading (shard_of change.key heading.shards) before) change)
         → or_else o (made_by client number before) ≡ Some change
         → IsMade (grid_at heading (shard_of change.key heading.shards) (Did m s deed ∷ before)) change
-    at_deed None is earlier e = more_made change.stamp.member (shard_of change.key heading.shards) change (Did m s deed) before (earlier e)
+    at_deed None is earlier e = more_made change.stamp.member (shard_of change.key heading.shards) change (Did m s deed) before (earlier
+        e)
     at_deed (Some one) is earlier e = made_here heading m s deed before client number change h.0 (is ∙ e)
 made_by_made heading client number (Peeked own seq key value at ∷ before) change h e =
+    made_by_made heading client number before change h.1 e
+made_by_made heading client number (Gathered own seq replies ∷ before) change h e =
     made_by_made heading client number before change h.1 e
 
 -- a report that was counted was made

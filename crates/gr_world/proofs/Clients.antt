@@ -1,7 +1,7 @@
 -- Each client's calls stand once and in order, with its answers.
-use Rattle.std.proofs.Common.{suc, ◌≡◌, ℕ, List, [], ◌∷◌, Bool, true, false, ◌&&◌, ◌==◌, refl, ap, ◌∙◌, subst, inl, inr}
+use Rattle.std.proofs.Common.{zero, suc, ◌≡◌, ℕ, List, [], ◌∷◌, Bool, true, false, ◌&&◌, ◌==◌, refl, sym, ap, ◌∙◌, subst, inl, inr}
 use Rattle.std.proofs.Common.{arith, map, if◌then◌else◌}
-use Rattle.std.specs.Prelude.{Option, Some, None}
+use Rattle.std.specs.Prelude.{Option, Some, None, nat_lt}
 use Rattle.std.proofs.lemmas.Bool.Decides.{nat_tests}
 use Rattle.gr_value.specs.Shard.{shard_of}
 use Rattle.gr_stamp.specs.declared.change.Change.{Change}
@@ -9,7 +9,9 @@ use Rattle.gr_vector.specs.declared.report.Report.{Report}
 use Rattle.gr_history.specs.declared.reply.Reply.{Reply}
 use Rattle.gr_history.specs.declared.image.What.{What}
 use Rattle.gr_history.specs.declared.image.What.TheVariants as what
-use Rattle.gr_history.specs.declared.deed.Deed.TheVariants.{Call}
+use Rattle.gr_history.specs.declared.deed.Deed.TheVariants.{Call, Asked}
+use Rattle.gr_history.specs.declared.query_ask.QueryAsk.{QueryAsk}
+use Rattle.gr_history.specs.declared.query_reply.QueryReply.{QueryReply}
 use Rattle.gr_history.specs.declared.record.Answer.{Answer}
 use Rattle.gr_history.specs.declared.record.Answer.TheVariants as answer
 use Rattle.gr_history.specs.Asks.{key_of}
@@ -21,16 +23,19 @@ use Rattle.gr_script.specs.declared.line.Line.{Line}
 use Rattle.gr_script.specs.declared.line.Line.TheVariants.{Step, Deliver, Hear, Sweep, Join}
 use Rattle.gr_script.specs.declared.line.Line.TheVariants as line
 use Rattle.gr_script.specs.Rules.{Heading, home_of}
-use Rattle.gr_world.specs.Events.{Event, Did, Peeked, put_if, history}
-use Rattle.gr_world.specs.Doings.{Doing, Calls, Takes, Gives, Merges, Reports, Hears, Sweeps, image_of}
+use Rattle.gr_world.specs.Events.{Event, Did, Peeked, Gathered, put_if, history}
+use Rattle.gr_world.specs.Doings.{Doing, Calls, Takes, Gives, Merges, Reports, Hears, Sweeps, Asks, image_of}
 use Rattle.gr_world.specs.Named.{made_by, reports, numbered}
-use Rattle.gr_world.specs.Courses.{does, for_each, delivers, hears, takes_all, gives_unless, what_from, after, course}
+use Rattle.gr_world.specs.Clients.{Asking, OfKey, OfQuery, queries_told}
+use Rattle.gr_world.specs.Causes.{IsGathered, IsNextEvent, IsCausal}
+use Rattle.gr_world.proofs.Events.{more_among}
+use Rattle.gr_world.specs.Courses.{does, asks_at_each, for_each, delivers, hears, takes_all, gives_unless, what_from, after, course}
 use Rattle.gr_world.specs.Clients.{add_some, askings, asked_at, calls_stand, Numbered, told_by_deed, told, number_at, answers_stand}
 use Rattle.gr_world.specs.Clients.{replies_stand}
 use Rattle.gr_world.proofs.Events.{at_put}
 use Rattle.gr_world.proofs.Causes.{each_keeps}
 
--- all but a call
+-- all but a call and a step on a query
 abbrev pub IsQuiet : Doing → Type 0
 IsQuiet (Calls client number ask) = ⊥
 IsQuiet (Takes change) = Unit {0}
@@ -39,6 +44,7 @@ IsQuiet (Merges image) = Unit {0}
 IsQuiet Reports = Unit {0}
 IsQuiet (Hears report) = Unit {0}
 IsQuiet (Sweeps moment) = Unit {0}
+IsQuiet (Asks client number ask) = ⊥
 
 abbrev pub IsNoStep : Line → Type 0
 IsNoStep (Step client number act) = ⊥
@@ -68,7 +74,7 @@ gives_keep heading P keeps joiner shard giver false what.Own now h =
     takes_keep heading P keeps joiner shard (own_changes (history giver shard now)) (does heading giver shard (Gives joiner what.Own) now)
     (keeps giver shard (Gives joiner what.Own) now tt h)
 
--- what each deed but a call keeps, each line but a step keeps
+-- what each deed but a client's keeps, each line but a step keeps
 pub rest_keeps : (heading : Heading) (P : List Event → Type 0) → Keeps heading P → (line : Line) (before : List Event) → IsNoStep line
     → P before → P (after heading line before)
 rest_keeps heading P keeps (Step client number act) before quiet h = absurd quiet
@@ -114,12 +120,56 @@ quiet_deed heading i t m s (Hears report) now quiet =
     at_put (λ past. askings past ≡ askings (history i t now)) (t == s && i == m) _ (history i t now) refl (λ e. e)
 quiet_deed heading i t m s (Sweeps moment) now quiet =
     at_put (λ past. askings past ≡ askings (history i t now)) (t == s && i == m) _ (history i t now) refl (λ e. e)
+quiet_deed heading i t m s (Asks client number ask) now quiet = absurd quiet
 
 rest_asks : (heading : Heading) (line : Line) (before : List Event) (i t : ℕ) → IsNoStep line
     → askings (history i t (after heading line before)) ≡ askings (history i t before)
 rest_asks heading line before i t quiet =
     rest_keeps heading (λ now. askings (history i t now) ≡ askings (history i t before))
     (λ m s doing now not e. quiet_deed heading i t m s doing now not ∙ e) line before quiet refl
+
+abbrev asking_for : ℕ → ℕ → QueryAsk → Asking
+asking_for client number ask = record { client = client; number = number; ask = OfQuery ask }
+
+drop_if : (a b : Bool) (x : Asking) (xs ys : List Asking) → a ≡ false → xs ≡ add_some (if a && b then Some x else None) ys → xs ≡ ys
+drop_if a b x xs ys e h = subst (λ z. xs ≡ add_some (if z && b then Some x else None) ys) e h
+
+-- A step on a query adds one deed at each shard.
+query_asks : (heading : Heading) (client number : ℕ) (ask : QueryAsk) (n : ℕ) (before : List Event) (i t : ℕ)
+    → askings (history i t (asks_at_each heading client number ask n before))
+    ≡ add_some (if nat_lt t n && i == home_of heading client then Some (asking_for client number ask) else None)
+    (askings (history i t before))
+query_asks heading client number ask zero before i t = rw (none t) refl
+  where
+    none : (t : ℕ) → nat_lt t 0 ≡ false
+    none t = grind (arith, nat_tests)
+query_asks heading client number ask (suc n) before i t =
+    at_shard (t == n) refl (i == home_of heading client) _ (query_asks heading client number ask n before i t)
+  where
+    now : List Event
+    now = asks_at_each heading client number ask n before
+
+    here : (t n : ℕ) → (t == n) ≡ true → (nat_lt t (suc n) ≡ true) × (nat_lt t n ≡ false)
+    here t n e = (grind (arith, nat_tests), grind (arith, nat_tests))
+
+    there : (t n : ℕ) → (t == n) ≡ false → nat_lt t (suc n) ≡ nat_lt t n
+    there t n e = grind (arith, nat_tests)
+
+    at_shard : (a : Bool) → (t == n) ≡ a → (b : Bool) (reply : QueryReply)
+        → askings (history i t now)
+        ≡ add_some (if nat_lt t n && b then Some (asking_for client number ask) else None) (askings (history i t before))
+        → askings (put_if (a && b) (Asked client number ask reply) (history i t now))
+        ≡ add_some (if nat_lt t (suc n) && b then Some (asking_for client number ask) else None) (askings (history i t before))
+    at_shard true e true reply next =
+        let lt = here t n e in
+        let p = lt.0 in
+        rw p (ap (λ xs. asking_for client number ask ∷ xs)
+        (drop_if (nat_lt t n) true (asking_for client number ask) _ _ lt.1 next))
+    at_shard true e false reply next =
+        let lt = here t n e in
+        let p = lt.0 in
+        rw p (drop_if (nat_lt t n) false (asking_for client number ask) _ _ lt.1 next)
+    at_shard false e b reply next = let s = there t n e in rw s next
 
 line_asks : (heading : Heading) (line : Line) (before : List Event) (i t : ℕ)
     → askings (history i t (after heading line before)) ≡ add_some (asked_at heading i t line) (askings (history i t before))
@@ -128,10 +178,11 @@ line_asks heading (Step client number (act.Call ask)) before i t =
   where
     at_test : (b : Bool) (reply : Reply) (made : Option Change) (to : ℕ)
         → askings (put_if b (Call client number ask reply made to) (history i t before))
-        ≡ add_some (if b then Some (record { client = client; number = number; ask = ask }) else None) (askings (history i t before))
+        ≡ add_some (if b then Some (record { client = client; number = number; ask = OfKey ask }) else None) (askings (history i t
+        before))
     at_test true reply made to = refl
     at_test false reply made to = refl
-line_asks heading (Step client number (act.Query ask)) before i t = refl
+line_asks heading (Step client number (act.Query ask)) before i t = query_asks heading client number ask heading.shards before i t
 line_asks heading (Step client number (act.Peek key)) before i t = refl
 line_asks heading (Deliver member client number) before i t = rest_asks heading (Deliver member client number) before i t tt
 line_asks heading (line.Report member) before i t = rest_asks heading (line.Report member) before i t tt
@@ -153,6 +204,7 @@ quiet_told heading client m s (Merges image) now quiet = refl
 quiet_told heading client m s Reports now quiet = refl
 quiet_told heading client m s (Hears report) now quiet = refl
 quiet_told heading client m s (Sweeps moment) now quiet = refl
+quiet_told heading client m s (Asks own number ask) now quiet = absurd quiet
 
 rest_tells : (heading : Heading) (line : Line) (before : List Event) (client : ℕ) → IsNoStep line
     → told client (after heading line before) ≡ told client before
@@ -169,10 +221,19 @@ count_one : (b : Bool) (number : ℕ) (answer : Answer) (all : List Numbered)
 count_one true number answer all = refl
 count_one false number answer all = refl
 
+told_asks : (heading : Heading) (client number : ℕ) (ask : QueryAsk) (n : ℕ) (before : List Event) (who : ℕ)
+    → told who (asks_at_each heading client number ask n before) ≡ told who before
+told_asks heading client number ask n before who =
+    each_keeps (λ k now. told who now ≡ told who before) n
+    (λ shard. does heading (home_of heading client) shard (Asks client number ask)) before refl (λ k now less e. e)
+
 line_tells : (heading : Heading) (line : Line) (before : List Event) (client : ℕ)
     → counted (told client (after heading line before)) ≡ add_some (number_at client line) (counted (told client before))
 line_tells heading (Step who number (act.Call ask)) before client = count_one (who == client) number _ (told client before)
-line_tells heading (Step who number (act.Query ask)) before client = refl
+line_tells heading (Step who number (act.Query ask)) before client =
+    count_one (who == client) number _ (told client (asks_at_each heading who number ask heading.shards before))
+    ∙ ap (λ all. add_some (if who == client then Some number else None) (counted all))
+    (told_asks heading who number ask heading.shards before client)
 line_tells heading (Step who number (act.Peek key)) before client = count_one (who == client) number _ (told client before)
 line_tells heading (Deliver member of number) before client = ap counted (rest_tells heading (Deliver member of number) before client tt)
 line_tells heading (line.Report member) before client = ap counted (rest_tells heading (line.Report member) before client tt)
@@ -213,5 +274,24 @@ replies_stand-holds (Did m s deed ∷ before) member shard client number ask rep
     at_test true next (inr a) = among_some _ (told_by_deed client deed) (told client before) (next a)
     at_test false next a = among_some _ (told_by_deed client deed) (told client before) (next a)
 replies_stand-holds (Peeked own number_ key value at ∷ before) member shard client number ask reply made to a =
-    among_some _ (if own == client then Some (record { number = number_; answer = answer.Peeked value at }) else None) (told client before)
+    among_some _ (if own == client then Some (record { number = number_; answer = answer.Peeked value at }) else None) (told client
+    before)
     (replies_stand-holds before member shard client number ask reply made to a)
+replies_stand-holds (Gathered own number_ replies ∷ before) member shard client number ask reply made to a =
+    among_some _ (if own == client then Some (record { number = number_; answer = answer.Asked replies }) else None) (told client before)
+    (replies_stand-holds before member shard client number ask reply made to a)
+
+still_gathered : (heading : Heading) (client number : ℕ) (replies : List QueryReply) (event : Event) (before : List Event)
+    → IsGathered heading client number replies before → IsGathered heading client number replies (event ∷ before)
+still_gathered heading client number replies event before h = record {
+  one_each = h.one_each;
+  told = λ shard less.
+      let deed = h.told shard less in (deed.0, more_among (home_of heading client) shard _ event before deed.1);
+}
+
+pub queries_told-holds : (heading : Heading) (events : List Event) → IsCausal heading events → queries_told heading events
+queries_told-holds heading [] h client number replies a = absurd a
+queries_told-holds heading (event ∷ before) h client number replies (inl is) =
+    still_gathered heading client number replies event before (subst (λ e. IsNextEvent heading e before) (sym is) h.0)
+queries_told-holds heading (event ∷ before) h client number replies (inr a) =
+    still_gathered heading client number replies event before (queries_told-holds heading before h.1 client number replies a)

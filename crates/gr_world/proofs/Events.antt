@@ -27,8 +27,8 @@ use Rattle.gr_law.specs.Grids.{Among}
 use Rattle.gr_law.specs.Integrity.{HasNoImage}
 use Rattle.gr_law.proofs.Lists.{among_right}
 use Rattle.gr_script.specs.Rules.{Heading}
-use Rattle.gr_world.specs.Events.{Event, Did, Peeked, put_if, history}
-use Rattle.gr_world.specs.Doings.{Doing, Calls, Takes, Gives, Merges, Reports, Hears, Sweeps, call_with, deed_of, report_of}
+use Rattle.gr_world.specs.Events.{Event, Did, Peeked, Gathered, put_if, history}
+use Rattle.gr_world.specs.Doings.{Doing, Calls, Takes, Gives, Merges, Reports, Hears, Sweeps, Asks, call_with, deed_of, report_of}
 use Rattle.gr_world.specs.Courses.{does}
 use Rattle.gr_world.specs.Doings.{Says}
 
@@ -52,6 +52,7 @@ pub more_among : (i t : ℕ) (one : Deed) (event : Event) (before : List Event) 
     → Among one (history i t (event ∷ before))
 more_among i t one (Did m s deed) before h = at_put (Among one) (t == s && i == m) deed (history i t before) h (λ a. inr a)
 more_among i t one (Peeked client number key value at) before h = h
+more_among i t one (Gathered client number replies) before h = h
 
 pub more_made : (i t : ℕ) (change : Change) (event : Event) (before : List Event) → Among change (made (history i t before))
     → Among change (made (history i t (event ∷ before)))
@@ -59,6 +60,7 @@ more_made i t change (Did m s deed) before h =
     at_put (λ past. Among change (made past)) (t == s && i == m) deed (history i t before) h
     (λ a. among_right change (made_at deed) (made (history i t before)) a)
 more_made i t change (Peeked client number key value at) before h = h
+more_made i t change (Gathered client number replies) before h = h
 
 -- whether an image is merged at the member
 abbrev pub Spares : ℕ → ℕ → Doing → Type 0
@@ -69,8 +71,10 @@ Spares j m (Merges image) = (m ≡ j) → ⊥
 Spares j m Reports = Unit {0}
 Spares j m (Hears report) = Unit {0}
 Spares j m (Sweeps moment) = Unit {0}
+Spares j m (Asks client number ask) = Unit {0}
 
-pub no_image : (heading : Heading) (j t m s : ℕ) (doing : Doing) (before : List Event) → Spares j m doing → HasNoImage (history j t before)
+pub no_image : (heading : Heading) (j t m s : ℕ) (doing : Doing) (before : List Event) → Spares j m doing → HasNoImage (history j t
+    before)
     → HasNoImage (history j t (does heading m s doing before))
 no_image heading j t m s (Calls client number ask) before h none =
     at_put HasNoImage (t == s && j == m) _ (history j t before) none (λ a. a)
@@ -85,6 +89,8 @@ no_image heading j t m s (Merges image) before h none = at_test (t == s) (j == m
 no_image heading j t m s Reports before h none = at_put HasNoImage (t == s && j == m) _ (history j t before) none (λ a. a)
 no_image heading j t m s (Hears report) before h none = at_put HasNoImage (t == s && j == m) _ (history j t before) none (λ a. a)
 no_image heading j t m s (Sweeps moment) before h none = at_put HasNoImage (t == s && j == m) _ (history j t before) none (λ a. a)
+no_image heading j t m s (Asks client number ask) before h none =
+    at_put HasNoImage (t == s && j == m) _ (history j t before) none (λ a. a)
 
 -- Nothing changes at another shard.
 pub other_shard : (i t m s : ℕ) (deed : Deed) (before : List Event) → ((t ≡ s) → ⊥)
@@ -156,7 +162,8 @@ pub one_deed : (id : Identity) (opening : ℕ) (past : List Deed) (deed : Deed) 
     → deed ≡ deed_of id opening past doing
 one_deed id opening past (Call client number ask reply made to) doing says law =
     subst (λ d. Call client number ask reply made to ≡ deed_of id opening past d) (sym says) (ap (call_with client number ask) law)
-one_deed id opening past (Asked client number ask reply) doing says law = absurd says
+one_deed id opening past (Asked client number ask reply) doing says law =
+    subst (λ d. Asked client number ask reply ≡ deed_of id opening past d) (sym says) (ap (Asked client number ask) law)
 one_deed id opening past (Taken change how) doing says law =
     subst (λ d. Taken change how ≡ deed_of id opening past d) (sym says) (ap (Taken change) law)
 one_deed id opening past (Gave to what) doing says law = subst (λ d. Gave to what ≡ deed_of id opening past d) (sym says) refl

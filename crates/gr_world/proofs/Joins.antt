@@ -29,7 +29,7 @@ use Rattle.gr_script.specs.Rules.{Heading, IsMember, home_of}
 use Rattle.gr_script.specs.Steps.{joins_of, is_join_of}
 use Rattle.std.proofs.lemmas.List.Sums.{sum_by-cons}
 use Rattle.gr_world.specs.Events.{Event, Did, history}
-use Rattle.gr_world.specs.Doings.{Doing, Calls, Takes, Gives, Merges, Reports, Hears, Sweeps, deed_of, image_of}
+use Rattle.gr_world.specs.Doings.{Doing, Calls, Takes, Gives, Merges, Reports, Hears, Sweeps, Asks, deed_of, image_of}
 use Rattle.gr_world.specs.Named.{made_by, reports, numbered}
 use Rattle.gr_world.specs.Courses.{identity_at, does, for_each, delivers, hears, takes_all, gives_unless, what_from, after, course}
 use Rattle.gr_world.specs.Causes.{grid_at, IsCausal}
@@ -250,7 +250,10 @@ line_unmerged : (heading : Heading) (j : ℕ) (line : Line) (now : List Event) �
     → NoImages j (after heading line now)
 line_unmerged heading j (Step client number (act.Call ask)) now not none =
     unmerged heading j (home_of heading client) (shard_of (key_of ask) heading.shards) (Calls client number ask) now tt none
-line_unmerged heading j (Step client number (act.Query ask)) now not none = none
+line_unmerged heading j (Step client number (act.Query ask)) now not none =
+    each_keeps (λ n mid. NoImages j mid) heading.shards
+    (λ shard. does heading (home_of heading client) shard (Asks client number ask)) now none
+    (λ shard mid less h. unmerged heading j (home_of heading client) shard (Asks client number ask) mid tt h)
 line_unmerged heading j (Step client number (act.Peek key)) now not none = none
 line_unmerged heading j (Deliver member client number) now not none = at_change (made_by client number now)
   where

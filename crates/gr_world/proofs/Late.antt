@@ -14,7 +14,7 @@ use Rattle.gr_history.specs.Made.{made}
 use Rattle.gr_law.specs.Grids.{Among, Older}
 use Rattle.gr_script.specs.declared.line.Line.{Line}
 use Rattle.gr_script.specs.Rules.{Heading, IsHeading, home_of, AllStand}
-use Rattle.gr_world.specs.Events.{Event, Did, Peeked, put_if, history}
+use Rattle.gr_world.specs.Events.{Event, Did, Peeked, Gathered, put_if, history}
 use Rattle.gr_world.specs.Courses.{course}
 use Rattle.gr_world.specs.Causes.{IsNextEvent, IsCausal}
 use Rattle.gr_world.specs.Clients.{add_some, Numbered, told_by_deed, told_by, told, AllBelow, Descends, peeks_late, peeks_grow}
@@ -70,6 +70,15 @@ late heading (Did m s deed ∷ before) h client number key value at desc (inl is
 late heading (Peeked own seq which seen place ∷ before) h client number key value at desc (inr a) earlier ask reply made to past o less =
     late heading before h.1 client number key value at
     (descends_rest (told_by client (Peeked own seq which seen place))
+    (told client before) desc) a earlier ask reply made to past o less
+late heading (Gathered own seq replies ∷ before) h client number key value at desc (inl is) earlier ask reply made to past o less =
+    absurd (no is)
+  where
+    no : Peeked client number key value at ≡ Gathered own seq replies → ⊥
+    no e = cc
+late heading (Gathered own seq replies ∷ before) h client number key value at desc (inr a) earlier ask reply made to past o less =
+    late heading before h.1 client number key value at
+    (descends_rest (told_by client (Gathered own seq replies))
     (told client before) desc) a earlier ask reply made to past o less
 late heading (Did m s deed ∷ before) h client number key value at desc (inr a) earlier ask reply made to past o less =
     at_test (shard_of key heading.shards == s && home_of heading client == m)

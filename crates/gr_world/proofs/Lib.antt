@@ -2,6 +2,7 @@ pub mod Events
 pub mod Whole
 pub mod Causes
 pub mod Handing
+pub mod Asking
 pub mod Joins
 pub mod Causal
 pub mod Clients
@@ -9,6 +10,7 @@ pub mod Placed
 pub mod Peeks
 pub mod Numbers
 pub mod Late
+pub mod Told
 pub mod Served
 pub mod Left
 pub mod Lists

@@ -68,7 +68,7 @@ next_number heading client (Step own seq act_of) past number stands h = by_act a
 
     by_act : (a : Act) → number_at client (Step own seq a) ≡ Some number → IsNextNumber client (Step own seq a) past number
     by_act (act.Call ask) h = at_test (act.Call ask) (own == client) refl h
-    by_act (act.Query ask) h = absurd (cc)
+    by_act (act.Query ask) h = at_test (act.Query ask) (own == client) refl h
     by_act (act.Peek key) h = at_test (act.Peek key) (own == client) refl h
 next_number heading client (Deliver to of seq) past number stands h = absurd (cc)
 next_number heading client (line.Report of) past number stands h = absurd (cc)

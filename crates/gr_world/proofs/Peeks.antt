@@ -11,7 +11,7 @@ use Rattle.gr_law.specs.Grids.{Among, Older, at_place}
 use Rattle.gr_law.proofs.Made.{older_itself, older_trans}
 use Rattle.gr_script.specs.declared.line.Line.{Line}
 use Rattle.gr_script.specs.Rules.{Heading, IsHeading, home_of, AllStand}
-use Rattle.gr_world.specs.Events.{Event, Did, Peeked, history}
+use Rattle.gr_world.specs.Events.{Event, Did, Peeked, Gathered, history}
 use Rattle.gr_world.specs.Courses.{course}
 use Rattle.gr_world.specs.Causes.{IsNextEvent, IsCausal}
 use Rattle.gr_world.specs.Clients.{peeks_stand}
@@ -23,6 +23,7 @@ pub older_event : (i t : ℕ) (event : Event) (before : List Event) → Older (h
 older_event i t (Did m s deed) before =
     at_put (Older (history i t before)) (t == s && i == m) deed (history i t before) (older_itself (history i t before)) (λ o. inr o)
 older_event i t (Peeked client number key value at) before = older_itself (history i t before)
+older_event i t (Gathered client number replies) before = older_itself (history i t before)
 
 pub older_length : (q h : List Deed) → Older q h → length q ≤ length h
 older_length q [] o = rw o (omega arith)

@@ -16,11 +16,12 @@ use Rattle.gr_law.proofs.Held.{law_3-holds, law_4-holds, law_5-holds, same_value
 use Rattle.gr_script.specs.Rules.{IsScript}
 use Rattle.gr_world.specs.Histories.{IsLawAbiding}
 use Rattle.gr_world.proofs.Causal.{course_causal}
-use Rattle.gr_world.proofs.Clients.{calls_stand-holds, answers_stand-holds, replies_stand-holds}
+use Rattle.gr_world.proofs.Clients.{calls_stand-holds, answers_stand-holds, replies_stand-holds, queries_told-holds}
 use Rattle.gr_world.proofs.Numbers.{numbers_descend-holds}
 use Rattle.gr_world.proofs.Peeks.{peeks_stand-holds}
 use Rattle.gr_world.proofs.Late.{peeks_late-holds, peeks_grow-holds}
-use Rattle.gr_world.proofs.Placed.{calls_placed-holds}
+use Rattle.gr_world.proofs.Placed.{calls_placed-holds, queries_placed-holds}
+use Rattle.gr_world.proofs.Told.{queries_stand-holds}
 use Rattle.gr_world.proofs.Whole.{whole_course}
 
 pub script_causal : (heading : Heading) (lines : List Line) → IsScript heading lines → IsCausal heading (course heading (reverse lines))
@@ -51,9 +52,12 @@ script_served heading lines is =
     record {
       calls = calls_stand-holds heading past;
       placed = calls_placed-holds heading (course heading past) (script_causal heading lines is);
+      queries = queries_placed-holds heading (course heading past) (script_causal heading lines is);
       answers = answers_stand-holds heading past;
       in_order = λ client. numbers_descend-holds heading client past is.lines_stand;
       replies = replies_stand-holds (course heading past);
+      stand = queries_stand-holds heading past;
+      gathered = queries_told-holds heading (course heading past) (script_causal heading lines is);
       peeks = peeks_stand-holds heading past is.heading is.lines_stand;
       late = peeks_late-holds heading past is.heading is.lines_stand;
       growing = peeks_grow-holds heading past is.heading is.lines_stand;

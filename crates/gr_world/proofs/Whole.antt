@@ -7,7 +7,7 @@ use Rattle.gr_law.specs.Integrity.{IsWhole}
 use Rattle.gr_law.specs.Next.{IsNext}
 use Rattle.gr_law.proofs.Growth.{whole_next}
 use Rattle.gr_script.specs.Rules.{Heading}
-use Rattle.gr_world.specs.Events.{Event, Did, Peeked, put_if, history}
+use Rattle.gr_world.specs.Events.{Event, Did, Peeked, Gathered, put_if, history}
 use Rattle.gr_world.specs.Causes.{grid_at, IsCausal}
 use Rattle.gr_world.proofs.Events.{equal_numbers}
 
@@ -34,3 +34,4 @@ whole_course heading (Did m s deed ∷ before) h shard = at_test (shard == s) re
         (λ i. put_if (i == m) deed (history i shard before)) (λ i. put_same (i == m) deed (history i shard before))
     at_test false e whole = whole
 whole_course heading (Peeked client number key value at ∷ before) h shard = whole_course heading before h.1 shard
+whole_course heading (Gathered client number replies ∷ before) h shard = whole_course heading before h.1 shard

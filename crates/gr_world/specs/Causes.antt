@@ -1,14 +1,17 @@
 -- What each event rests on was there before it.
-use Rattle.std.specs.Prelude.{◌≡◌, ℕ, List, [], ◌∷◌, length}
+use Rattle.std.specs.Prelude.{◌≡◌, ◌<◌, ℕ, List, [], ◌∷◌, length, get_or}
 use Rattle.gr_value.specs.Shard.{shard_of}
 use Rattle.gr_history.specs.declared.deed.Deed.{Deed}
 use Rattle.gr_history.specs.declared.deed.Deed.TheVariants.{Call, Asked, Taken, Gave, Imaged, Reported, Heard, Swept}
+use Rattle.gr_history.specs.declared.query_ask.QueryAsk.{QueryAsk}
+use Rattle.gr_history.specs.declared.query_reply.QueryReply.{QueryReply}
+use Rattle.gr_history.specs.declared.query_reply.QueryReply.TheVariants.{Unknown}
 use Rattle.gr_history.specs.Asks.{key_of}
 use Rattle.gr_history.specs.Standing.{present}
-use Rattle.gr_law.specs.Grids.{Grid}
+use Rattle.gr_law.specs.Grids.{Among, Grid}
 use Rattle.gr_law.specs.Next.{IsNext}
 use Rattle.gr_script.specs.Rules.{Heading, home_of}
-use Rattle.gr_world.specs.Events.{Event, Did, Peeked, history}
+use Rattle.gr_world.specs.Events.{Event, Did, Peeked, Gathered, history}
 
 -- all members' histories of one shard
 abbrev pub grid_at : Heading → ℕ → List Event → Grid
@@ -33,14 +36,22 @@ IsPlaced heading member shard (Reported report) = Unit {0}
 IsPlaced heading member shard (Heard report) = Unit {0}
 IsPlaced heading member shard (Swept moment expired) = Unit {0}
 
+-- Of each shard of the client's member the reply is that of a deed of this step.
+pub record IsGathered (heading : Heading) (client number : ℕ) (replies : List QueryReply) (before : List Event) : Type 0 where
+  pub one_each : length replies ≡ heading.shards
+  pub told : (shard : ℕ) → shard < heading.shards → (ask : QueryAsk)
+      × Among (Asked client number ask (get_or replies shard Unknown)) (history (home_of heading client) shard before)
+
 -- A deed is lawful after the history so far. A change that is taken in and a report that is heard were made
--- before, and an image that is merged was given before. A peek sees what is present.
+-- before, and an image that is merged was given before. A peek sees what is present. What a client is told of a query
+-- its member's shards answered before.
 abbrev pub IsNextEvent : Heading → Event → List Event → Type 0
 IsNextEvent heading (Did member shard deed) before =
     IsNext (grid_at heading shard before) member deed × IsPlaced heading member shard deed
 IsNextEvent heading (Peeked client number key value at) before =
     (value ≡ present key (history (home_of heading client) (shard_of key heading.shards) before))
     × (at ≡ length (history (home_of heading client) (shard_of key heading.shards) before))
+IsNextEvent heading (Gathered client number replies) before = IsGathered heading client number replies before
 
 abbrev pub IsCausal : Heading → List Event → Type 0
 IsCausal heading [] = Unit {0}

@@ -8,7 +8,10 @@ use Rattle.gr_history.specs.declared.image.Gift.{Gift}
 use Rattle.gr_history.specs.declared.image.Gift.TheVariants as gift
 use Rattle.gr_history.specs.declared.image.What.{What}
 use Rattle.gr_history.specs.declared.image.What.TheVariants as what
+use Rattle.gr_history.specs.declared.query_ask.QueryAsk.{QueryAsk}
+use Rattle.gr_history.specs.declared.query_reply.QueryReply.{QueryReply}
 use Rattle.gr_history.specs.Asks.{key_of}
+use Rattle.gr_history.specs.Queries.{query_gives}
 use Rattle.gr_history.specs.Gifts.{own_changes}
 use Rattle.gr_history.specs.Standing.{present}
 use Rattle.gr_script.specs.declared.line.Act.TheVariants as act
@@ -16,9 +19,10 @@ use Rattle.gr_script.specs.declared.line.Line.{Line}
 use Rattle.gr_script.specs.declared.line.Line.TheVariants.{Step, Deliver, Hear, Sweep, Join}
 use Rattle.gr_script.specs.declared.line.Line.TheVariants as line
 use Rattle.gr_script.specs.Rules.{Heading, home_of}
-use Rattle.gr_world.specs.Events.{Event, Did, Peeked, history}
-use Rattle.gr_world.specs.Doings.{Doing, Calls, Takes, Gives, Merges, Reports, Hears, Sweeps, deed_of, image_of}
+use Rattle.gr_world.specs.Events.{Event, Did, Peeked, Gathered, history}
+use Rattle.gr_world.specs.Doings.{Doing, Calls, Takes, Gives, Merges, Reports, Hears, Sweeps, Asks, deed_of, image_of}
 use Rattle.gr_world.specs.Named.{made_by, reports, numbered}
+use Rattle.gr_world.specs.Numbered.{numbers_from}
 
 abbrev pub identity_at : Heading → ℕ → ℕ → Identity
 identity_at heading member shard = record {
@@ -44,6 +48,21 @@ looks heading client number key before =
 abbrev pub for_each : ℕ → (ℕ → List Event → List Event) → List Event → List Event
 for_each zero act before = before
 for_each (suc n) act before = act n (for_each n act before)
+
+-- A client asks something of a query at the shards below n of its member.
+abbrev pub asks_at_each : Heading → ℕ → ℕ → QueryAsk → ℕ → List Event → List Event
+asks_at_each heading client number ask n =
+    for_each n (λ shard. does heading (home_of heading client) shard (Asks client number ask))
+
+-- what each of the shards answers after its history
+abbrev pub replies_to : Heading → ℕ → QueryAsk → List Event → List QueryReply
+replies_to heading client ask before =
+    numbers_from 0 heading.shards (λ shard. query_gives client ask (history (home_of heading client) shard before))
+
+-- It asks at all shards, and is told what they answered.
+abbrev pub asks : Heading → ℕ → ℕ → QueryAsk → List Event → List Event
+asks heading client number ask before =
+    Gathered client number (replies_to heading client ask before) ∷ asks_at_each heading client number ask heading.shards before
 
 -- A member takes in a change, if there is one, in the shard of its key.
 abbrev pub delivers : Heading → ℕ → Option Change → List Event → List Event
@@ -91,11 +110,11 @@ abbrev pub joins_at : Heading → ℕ → ℕ → ℕ → List Event → List Ev
 joins_at heading joiner provider shard =
     for_each heading.members (λ n. gives_unless (suc n == joiner) heading joiner shard (suc n) (what_from (suc n == provider)))
 
--- The table: what is done on each kind of line. Queries do nothing yet.
+-- The table: what is done on each kind of line.
 abbrev pub after : Heading → Line → List Event → List Event
 after heading (Step client number (act.Call ask)) before =
     does heading (home_of heading client) (shard_of (key_of ask) heading.shards) (Calls client number ask) before
-after heading (Step client number (act.Query ask)) before = before
+after heading (Step client number (act.Query ask)) before = asks heading client number ask before
 after heading (Step client number (act.Peek key)) before = looks heading client number key before
 after heading (Deliver member client number) before = delivers heading member (made_by client number before) before
 after heading (line.Report member) before = for_each heading.shards (λ shard. does heading member shard Reports) before

@@ -12,6 +12,8 @@ use Rattle.gr_history.specs.declared.deed.Deed.{Deed}
 use Rattle.gr_history.specs.declared.deed.Deed.TheVariants.{Call, Asked, Taken, Gave, Imaged, Reported, Heard, Swept}
 use Rattle.gr_history.specs.Calls.{call_gives}
 use Rattle.gr_history.specs.Floor.{floor}
+use Rattle.gr_history.specs.declared.query_ask.QueryAsk.{QueryAsk}
+use Rattle.gr_history.specs.Queries.{query_gives}
 use Rattle.gr_history.specs.Ids.{ids, known}
 use Rattle.gr_history.specs.Regions.{all_standing}
 use Rattle.gr_history.specs.Stable.{due}
@@ -35,8 +37,9 @@ image_of member opening past = record {
   floor = floor opening past;
 }
 
--- A client's step calls, a change is taken in, a joiner is given something, an image is merged, a report is made,
--- a report is heard, or a sweep goes through. What comes of it is told by the history before.
+-- A client's step calls or asks something of a query, a change is taken in, a joiner is given something, an image
+-- is merged, a report is made, a report is heard, or a sweep goes through. What comes of it is told by the history
+-- before.
 pub data Doing : Type 0 where
   Calls : ℕ → ℕ → Ask → Doing
   Takes : Change → Doing
@@ -45,6 +48,7 @@ pub data Doing : Type 0 where
   Reports : Doing
   Hears : Report → Doing
   Sweeps : ℕ → Doing
+  Asks : ℕ → ℕ → QueryAsk → Doing
 
 abbrev pub call_with : ℕ → ℕ → Ask → Done → Deed
 call_with client number ask done = Call client number ask done.reply done.made done.to
@@ -58,12 +62,12 @@ deed_of id opening past (Merges image) = Imaged image
 deed_of id opening past Reports = Reported (report_of id.member past)
 deed_of id opening past (Hears report) = Heard report
 deed_of id opening past (Sweeps moment) = Swept moment (due id moment past)
+deed_of id opening past (Asks client number ask) = Asked client number ask (query_gives client ask past)
 
--- A deed says that this was done, and a report that was made has a vector with no room to spare. Nothing that is
--- done asks of a query yet.
+-- a deed says that this was done, and a report that was made has a vector with no room to spare
 abbrev pub Says : Deed → Doing → Type 0
 Says (Call client seq ask reply made to) doing = doing ≡ Calls client seq ask
-Says (Asked client seq ask reply) doing = ⊥
+Says (Asked client seq ask reply) doing = doing ≡ Asks client seq ask
 Says (Taken change told) doing = doing ≡ Takes change
 Says (Gave to what) doing = doing ≡ Gives to what
 Says (Imaged image) doing = doing ≡ Merges image

@@ -4,7 +4,7 @@ use Rattle.gr_stamp.specs.declared.change.Change.{Change}
 use Rattle.gr_vector.specs.declared.report.Report.{Report}
 use Rattle.gr_history.specs.declared.deed.Deed.{Deed}
 use Rattle.gr_history.specs.declared.deed.Deed.TheVariants.{Call, Asked, Taken, Gave, Imaged, Reported, Heard, Swept}
-use Rattle.gr_world.specs.Events.{Event, Did, Peeked}
+use Rattle.gr_world.specs.Events.{Event, Did, Peeked, Gathered}
 
 -- what a deed made, where it is this step of the client
 abbrev pub made_by_deed : ℕ → ℕ → Deed → Option Change
@@ -26,6 +26,7 @@ abbrev pub made_by : ℕ → ℕ → List Event → Option Change
 made_by client number [] = None
 made_by client number (Did m s deed ∷ before) = or_else (made_by_deed client number deed) (made_by client number before)
 made_by client number (Peeked own seq key value at ∷ before) = made_by client number before
+made_by client number (Gathered own seq replies ∷ before) = made_by client number before
 
 -- the reports of a history, the newest one first
 abbrev pub reports : List Deed → List Report

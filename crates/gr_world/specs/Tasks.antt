@@ -9,7 +9,7 @@ use Rattle.gr_shard.specs.Merges.{IsGiftFor, IsImageFor}
 use Rattle.gr_shard.specs.View.{Account}
 use Rattle.gr_world.specs.declared.task.Task.{Task}
 use Rattle.gr_world.specs.declared.task.Task.TheVariants as task
-use Rattle.gr_world.specs.Doings.{Doing, Calls, Takes, Gives, Merges, Reports, Hears, Sweeps}
+use Rattle.gr_world.specs.Doings.{Doing, Calls, Takes, Gives, Merges, Reports, Hears, Sweeps, Asks}
 
 abbrev pub doing_of : Task → Doing
 doing_of (task.Take change) = Takes change.now
@@ -27,6 +27,7 @@ BelongsTo account (Merges image) = IsImageFor account.id image
 BelongsTo account Reports = Unit {0}
 BelongsTo account (Hears report) = Unit {0}
 BelongsTo account (Sweeps moment) = Unit {0}
+BelongsTo account (Asks client number ask) = Unit {0}
 
 -- what a shard gives: the image or the own changes, which fit a shard of its number
 abbrev pub IsGiven : Account → What → Gift → Type 0

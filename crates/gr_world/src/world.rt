@@ -1,10 +1,11 @@
-ghost use Rattle.std.specs.Prelude.{◌≡◌, ◌<◌, ℕ, List, [], length, reverse, IfOk};
+ghost use Rattle.std.specs.Prelude.{◌≡◌, ◌<◌, ℕ, List, [], true, length, reverse, IfOk};
 ghost use Rattle.gr_script.specs.declared.line.Act.TheVariants as act;
 ghost use Rattle.gr_script.specs.declared.line.Line.TheVariants as line;
 ghost use Rattle.gr_script.specs.Rules.{IsMember, IsStated, home_of};
 ghost use Rattle.gr_script.specs.Scripts.{heading_of};
 ghost use Rattle.gr_history.specs.declared.record.Answer.TheVariants as answer;
 ghost use Rattle.gr_history.specs.Standing.{present};
+ghost use Rattle.gr_world.specs.Built.{is_built_line};
 ghost use Rattle.gr_world.specs.Courses.{after, does, for_each, hears_of};
 ghost use Rattle.gr_world.specs.Tasks.{BelongsTo, doing_of};
 ghost use Rattle.gr_shard.specs.View.{Account};
@@ -138,6 +139,7 @@ impl World {
     ) -> Result<(), Memory>
         requires work { IsAtWork (heading_of script.now) self.old }
         requires stated { IsStated client (heading_of script.now) }
+        requires built { is_built_line (line.Step client seq act.now) ≡ true }
         ensures { IfOk result
             (λ _. Plays (heading_of script.now) (after (heading_of script.now) (line.Step client seq act.now)) self.old self.new) }
     {
