@@ -80,6 +80,13 @@ impl Foreseen {
         })
     }
 
+    /// The events that are handed out.
+    pub fn given(&self) -> &EventList
+        ensures { result.now ≡ self.now.given }
+    {
+        &self.given
+    }
+
     /// For how many events there must be room at each query, and at least 1.
     pub(crate) fn room(&self) -> usize
         ensures some { 1 ≤ result }

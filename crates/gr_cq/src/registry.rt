@@ -1,4 +1,4 @@
-ghost use Rattle.std.specs.Prelude.{◌≡◌, ◌≤◌, [], IfOk, OnOk, OnErr};
+ghost use Rattle.std.specs.Prelude.{◌≡◌, ◌≤◌, ◌==◌, [], length, IfOk, OnOk, OnErr};
 ghost use Rattle.gr_cq.specs.Entries.{find, changed_at, kept_stopped, kept_taken, enrolled, closed, noted, entry_opened};
 ghost use Rattle.gr_cq.specs.Ends.{enrol_end, stop_end, known_end, ended, EndsBy, waiting_of};
 ghost use Rattle.gr_cq.specs.Foresight.{changed, IsMadeFor, IsWithin, Enrolling, Taking, Telling, coming_to_each};
@@ -46,6 +46,13 @@ impl Registry {
             all: Vec::new(alloc),
             spare: 0,
         })
+    }
+
+    /// Whether no query is open.
+    pub fn is_empty(&self) -> bool
+        ensures { result ≡ length self.now.entries == 0 }
+    {
+        self.all.is_empty()
     }
 
     /// Opens a query, which runs from now on.
