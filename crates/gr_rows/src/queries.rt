@@ -1,6 +1,7 @@
 use crate::files::lines_of;
 use crate::running::no_memory;
 use crate::scripts::script_answer;
+use crate::values::value_answer;
 use gr_lex::LexFault;
 use gr_oql::{OqlFault, Part, Query, Truth};
 use gr_value::Value;
@@ -68,6 +69,7 @@ pub enum Table {
     Queries,
     Matches,
     Scripts,
+    Values,
 }
 
 impl Table {
@@ -76,6 +78,7 @@ impl Table {
             Table::Queries => "queries",
             Table::Matches => "matches",
             Table::Scripts => "scripts",
+            Table::Values => "values",
         }
     }
 
@@ -84,6 +87,7 @@ impl Table {
             Table::Queries => reading(alloc, case),
             Table::Matches => truth(alloc, case),
             Table::Scripts => script_answer(alloc, case),
+            Table::Values => value_answer(alloc, case),
         }
     }
 }
