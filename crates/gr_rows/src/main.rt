@@ -1,9 +1,10 @@
 //! Runs whole scripts through the program, over sources and sinks in memory, and says of each whether
 //! what comes out is what its row says. Then compares the lines of the causes, the answers to queries,
-//! the reading of scripts, and values and keys with tables.
+//! the reading of scripts, values and keys, and drills with tables.
 #![tactic(auto)]
 
 mod causes;
+mod drills;
 mod files;
 mod queries;
 mod row;
@@ -40,5 +41,6 @@ fn main(rt: HostRuntime) -> io::Result<()> {
     compare(&rt, Table::Queries)?;
     compare(&rt, Table::Matches)?;
     compare(&rt, Table::Scripts)?;
-    compare(&rt, Table::Values)
+    compare(&rt, Table::Values)?;
+    compare(&rt, Table::Drills)
 }

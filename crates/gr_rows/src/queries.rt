@@ -1,3 +1,4 @@
+use crate::drills::drill_answer;
 use crate::files::lines_of;
 use crate::running::no_memory;
 use crate::scripts::script_answer;
@@ -70,6 +71,7 @@ pub enum Table {
     Matches,
     Scripts,
     Values,
+    Drills,
 }
 
 impl Table {
@@ -79,6 +81,7 @@ impl Table {
             Table::Matches => "matches",
             Table::Scripts => "scripts",
             Table::Values => "values",
+            Table::Drills => "drills",
         }
     }
 
@@ -88,6 +91,7 @@ impl Table {
             Table::Matches => truth(alloc, case),
             Table::Scripts => script_answer(alloc, case),
             Table::Values => value_answer(alloc, case),
+            Table::Drills => drill_answer(alloc, case),
         }
     }
 }
