@@ -8,8 +8,6 @@ mod open;
 mod opens;
 mod query_end;
 mod registry;
-#[cfg(test)]
-mod tests;
 mod waiting;
 
 pub use coming::Coming;

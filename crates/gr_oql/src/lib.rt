@@ -15,8 +15,6 @@ mod like;
 mod matching;
 mod query;
 mod terms;
-#[cfg(test)]
-mod tests;
 mod truth;
 
 pub use event::{BaseOp, Event, EventList, QueryOp, Turned, classify};

@@ -1,14 +1,16 @@
 //! Runs whole scripts through the program, over sources and sinks in memory, and says of each whether
-//! what comes out is what its row says. Then compares the lines of the causes, the answers to queries
-//! and the reading of scripts with tables.
+//! what comes out is what its row says. Then compares the lines of the causes, the answers to queries,
+//! the reading of scripts, values and keys, and drills with tables.
 #![tactic(auto)]
 
 mod causes;
+mod drills;
 mod files;
 mod queries;
 mod row;
 mod running;
 mod scripts;
+mod values;
 
 use causes::are_causes_so;
 use files::row_names;
@@ -38,5 +40,7 @@ fn main(rt: HostRuntime) -> io::Result<()> {
     println!(rt; "causes: {causes}")?;
     compare(&rt, Table::Queries)?;
     compare(&rt, Table::Matches)?;
-    compare(&rt, Table::Scripts)
+    compare(&rt, Table::Scripts)?;
+    compare(&rt, Table::Values)?;
+    compare(&rt, Table::Drills)
 }

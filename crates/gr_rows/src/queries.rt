@@ -1,6 +1,8 @@
+use crate::drills::drill_answer;
 use crate::files::lines_of;
 use crate::running::no_memory;
 use crate::scripts::script_answer;
+use crate::values::value_answer;
 use gr_lex::LexFault;
 use gr_oql::{OqlFault, Part, Query, Truth};
 use gr_value::Value;
@@ -68,6 +70,8 @@ pub enum Table {
     Queries,
     Matches,
     Scripts,
+    Values,
+    Drills,
 }
 
 impl Table {
@@ -76,6 +80,8 @@ impl Table {
             Table::Queries => "queries",
             Table::Matches => "matches",
             Table::Scripts => "scripts",
+            Table::Values => "values",
+            Table::Drills => "drills",
         }
     }
 
@@ -84,6 +90,8 @@ impl Table {
             Table::Queries => reading(alloc, case),
             Table::Matches => truth(alloc, case),
             Table::Scripts => script_answer(alloc, case),
+            Table::Values => value_answer(alloc, case),
+            Table::Drills => drill_answer(alloc, case),
         }
     }
 }

@@ -3,7 +3,8 @@ use gr_script::{Form, Reason, ScriptEnd, ScriptFault, read};
 use std::alloc::Global;
 use std::io;
 
-fn bad_case() -> io::Error {
+/// What a case that can't be read is answered.
+pub fn bad_case() -> io::Error {
     io::Error::from(io::ErrorKind::InvalidData)
 }
 
@@ -47,6 +48,15 @@ fn put_piece(bytes: &mut Vec<u8>, piece: &str) -> io::Result<()> {
     Ok(())
 }
 
+/// The bytes that pieces stand for, each behind a tab.
+pub fn bytes_of(alloc: Global, pieces: &str) -> io::Result<Vec<u8>> {
+    let mut bytes = Vec::new(alloc);
+    for piece in pieces.split('\t') {
+        put_piece(&mut bytes, piece)?;
+    }
+    Ok(bytes)
+}
+
 // The number of the fault that a reason names.
 fn fault_number(reason: Reason) -> Option<u8> {
     match reason {
@@ -86,9 +96,5 @@ pub fn script_answer(alloc: Global, case: &str) -> io::Result<String> {
     } else {
         Form::Replay
     };
-    let mut bytes = Vec::new(alloc);
-    for piece in pieces.split('\t') {
-        put_piece(&mut bytes, piece)?;
-    }
-    reading(alloc, bytes.as_slice(), form)
+    reading(alloc, bytes_of(alloc, pieces)?.as_slice(), form)
 }

@@ -44,6 +44,3 @@ pub use print_script::{print, scripts_read_back};
 pub use reading::read;
 pub use reason::Reason;
 pub use script::{MemberNumberList, Script};
-
-#[cfg(test)]
-mod tests;

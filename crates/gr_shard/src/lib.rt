@@ -9,8 +9,6 @@ mod merging;
 mod regions;
 mod shard;
 mod sweeping;
-#[cfg(test)]
-mod tests;
 mod told;
 
 pub use gr_history::{Done, Identity};

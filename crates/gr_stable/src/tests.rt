@@ -1,5 +1,7 @@
 use crate::Heard;
+use gr_history::Ask;
 use gr_stamp::Stamp;
+use gr_value::{Key, Value};
 use gr_vector::{Report, SharedVector, Vector};
 use std::alloc::Global;
 use std::test::Fail;
@@ -80,5 +82,19 @@ fn the_latest_report_counts(rt: HostRuntime) -> Result<(), Fail> {
         }
         assert!(rt; heard.stable(&tombstone, 1, 2, &known(alloc, [2, 0, 0])?) == stable);
     }
+    Ok(())
+}
+
+// What threads may hand to each other and read at the same time.
+fn may_be_shared<T: Send + Sync>(_shared: &T) {}
+
+// An ask is made of a key and values, so these may be shared too.
+#[test]
+fn asks_may_be_shared(rt: HostRuntime) -> Result<(), Fail> {
+    let alloc = rt.alloc();
+    may_be_shared(&Ask::Put {
+        key: Key::read(alloc, b"k")?,
+        value: Value::read(alloc, b"{}")?,
+    });
     Ok(())
 }

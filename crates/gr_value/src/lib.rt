@@ -11,8 +11,6 @@ mod plain;
 mod printing;
 mod reading;
 mod scalar;
-#[cfg(test)]
-mod tests;
 mod text;
 mod value;
 
