@@ -26,11 +26,11 @@ both_given id opening now past client ask replies kept is =
     (ap (λ (r : Replies). r.noted) is ∙ gives, ap (λ (r : Replies). r.told) is ∙ gives)
 
 -- and what is kept stays tied to it.
-pub kept_asked : (id : Identity) (opening : ℕ) (now : Kept) (past : List Deed) (client seq : ℕ) (ask : QueryAsk) (reply : QueryReply)
+pub kept_answered : (id : Identity) (opening : ℕ) (now : Kept) (past : List Deed) (client seq : ℕ) (ask : QueryAsk) (reply : QueryReply)
     → IsKept id opening now past → reply ≡ query_gives client ask past
     → IsKept id opening (record now { queries = served client ask now.queries }) (Asked client seq ask reply ∷ past)
 unfolding recipients
-kept_asked id opening now past client seq ask reply kept is = record {
+kept_answered id opening now past client seq ask reply kept is = record {
   place = kept.place;
   lawful = (is, kept.lawful);
   of_shard = kept.of_shard;

@@ -2,7 +2,7 @@ use Rattle.std.proofs.Common.{◌≡◌, ◌∙◌, ap, sym, [], ◌∷◌, ◌+
 use Rattle.std.proofs.lemmas.List.{reverse-append}
 use Rattle.gr_history.specs.declared.deed.Deed.TheVariants.{Asked}
 use Rattle.gr_shard.specs.View.{kept}
-use Rattle.gr_shard.proofs.Asked.{both_given, kept_asked}
+use Rattle.gr_shard.proofs.Asked.{both_given, kept_answered}
 use Rattle.gr_shard.proofs.Pushed.{on_ok}
 use Rattle.gr_shard.proofs.shard.Shard.query.Goals as goal
 
@@ -19,7 +19,7 @@ invariant_of-self-2 c =
     ∙ ap (λ deeds. deeds ++ Asked c.args.client c.args.seq c.in_ok-asked.asked replies.noted ∷ []) c.in_ok-reserve.ensures.deeds
     ∙ ap (λ asked. was.history.deeds ++ Asked c.args.client c.args.seq asked replies.noted ∷ []) c.in_ok-asked.ensures in
     rw (pushed, reverse-append, c.in_ok-noted.ensures.ok)
-    (kept_asked was.id was.opening now past c.args.client c.args.seq c.args.ask.now replies.noted c.self.invariant both.0)
+    (kept_answered was.id was.opening now past c.args.client c.args.seq c.args.ask.now replies.noted c.self.invariant both.0)
 
 pub returns-clause-reply : goal.returns-clause-reply
 returns-clause-reply c =
