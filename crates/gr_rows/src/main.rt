@@ -1,6 +1,6 @@
 //! Runs whole scripts through the program, over sources and sinks in memory, and says of each whether
-//! what comes out is what its row says. Then compares the lines of the causes, the answers to queries
-//! and the reading of scripts with tables.
+//! what comes out is what its row says. Then compares the lines of the causes, the answers to queries,
+//! the reading of scripts and the summaries of records with tables.
 #![tactic(auto)]
 
 mod causes;
@@ -9,6 +9,7 @@ mod queries;
 mod row;
 mod running;
 mod scripts;
+mod summaries;
 
 use causes::are_causes_so;
 use files::row_names;
@@ -17,6 +18,7 @@ use row::Row;
 use running::{compare_row, too_large};
 use std::rt::Files;
 use std::{fs, io};
+use summaries::compare_summaries;
 
 fn row_of<R: Files + AllocGlobal>(rt: &R, name: &str) -> io::Result<Row> {
     let path = format!(in rt.alloc(); "{name}.row")?;
@@ -38,5 +40,6 @@ fn main(rt: HostRuntime) -> io::Result<()> {
     println!(rt; "causes: {causes}")?;
     compare(&rt, Table::Queries)?;
     compare(&rt, Table::Matches)?;
-    compare(&rt, Table::Scripts)
+    compare(&rt, Table::Scripts)?;
+    compare_summaries(&rt)
 }
