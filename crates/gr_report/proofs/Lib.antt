@@ -1,3 +1,4 @@
 pub mod Commas
 pub mod Gathered
 pub mod Lines
+pub mod Sameness

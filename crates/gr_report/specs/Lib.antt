@@ -2,9 +2,13 @@ pub mod Answers
 pub mod Counts
 pub mod Deeds
 pub mod Histories
+pub mod Own
 pub mod Queries
 pub mod Regions
 pub mod Report
 pub mod Rows
+pub mod Same
 pub mod Shown
+pub mod Steps
+pub mod Summary
 pub mod Texts

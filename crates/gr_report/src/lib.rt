@@ -1,4 +1,4 @@
-//! The text of a record.
+//! The text of a record, and its summary.
 #![tactic(auto)]
 
 mod answers;
@@ -6,12 +6,17 @@ mod counts;
 mod deeds;
 mod histories;
 mod lists;
+mod own;
 mod put;
 mod queries;
 mod regions;
 mod reporting;
 mod rows;
+mod same;
+mod steps;
+mod summing;
 mod written;
 
 pub use put::{put_number, put_text};
 pub use reporting::report;
+pub use summing::summary;

@@ -1,6 +1,6 @@
 //! Runs whole scripts through the program, over sources and sinks in memory, and says of each whether
 //! what comes out is what its row says. Then compares the lines of the causes, the answers to queries,
-//! the reading of scripts, values and keys, and drills with tables.
+//! the reading of scripts, values and keys, drills and the summaries of records with tables.
 #![tactic(auto)]
 
 mod causes;
@@ -10,6 +10,7 @@ mod queries;
 mod row;
 mod running;
 mod scripts;
+mod summaries;
 mod values;
 
 use causes::are_causes_so;
@@ -19,6 +20,7 @@ use row::Row;
 use running::{compare_row, too_large};
 use std::rt::Files;
 use std::{fs, io};
+use summaries::compare_summaries;
 
 fn row_of<R: Files + AllocGlobal>(rt: &R, name: &str) -> io::Result<Row> {
     let path = format!(in rt.alloc(); "{name}.row")?;
@@ -42,5 +44,6 @@ fn main(rt: HostRuntime) -> io::Result<()> {
     compare(&rt, Table::Matches)?;
     compare(&rt, Table::Scripts)?;
     compare(&rt, Table::Values)?;
-    compare(&rt, Table::Drills)
+    compare(&rt, Table::Drills)?;
+    compare_summaries(&rt)
 }
