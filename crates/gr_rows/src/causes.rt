@@ -16,7 +16,7 @@ fn is_cause_so(alloc: Global, cause: &Cause, line: &str, status: u8) -> io::Resu
 pub fn are_causes_so(alloc: Global) -> io::Result<bool> {
     let fault = ScriptFault {
         line: 4_294_967_295,
-        reason: Reason::NotBuilt,
+        reason: Reason::NotInRun,
     };
     let too_large = Cause::TooLarge {
         bytes: 8_388_609,
@@ -33,7 +33,7 @@ pub fn are_causes_so(alloc: Global) -> io::Result<bool> {
         (too_large, "georep: the script is too large\n", 4),
         (
             Cause::Script(fault),
-            "georep: line 4294967295: 99 NotBuilt\n",
+            "georep: line 4294967295: 18 NotInRun\n",
             5,
         ),
         (

@@ -30,8 +30,6 @@ pub enum Reason {
     Itself,
     Count,
     NotInRun,
-    /// What the line says isn't built yet. Reading never gives it.
-    NotBuilt,
 }
 
 impl Reason {
@@ -57,7 +55,6 @@ impl Reason {
             Reason::Itself => 16,
             Reason::Count => 17,
             Reason::NotInRun => 18,
-            Reason::NotBuilt => 99,
         }
     }
 
@@ -83,7 +80,6 @@ impl Reason {
             Reason::Itself => "Self",
             Reason::Count => "Count",
             Reason::NotInRun => "NotInRun",
-            Reason::NotBuilt => "NotBuilt",
         }
     }
 }

@@ -1,5 +1,5 @@
 -- How a call ends where the words are understood.
-use Rattle.std.proofs.Common.{◌≡◌, ℕ, List, ◌++◌, append_assoc, codes, decimal, refl, inl, Option, None}
+use Rattle.std.proofs.Common.{◌≡◌, ℕ, List, ◌++◌, append_assoc, codes, decimal, refl, Option, None}
 use Rattle.gr_script.specs.declared.ending.ScriptFault.{ScriptFault}
 use Rattle.gr_script.specs.Reasons.{name_of, number_of}
 use Rattle.gr_top.specs.CauseTexts.{text_of_cause}
@@ -8,7 +8,7 @@ use Rattle.gr_top.specs.declared.cause.Cause.TheVariants.{Finished, Usage, ReadF
 use Rattle.gr_history.specs.declared.record.Record.{Record}
 use Rattle.gr_top.specs.declared.words.Mode.{Mode}
 use Rattle.gr_top.specs.declared.words.Mode.TheVariants.{Check, Replay}
-use Rattle.gr_top.specs.Outcomes.{Stream, IsRefused, Refuses, Keeps, Prints, IsWritten, Explains, IsWhole, IsWithin}
+use Rattle.gr_top.specs.Outcomes.{Stream, Keeps, Prints, IsWritten, Explains, IsWhole, IsWithin}
 
 -- seven texts, joined from either end
 in_turn : (a b c d e f g : List ℕ) → a ++ b ++ c ++ d ++ e ++ f ++ g ≡ a ++ (b ++ (c ++ (d ++ (e ++ (f ++ g)))))
@@ -22,11 +22,6 @@ script_line cause fault line number name is at of called =
     rw (is, at, of, called)
     (in_turn (codes "georep: line ") (decimal fault.line) (codes ": ") (decimal (number_of fault.reason)) (codes " ")
     (name_of fault.reason) (codes "\n"))
-
--- A fault of the text is a refusal in each mode.
-pub refused : (mode : Mode) (source : Stream) (fault : ScriptFault) → IsRefused source fault → Refuses mode source fault
-refused Check source fault is = is
-refused (Replay histories) source fault is = inl is
 
 -- Where no record is kept, that is right in each mode.
 pub keeps_none : (mode : Mode) (source : Stream) → Keeps mode source None

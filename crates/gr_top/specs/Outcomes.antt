@@ -7,14 +7,11 @@ use Rattle.gr_io.specs.Ends.{AppendsPart, TakesAtMost}
 use Rattle.gr_report.specs.Report.{record_text}
 use Rattle.gr_script.specs.declared.ending.ScriptEnd.TheVariants as end
 use Rattle.gr_script.specs.declared.ending.ScriptFault.{ScriptFault}
-use Rattle.gr_script.specs.declared.reason.Reason.TheVariants.{NotBuilt}
 use Rattle.gr_script.specs.declared.script.Script.{Script as TheScript}
 use Rattle.gr_script.specs.Cuts.{line_count}
-use Rattle.gr_script.specs.LineNumbers.{number_of_line}
 use Rattle.gr_script.specs.Printed.{script_text}
 use Rattle.gr_script.specs.Said.{script_of}
 use Rattle.gr_script.specs.Scripts.{heading_of}
-use Rattle.gr_world.specs.Built.{unbuilt}
 use Rattle.gr_world.specs.Clients.{AreServed}
 use Rattle.gr_world.specs.Courses.{course}
 use Rattle.gr_world.specs.Histories.{KeepsLaws}
@@ -71,15 +68,6 @@ pub record IsReplayOf (source : Stream) (record_of : Record) : Type 0 where
   pub laws : KeepsLaws (heading_of script) record_of
   pub served : AreServed (heading_of script) (reverse script.lines) (course (heading_of script) (reverse script.lines))
 
--- The text is a script with a line that can't be replayed yet, which is the first of these.
-pub record IsNotBuilt (source : Stream) (fault : ScriptFault) : Type 0 where
-  pub text : List ℕ
-  pub script : TheScript
-  pub given : IsGiven source text script
-  pub place : ℕ
-  pub first : unbuilt script.lines ≡ Some place
-  pub fault_is : fault ≡ record { line = number_of_line text place; reason = NotBuilt }
-
 -- What the source had is no script, and this is its first fault.
 pub record IsRefused (source : Stream) (fault : ScriptFault) : Type 0 where
   pub text : List ℕ
@@ -108,11 +96,6 @@ IsWithin source = TakesAtMost most_bytes source.bytes_before source.bytes_after
 abbrev pub Counted : Stream → Type 0
 Counted stream = Rose stream.faults_before stream.faults_after
 
--- why the script isn't one that the mode can answer
-abbrev pub Refuses : Mode → Stream → ScriptFault → Type 0
-Refuses Check source fault = IsRefused source fault
-Refuses (Replay histories) source fault = IsRefused source fault ⊎ IsNotBuilt source fault
-
 -- the record that is kept, if one is: none by a check
 abbrev pub Keeps : Mode → Stream → Option Record → Type 0
 Keeps Check source kept = kept ≡ None
@@ -139,7 +122,7 @@ Explains mode source sink kept (Usage place) = ⊥
 Explains mode source sink kept ReadFault = (kept ≡ None) × Counted source × IsWithin source × IsUntouched sink
 Explains mode source sink kept (TooLarge bytes lines) =
     (kept ≡ None) × (HasTooManyBytes source bytes lines ⊎ HasTooManyLines source bytes lines) × IsUntouched sink
-Explains mode source sink kept (Script fault) = (kept ≡ None) × Refuses mode source fault × IsUntouched sink
+Explains mode source sink kept (Script fault) = (kept ≡ None) × IsRefused source fault × IsUntouched sink
 Explains mode source sink kept WriteFault =
     (text : List ℕ) × Prints mode source kept text × AppendsPart sink.bytes_before sink.bytes_after text × Counted sink
 Explains mode source sink kept Memory = Keeps mode source kept × IsWithin source × IsUntouched sink

@@ -4,7 +4,7 @@ ghost use Rattle.gr_top.specs.Outcomes.{Answers, Explains, IsPrinted, IsReplayOf
 ghost use Rattle.gr_top.specs.Words.{mode_of};
 ghost use Rattle.gr_top.specs.declared.words.Mode.TheVariants as mode;
 
-use crate::giving::{Given, built_from, script_from};
+use crate::giving::{Given, script_from};
 use crate::words::{Mode, mode_of};
 use crate::{Cause, Outcome};
 use gr_history::Record;
@@ -46,7 +46,7 @@ fn record_from<S: Source>(alloc: Global, source: &mut S) -> Result<Record, Cause
         → MatchResult result (IsReplayOf (stream (S.left source.old) (S.left source.new) (S.faults source.old) (S.faults source.new)))
         (Stops (mode.Replay histories) (stream (S.left source.old) (S.left source.new) (S.faults source.old) (S.faults source.new))) }
 {
-    let given = built_from(alloc, source)?;
+    let given = script_from(alloc, source)?;
     match replay(alloc, &given.script) {
         Ok(record_of) => Ok(record_of),
         Err(Memory) => Err(Cause::Memory),

@@ -1,13 +1,10 @@
-ghost use Rattle.std.specs.Prelude.{◌≡◌, MatchResult, IfOk, Bool, true};
-ghost use Rattle.gr_world.specs.Built.{is_built};
+ghost use Rattle.std.specs.Prelude.{◌≡◌, MatchResult};
 ghost use Rattle.gr_top.specs.Outcomes.{IsGiven, IsWhole, Stops, stream};
 ghost use Rattle.gr_top.specs.declared.words.Mode.{Mode as AMode};
-ghost use Rattle.gr_top.specs.declared.words.Mode.TheVariants as mode;
 
 use crate::Cause;
 use gr_io::{ReadEnd, Source, read_all};
-use gr_script::{Form, Reason, Script, ScriptEnd, ScriptFault, line_count, line_number, read};
-use gr_world::unbuilt;
+use gr_script::{Form, Script, ScriptEnd, line_count, read};
 use std::alloc::Global;
 
 /// The most bytes of a script.
@@ -52,22 +49,5 @@ pub(crate) fn script_from<S: Source>(alloc: Global, source: &mut S) -> Result<Gi
         }),
         Err(ScriptEnd::Fault(fault)) => Err(Cause::Script(fault)),
         Err(ScriptEnd::Memory) => Err(Cause::Memory),
-    }
-}
-
-/// The script that the source has, where it can be replayed.
-pub(crate) fn built_from<S: Source>(alloc: Global, source: &mut S) -> Result<Given, Cause>
-    ensures explained { (histories : Bool) → MatchResult result
-        (λ given. IsGiven (stream (S.left source.old) (S.left source.new) (S.faults source.old) (S.faults source.new)) given.text.items given.script)
-        (Stops (mode.Replay histories) (stream (S.left source.old) (S.left source.new) (S.faults source.old) (S.faults source.new))) }
-    ensures built { IfOk result (λ given. is_built given.script.lines ≡ true) }
-{
-    let given = script_from(alloc, source)?;
-    match unbuilt(&given.script) {
-        None => Ok(given),
-        Some(place) => Err(Cause::Script(ScriptFault {
-            line: line_number(given.text.as_slice(), place),
-            reason: Reason::NotBuilt,
-        })),
     }
 }

@@ -23,7 +23,8 @@ module _ (heading : Heading) (client number : ℕ) (ask : QueryAsk) (before : Li
   abbrev pub answer_at : ℕ → QueryReply
   answer_at s = query_gives client ask (history m s before)
 
-  not_yet : (n s : ℕ) → n ≤ s → history m s (asks_at_each heading client number ask n before) ≡ history m s before
+  -- Later shards aren't asked yet.
+  pub not_yet : (n s : ℕ) → n ≤ s → history m s (asks_at_each heading client number ask n before) ≡ history m s before
   not_yet zero s le = refl
   not_yet (suc n) s le = at_shard (s == n) (apart s n (omega (arith, le))) _ ∙ not_yet n s (omega (arith, le))
     where

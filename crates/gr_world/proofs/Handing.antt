@@ -1,5 +1,5 @@
 -- A joiner takes in what every other member gives it.
-use Rattle.std.proofs.Common.{zero, suc, ◌≡◌, ◌∙◌, ap, sym, subst, refl, ℕ, ◌+◌, ◌≤◌, ◌<◌, List, [], ◌∷◌, length, reverse, take, get_or, add-one, arith}
+use Rattle.std.proofs.Common.{zero, suc, ◌≡◌, ◌∙◌, ap, sym, subst, refl, ℕ, ◌+◌, ◌<◌, List, [], ◌∷◌, length, take, get_or, add-one, arith}
 use Rattle.std.specs.List.{AllByRecursion}
 use Rattle.std.proofs.lemmas.List.{reverse-reverse}
 use Rattle.gr_value.specs.Shard.{shard_of}
@@ -22,7 +22,7 @@ use Rattle.gr_world.specs.Courses.{does, gives, identity_at, takes_all, takes_gi
 use Rattle.gr_world.specs.Doings.{Takes, Gives, Merges, image_of}
 use Rattle.gr_world.specs.Events.{Event, history}
 use Rattle.gr_world.specs.Tasks.{IsGiven}
-use Rattle.gr_world.specs.Worlds.{IsAtWork, IsDone, IsWorld, Plays, account_at, account_left, deed_at}
+use Rattle.gr_world.specs.Worlds.{IsAtWork, IsDone, IsWorld, Plays, account_at}
 use Rattle.gr_world.proofs.Worlds.{cell_left, quiet_plays}
 
 -- one change more is taken in

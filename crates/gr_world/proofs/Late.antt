@@ -1,25 +1,28 @@
--- A peek is behind the client's earlier calls and peeks.
-use Rattle.std.proofs.Common.{suc, ◌≡◌, ℕ, ◌≤◌, ◌<◌, List, [], ◌∷◌, Bool, true, false, ◌&&◌, ◌==◌, refl, sym, ap, ◌∙◌, subst, inl, inr}
+-- A peek is behind the deeds of the client's earlier steps, and its earlier peeks.
+use Rattle.std.proofs.Common.{zero, suc, ◌≡◌, ℕ, ◌≤◌, ◌<◌, List, [], ◌∷◌, Bool, true, false, ◌&&◌, ◌==◌, refl, sym, ap, ◌∙◌, subst, inl, inr}
 use Rattle.std.proofs.Common.{arith, map, length}
 use Rattle.std.specs.Prelude.{Option, Some, None}
 use Rattle.std.proofs.lemmas.Bool.Decides.{nat_tests}
 use Rattle.gr_value.specs.Shard.{shard_of}
 use Rattle.gr_value.specs.declared.value.Field.{Field}
-use Rattle.gr_stamp.specs.declared.change.Change.{Change}
-use Rattle.gr_history.specs.declared.ask.Ask.{Ask}
-use Rattle.gr_history.specs.declared.reply.Reply.{Reply}
+use Rattle.gr_history.specs.declared.query_ask.QueryAsk.{QueryAsk}
 use Rattle.gr_history.specs.declared.deed.Deed.{Deed}
-use Rattle.gr_history.specs.declared.deed.Deed.TheVariants.{Call}
-use Rattle.gr_history.specs.Made.{made}
+use Rattle.gr_history.specs.declared.deed.Deed.TheVariants.{Call, Asked, Taken, Gave, Imaged, Reported, Heard, Swept}
 use Rattle.gr_law.specs.Grids.{Among, Older}
+use Rattle.gr_script.specs.declared.line.Act.TheVariants as act
 use Rattle.gr_script.specs.declared.line.Line.{Line}
+use Rattle.gr_script.specs.declared.line.Line.TheVariants.{Step, Deliver, Hear, Sweep, Join}
+use Rattle.gr_script.specs.declared.line.Line.TheVariants as line
 use Rattle.gr_script.specs.Rules.{Heading, IsHeading, home_of, AllStand}
 use Rattle.gr_world.specs.Events.{Event, Did, Peeked, Gathered, put_if, history}
-use Rattle.gr_world.specs.Courses.{course}
+use Rattle.gr_world.specs.Courses.{does, asks_at_each, course}
+use Rattle.gr_world.specs.Doings.{Doing, Calls, Takes, Gives, Merges, Reports, Hears, Sweeps, Asks}
 use Rattle.gr_world.specs.Causes.{IsNextEvent, IsCausal}
-use Rattle.gr_world.specs.Clients.{add_some, Numbered, told_by_deed, told_by, told, AllBelow, Descends, peeks_late, peeks_grow}
+use Rattle.gr_world.specs.Clients.{Asking, Wish, asking_of, add_some, Numbered, told_by_deed, told_by, told, numbers}
+use Rattle.gr_world.specs.Clients.{AllBelow, Descends, peeks_late, peeks_grow}
 use Rattle.gr_world.proofs.Causal.{course_causal}
-use Rattle.gr_world.proofs.Clients.{answers_stand-holds}
+use Rattle.gr_world.proofs.Clients.{IsQuiet, rest_keeps, answers_stand-holds}
+use Rattle.gr_world.proofs.Events.{same_number}
 use Rattle.gr_world.proofs.Numbers.{numbers_descend-holds}
 use Rattle.gr_world.proofs.Peeks.{older_length, seen_at}
 
@@ -50,73 +53,177 @@ below_among n x [] h a = absurd a
 below_among n x (first ∷ rest) h (inl is) = omega (arith, h.0, is)
 below_among n x (first ∷ rest) h (inr a) = below_among n x rest h.1 a
 
-late : (heading : Heading) (events : List Event) → IsCausal heading events
-    → (client number : ℕ) (key : List ℕ) (value : Option (List Field)) (at : ℕ)
-    → Descends (counted (told client events)) → Among (Peeked client number key value at) events
-    → (earlier : ℕ) (ask : Ask) (reply : Reply) (made : Option Change) (to : ℕ) (past : List Deed)
-    → Older (Call client earlier ask reply made to ∷ past) (history (home_of heading client) (shard_of key heading.shards) events)
-    → earlier < number → suc (length past) ≤ at
-late heading [] h client number key value at desc a earlier ask reply made to past o less = absurd a
-late heading (Peeked own seq which seen place ∷ before) h client number key value at desc (inl is) earlier ask reply made to past o less =
-    let next : IsNextEvent heading (Peeked client number key value at) before = subst (λ e. IsNextEvent heading e before) (sym is) h.0 in
-    let long =
-    older_length (Call client earlier ask reply made to ∷ past)
-    (history (home_of heading client) (shard_of key heading.shards) before) o in
-    omega (arith, long, next.1)
-late heading (Did m s deed ∷ before) h client number key value at desc (inl is) earlier ask reply made to past o less = absurd (no is)
+-- ---- a step on a query that is newer than a peek has a greater number
+
+abbrev PeeksBelow : ℕ → ℕ → List Event → Type 0
+PeeksBelow client number before = (earlier : ℕ) (key : List ℕ) (value : Option (List Field)) (at : ℕ)
+    → Among (Peeked client earlier key value at) before → earlier < number
+
+abbrev Follows : Deed → List Event → Type 0
+Follows (Call client number ask reply made to) before = Unit {0}
+Follows (Asked client number ask reply) before = PeeksBelow client number before
+Follows (Taken change verdict) before = Unit {0}
+Follows (Gave to what) before = Unit {0}
+Follows (Imaged image) before = Unit {0}
+Follows (Reported report) before = Unit {0}
+Follows (Heard report) before = Unit {0}
+Follows (Swept moment expired) before = Unit {0}
+
+abbrev AllFollow : List Event → Type 0
+AllFollow [] = Unit {0}
+AllFollow (Did m s deed ∷ before) = Follows deed before × AllFollow before
+AllFollow (Peeked client number key value at ∷ before) = AllFollow before
+AllFollow (Gathered client number replies ∷ before) = AllFollow before
+
+quiet_follow : (heading : Heading) (m s : ℕ) (doing : Doing) (now : List Event) → IsQuiet doing → AllFollow now
+    → AllFollow (does heading m s doing now)
+quiet_follow heading m s (Calls client number ask) now quiet h = absurd quiet
+quiet_follow heading m s (Takes change) now quiet h = (tt, h)
+quiet_follow heading m s (Gives to what) now quiet h = (tt, h)
+quiet_follow heading m s (Merges image) now quiet h = (tt, h)
+quiet_follow heading m s Reports now quiet h = (tt, h)
+quiet_follow heading m s (Hears report) now quiet h = (tt, h)
+quiet_follow heading m s (Sweeps moment) now quiet h = (tt, h)
+quiet_follow heading m s (Asks client number ask) now quiet h = absurd quiet
+
+-- a deed is no peek
+past_deed : (client earlier : ℕ) (key : List ℕ) (value : Option (List Field)) (at m s : ℕ) (deed : Deed) (now : List Event)
+    → Among (Peeked client earlier key value at) (Did m s deed ∷ now) → Among (Peeked client earlier key value at) now
+past_deed client earlier key value at m s deed now (inl is) = absurd (no is)
   where
-    no : Peeked client number key value at ≡ Did m s deed → ⊥
+    no : Peeked client earlier key value at ≡ Did m s deed → ⊥
     no e = cc
-late heading (Peeked own seq which seen place ∷ before) h client number key value at desc (inr a) earlier ask reply made to past o less =
-    late heading before h.1 client number key value at
-    (descends_rest (told_by client (Peeked own seq which seen place))
-    (told client before) desc) a earlier ask reply made to past o less
-late heading (Gathered own seq replies ∷ before) h client number key value at desc (inl is) earlier ask reply made to past o less =
-    absurd (no is)
-  where
-    no : Peeked client number key value at ≡ Gathered own seq replies → ⊥
-    no e = cc
-late heading (Gathered own seq replies ∷ before) h client number key value at desc (inr a) earlier ask reply made to past o less =
-    late heading before h.1 client number key value at
-    (descends_rest (told_by client (Gathered own seq replies))
-    (told client before) desc) a earlier ask reply made to past o less
-late heading (Did m s deed ∷ before) h client number key value at desc (inr a) earlier ask reply made to past o less =
-    at_test (shard_of key heading.shards == s && home_of heading client == m)
-    (λ o. late heading before h.1 client number key value at
-    (descends_rest (told_by_deed client deed) (told client before) desc) a earlier ask reply made to past o less) o
+past_deed client earlier key value at m s deed now (inr a) = a
+
+asks_follow : (heading : Heading) (client number : ℕ) (ask : QueryAsk) (n : ℕ) (before : List Event) → PeeksBelow client number before
+    → AllFollow before
+    → PeeksBelow client number (asks_at_each heading client number ask n before)
+    × AllFollow (asks_at_each heading client number ask n before)
+asks_follow heading client number ask zero before below follow = (below, follow)
+asks_follow heading client number ask (suc n) before below follow =
+    let so_far = asks_follow heading client number ask n before below follow in (
+      λ earlier key value at a. so_far.0 earlier key value at (past_deed client earlier key value at _ _ _ _ a),
+      so_far,
+    )
+
+-- each peek of the client has a number of its steps
+peek_number : (heading : Heading) (past : List Line) (client earlier : ℕ) (key : List ℕ) (value : Option (List Field)) (at : ℕ)
+    → Among (Peeked client earlier key value at) (course heading past) → Among earlier (numbers client past)
+peek_number heading past client earlier key value at a =
+    subst (Among earlier) (answers_stand-holds heading past client) (peek_counted client earlier key value at (course heading past) a)
+
+all_follow : (heading : Heading) (past : List Line) → AllStand heading past → AllFollow (course heading past)
+all_follow heading [] stand = tt
+all_follow heading (Step client number (act.Call ask) ∷ past) stand = (tt, all_follow heading past stand.1)
+all_follow heading (Step client number (act.Peek key) ∷ past) stand = all_follow heading past stand.1
+all_follow heading (Step client number (act.Query ask) ∷ past) stand =
+    (asks_follow heading client number ask heading.shards (course heading past)
+    (λ earlier key value at a. below_among number earlier (numbers client past) below (peek_number heading past client earlier key value at a))
+    (all_follow heading past stand.1)).1
   where
     itself : (client == client) ≡ true
     itself = grind (arith, nat_tests)
 
-    newest : Call client earlier ask reply made to ≡ deed → number < earlier
-    newest is =
-        let all : AllBelow earlier (counted (told client before)) =
-        at_head (subst (λ d. Descends (counted (add_some (told_by_deed client d) (told client before)))) (sym is) desc) in
-        below_among earlier number (counted (told client before)) all (peek_counted client number key value at before a)
-      where
-        at_head : Descends (counted (add_some (told_by_deed client (Call client earlier ask reply made to)) (told client before)))
-            → AllBelow earlier (counted (told client before))
-        at_head d = (rw itself at d).0
+    at_head : Descends (numbers client (Step client number (act.Query ask) ∷ past)) → AllBelow number (numbers client past)
+    at_head d = (rw itself at d).0
 
-    head : Call client earlier ask reply made to ∷ past ≡ deed ∷ history (home_of heading client) (shard_of key heading.shards) before
-        → Call client earlier ask reply made to ≡ deed
+    below : AllBelow number (numbers client past)
+    below = at_head (numbers_descend-holds heading client (Step client number (act.Query ask) ∷ past) stand)
+all_follow heading (Deliver to client number ∷ past) stand =
+    rest_keeps heading AllFollow (quiet_follow heading) (Deliver to client number) (course heading past) tt
+    (all_follow heading past stand.1)
+all_follow heading (line.Report member ∷ past) stand =
+    rest_keeps heading AllFollow (quiet_follow heading) (line.Report member) (course heading past) tt (all_follow heading past stand.1)
+all_follow heading (Hear by of number ∷ past) stand =
+    rest_keeps heading AllFollow (quiet_follow heading) (Hear by of number) (course heading past) tt (all_follow heading past stand.1)
+all_follow heading (Sweep member moment ∷ past) stand =
+    rest_keeps heading AllFollow (quiet_follow heading) (Sweep member moment) (course heading past) tt (all_follow heading past stand.1)
+all_follow heading (Join joiner provider ∷ past) stand =
+    rest_keeps heading AllFollow (quiet_follow heading) (Join joiner provider) (course heading past) tt
+    (all_follow heading past stand.1)
+
+-- ---- a deed of a client's step that is newer than a peek has a greater number
+
+some_asking : {one other : Asking} → Some one ≡ Some other → one ≡ other
+some_asking e = cc
+
+no_asking : {one : Asking} → None ≡ Some one → ⊥
+no_asking e = cc
+
+newer : (client number earlier : ℕ) (ask : Wish) (key : List ℕ) (value : Option (List Field)) (at : ℕ) (before : List Event) (deed : Deed)
+    → asking_of deed ≡ Some (record { client = client; number = earlier; ask = ask }) → Follows deed before
+    → Descends (counted (add_some (told_by_deed client deed) (told client before)))
+    → Among (Peeked client number key value at) before → number < earlier
+newer client number earlier ask key value at before (Call own seq wish reply made to) is follows desc a =
+    subst (λ n. number < n) (ap (λ one. one.number) (some_asking is))
+    (below_among seq number (counted (told client before)) (at_head desc) (peek_counted client number key value at before a))
+  where
+    itself : (own == client) ≡ true
+    itself = subst (λ c. (own == c) ≡ true) (ap (λ one. one.client) (some_asking is)) (same_number own)
+
+    at_head : Descends (counted (add_some (told_by_deed client (Call own seq wish reply made to)) (told client before)))
+        → AllBelow seq (counted (told client before))
+    at_head d = (rw itself at d).0
+newer client number earlier ask key value at before (Asked own seq wish reply) is follows desc a =
+    subst (λ n. number < n) (ap (λ one. one.number) (some_asking is))
+    (follows number key value at
+    (subst (λ c. Among (Peeked c number key value at) before) (sym (ap (λ one. one.client) (some_asking is))) a))
+newer client number earlier ask key value at before (Taken change verdict) is follows desc a = absurd (no_asking is)
+newer client number earlier ask key value at before (Gave to what) is follows desc a = absurd (no_asking is)
+newer client number earlier ask key value at before (Imaged image) is follows desc a = absurd (no_asking is)
+newer client number earlier ask key value at before (Reported report) is follows desc a = absurd (no_asking is)
+newer client number earlier ask key value at before (Heard report) is follows desc a = absurd (no_asking is)
+newer client number earlier ask key value at before (Swept moment expired) is follows desc a = absurd (no_asking is)
+
+late : (heading : Heading) (events : List Event) → IsCausal heading events → AllFollow events
+    → (client number : ℕ) (key : List ℕ) (value : Option (List Field)) (at : ℕ)
+    → Descends (counted (told client events)) → Among (Peeked client number key value at) events
+    → (earlier : ℕ) (ask : Wish) (deed : Deed) (past : List Deed)
+    → asking_of deed ≡ Some (record { client = client; number = earlier; ask = ask })
+    → Older (deed ∷ past) (history (home_of heading client) (shard_of key heading.shards) events)
+    → earlier < number → suc (length past) ≤ at
+late heading [] h follow client number key value at desc a earlier ask deed past is o less = absurd a
+late heading (Peeked own seq which seen place ∷ before) h follow client number key value at desc (inl peek) earlier ask deed past is o less =
+    let next : IsNextEvent heading (Peeked client number key value at) before = subst (λ e. IsNextEvent heading e before) (sym peek) h.0 in
+    let long = older_length (deed ∷ past) (history (home_of heading client) (shard_of key heading.shards) before) o in
+    omega (arith, long, next.1)
+late heading (Peeked own seq which seen place ∷ before) h follow client number key value at desc (inr a) earlier ask deed past is o less =
+    late heading before h.1 follow client number key value at
+    (descends_rest (told_by client (Peeked own seq which seen place)) (told client before) desc) a earlier ask deed past is o less
+late heading (Gathered own seq replies ∷ before) h follow client number key value at desc (inl peek) earlier ask deed past is o less =
+    absurd (no peek)
+  where
+    no : Peeked client number key value at ≡ Gathered own seq replies → ⊥
+    no e = cc
+late heading (Gathered own seq replies ∷ before) h follow client number key value at desc (inr a) earlier ask deed past is o less =
+    late heading before h.1 follow client number key value at
+    (descends_rest (told_by client (Gathered own seq replies)) (told client before) desc) a earlier ask deed past is o less
+late heading (Did m s did ∷ before) h follow client number key value at desc a earlier ask deed past is o less =
+    at_test (shard_of key heading.shards == s && home_of heading client == m)
+    (λ o. late heading before h.1 follow.1 client number key value at
+    (descends_rest (told_by_deed client did) (told client before) desc) earlier_peek earlier ask deed past is o less) o
+  where
+    earlier_peek : Among (Peeked client number key value at) before
+    earlier_peek = past_deed client number key value at m s did before a
+
+    head : deed ∷ past ≡ did ∷ history (home_of heading client) (shard_of key heading.shards) before → deed ≡ did
     head e = cc
 
     at_test : (b : Bool)
-        → (Older (Call client earlier ask reply made to ∷ past) (history (home_of heading client) (shard_of key heading.shards) before)
-        → suc (length past) ≤ at)
-        → Older (Call client earlier ask reply made to ∷ past)
-        (put_if b deed (history (home_of heading client) (shard_of key heading.shards) before)) → suc (length past) ≤ at
-    at_test true next (inl is) = let k = newest (head is) in absurd (omega (arith, k, less))
+        → (Older (deed ∷ past) (history (home_of heading client) (shard_of key heading.shards) before) → suc (length past) ≤ at)
+        → Older (deed ∷ past) (put_if b did (history (home_of heading client) (shard_of key heading.shards) before)) → suc (length past) ≤ at
+    at_test true next (inl same) =
+        let k = newer client number earlier ask key value at before did (sym (ap asking_of (head same)) ∙ is) follow.0 desc earlier_peek in
+        absurd (omega (arith, k, less))
     at_test true next (inr o) = next o
     at_test false next o = next o
 
 pub peeks_late-holds : (heading : Heading) (past : List Line) → IsHeading heading → AllStand heading past
     → peeks_late heading (course heading past)
-peeks_late-holds heading past is_heading stand client number key value at a earlier ask reply made to before o less =
-    late heading (course heading past) (course_causal heading past is_heading stand) client number key value at
+peeks_late-holds heading past is_heading stand client number key value at a earlier ask deed before is o less =
+    late heading (course heading past) (course_causal heading past is_heading stand) (all_follow heading past stand) client number key value at
     (subst Descends (sym (answers_stand-holds heading past client))
-    (numbers_descend-holds heading client past stand)) a earlier ask reply made to before o less
+    (numbers_descend-holds heading client past stand)) a earlier ask deed before is o less
 
 grows : (heading : Heading) (events : List Event) → IsCausal heading events
     → (client number earlier : ℕ) (key other : List ℕ) (value seen : Option (List Field)) (at place : ℕ)

@@ -3,6 +3,7 @@ pub mod Whole
 pub mod Causes
 pub mod Handing
 pub mod Asking
+pub mod Asked
 pub mod Joins
 pub mod Causal
 pub mod Clients

@@ -190,8 +190,9 @@ peeks_stand heading course = (client number : ℕ) (key : List ℕ) (value : Opt
 abbrev pub peeks_late : Heading → List Event → Type 0
 peeks_late heading course = (client number : ℕ) (key : List ℕ) (value : Option (List Field)) (at : ℕ)
     → Among (Peeked client number key value at) course
-    → (earlier : ℕ) (ask : Ask) (reply : Reply) (made : Option Change) (to : ℕ) (past : List Deed)
-    → Older (Call client earlier ask reply made to ∷ past) (history (home_of heading client) (shard_of key heading.shards) course)
+    → (earlier : ℕ) (ask : Wish) (deed : Deed) (past : List Deed)
+    → asking_of deed ≡ Some (record { client = client; number = earlier; ask = ask })
+    → Older (deed ∷ past) (history (home_of heading client) (shard_of key heading.shards) course)
     → earlier < number → suc (length past) ≤ at
 
 -- Nor does it name one before a place that an earlier peek of the client at that shard named.

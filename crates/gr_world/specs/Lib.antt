@@ -1,4 +1,3 @@
-pub mod Built
 pub mod Causes
 pub mod Clients
 pub mod Courses

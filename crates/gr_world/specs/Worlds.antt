@@ -1,25 +1,27 @@
 -- The shards of all members, what each client was told, and what each step made, as a course leaves them.
-use Rattle.std.specs.Prelude.{◌≡◌, ℕ, ◌+◌, ◌-◌, ◌*◌, ◌^◌, ◌≤◌, ◌<◌, true, ◌&&◌, ◌==◌, List, [], ◌∷◌, ◌++◌, length, reverse, get_or, set}
+use Rattle.std.specs.Prelude.{◌≡◌, ℕ, ◌+◌, ◌-◌, ◌*◌, ◌^◌, ◌≤◌, ◌<◌, ◌&&◌, ◌==◌, List, [], ◌∷◌, ◌++◌, length, reverse, get_or, set}
 use Rattle.std.specs.Prelude.{slice_index, Option, None, if◌then◌else◌}
 use Rattle.std.specs.Ordering.{nat_cmp}
 use Rattle.std.specs.BTreeMap.{BTreeMap, get}
 use Rattle.gr_stamp.specs.declared.change.Change.{Change}
 use Rattle.gr_history.specs.declared.deed.Deed.{Deed}
 use Rattle.gr_history.specs.declared.identity.Identity.{Identity}
+use Rattle.gr_history.specs.declared.query_ask.QueryAsk.{QueryAsk}
+use Rattle.gr_history.specs.declared.query_reply.QueryReply.{QueryReply}
 use Rattle.gr_history.specs.declared.record.Answer.{Answer}
 use Rattle.gr_history.specs.declared.record.ClientRecord.{ClientRecord}
 use Rattle.gr_history.specs.declared.record.MemberRecord.{MemberRecord}
+use Rattle.gr_history.specs.Queries.{query_gives}
 use Rattle.gr_shard.specs.Records.{IsRecordOf}
 use Rattle.gr_shard.specs.View.{Account}
 use Rattle.gr_script.specs.declared.line.Line.{Line}
 use Rattle.gr_script.specs.declared.line.Line.TheVariants.{Step, Deliver, Hear, Sweep, Join}
 use Rattle.gr_script.specs.declared.line.Line.TheVariants as line
-use Rattle.gr_script.specs.Rules.{Heading, IsMember, IsStated}
-use Rattle.gr_world.specs.Built.{is_built_line}
+use Rattle.gr_script.specs.Rules.{Heading, IsMember, IsStated, home_of}
 use Rattle.gr_world.specs.Events.{Event, history}
 use Rattle.gr_world.specs.Doings.{Doing, deed_of}
 use Rattle.gr_world.specs.Named.{made_by, or_else}
-use Rattle.gr_world.specs.Courses.{identity_at}
+use Rattle.gr_world.specs.Courses.{asks_at_each, identity_at}
 use Rattle.gr_world.specs.Records.{answers}
 use Rattle.gr_world.specs.Numbered.{numbers_from, PairsFrom}
 use Rattle.gr_world.specs.declared.world.World.{World}
@@ -120,9 +122,16 @@ IsAtWork heading world = (events : List Event) × IsWorld heading events world
 abbrev pub Plays : Heading → (List Event → List Event) → World → World → Type 0
 Plays heading act old new = (events : List Event) → IsWorld heading events old → IsWorld heading (act events) new
 
--- A call or a peek of a client that is stated, or what members do.
+-- The shards below n of the client's member were asked something of a query, and these are their replies.
+pub record AreAsked (heading : Heading) (client number : ℕ) (ask : QueryAsk) (n : ℕ) (replies : List QueryReply)
+    (old new : World) : Type 0 where
+  pub plays : Plays heading (asks_at_each heading client number ask n) old new
+  pub replies_are : (events : List Event) → IsWorld heading events old
+      → replies ≡ numbers_from 0 n (λ shard. query_gives client ask (history (home_of heading client) shard events))
+
+-- A step of a client that is stated, or what members do.
 abbrev pub CanPlay : Heading → Line → Type 0
-CanPlay heading (Step client seq act) = IsStated client heading × (is_built_line (Step client seq act) ≡ true)
+CanPlay heading (Step client seq act) = IsStated client heading
 CanPlay heading (Deliver to client seq) = IsMember heading to
 CanPlay heading (line.Report member) = IsMember heading member
 CanPlay heading (Hear by of number) = IsMember heading by × IsMember heading of

@@ -1,12 +1,13 @@
 ghost use Rattle.std.specs.Prelude.{◌≡◌, [], IfOk, OnOk, option_copied, reverse, slice_get};
 ghost use Rattle.gr_shard.specs.View.{IsPlace};
-ghost use Rattle.gr_world.specs.Doings.{Calls, Gives, Reports, call_with};
+ghost use Rattle.gr_history.specs.declared.deed.Deed.TheVariants as deed;
+ghost use Rattle.gr_world.specs.Doings.{Asks, Calls, Gives, Reports, call_with};
 ghost use Rattle.gr_world.specs.Named.{numbered, reports};
 ghost use Rattle.gr_world.specs.Tasks.{BelongsTo, IsGiven, doing_of};
 ghost use Rattle.gr_world.specs.Worlds.{deed_at, longer};
 
 use crate::task::Task;
-use gr_history::{Ask, Done, Gift, Identity, What};
+use gr_history::{Ask, Done, Gift, Identity, QueryAsk, QueryReply, What};
 use gr_shard::Shard;
 use gr_value::Memory;
 use gr_vector::Report;
@@ -83,6 +84,21 @@ impl Cell {
         ensures added { IfOk result (λ done. self.new ≡ longer self.old (call_with client seq ask.now done)) }
     {
         self.shard.call(alloc, client, seq, ask)
+    }
+
+    /// Does a client's step on one of its queries.
+    pub fn query(
+        &mut self,
+        alloc: Global,
+        client: u8,
+        seq: u32,
+        ask: &QueryAsk,
+    ) -> Result<QueryReply, Memory>
+        ensures reply { IfOk result
+            (λ reply. deed.Asked client seq ask.now reply ≡ deed_at self.old (Asks client seq ask.now)) }
+        ensures added { IfOk result (λ reply. self.new ≡ longer self.old (deed.Asked client seq ask.now reply)) }
+    {
+        self.shard.query(alloc, client, seq, ask)
     }
 
     /// Gives a joiner the image or the own changes.

@@ -1,5 +1,6 @@
 ghost use Rattle.std.specs.Prelude.{◌≡◌, ◌≤◌, IfOk, OnOk, length};
-ghost use Rattle.gr_world.specs.Doings.{Calls, Gives, call_with};
+ghost use Rattle.gr_history.specs.declared.deed.Deed.TheVariants as deed;
+ghost use Rattle.gr_world.specs.Doings.{Asks, Calls, Gives, call_with};
 ghost use Rattle.gr_shard.specs.View.{IsPlace};
 ghost use Rattle.gr_world.specs.Numbered.{numbers_from, PairsFrom};
 ghost use Rattle.gr_world.specs.Tasks.{BelongsTo, IsGiven, doing_of};
@@ -8,7 +9,7 @@ ghost use Rattle.gr_world.specs.Worlds.{IsCell, IsDone, IsMemberOf, account_at, 
 use crate::cell::Cell;
 use crate::row::Row;
 use crate::task::Task;
-use gr_history::{Ask, Done, Gift, Identity, MemberRecordList, What};
+use gr_history::{Ask, Done, Gift, Identity, MemberRecordList, QueryAsk, QueryReply, What};
 use gr_value::Memory;
 use std::alloc::Global;
 use std::marker::Model;
@@ -70,6 +71,24 @@ impl Grid {
     {
         let row = &mut self.rows[usize::from(member) - 1];
         row.call(alloc, shard, client, seq, ask)
+    }
+
+    /// Does a client's step on one of its queries, at a member's shard.
+    pub fn query(
+        &mut self,
+        alloc: Global,
+        member: u8,
+        shard: u8,
+        client: u8,
+        seq: u32,
+        ask: &QueryAsk,
+    ) -> Result<QueryReply, Memory>
+        requires { IsCell self.old member shard }
+        ensures { IfOk result
+            (λ reply. IsDone self.old self.new member shard (Asks client seq ask.now) (deed.Asked client seq ask.now reply)) }
+    {
+        let row = &mut self.rows[usize::from(member) - 1];
+        row.query(alloc, shard, client, seq, ask)
     }
 
     /// A member gives a joiner the image of a shard or the changes that it made there.

@@ -1,11 +1,11 @@
 //! Replay: the one record that a script's lines define.
 #![tactic(auto)]
 
-mod built;
 mod cell;
 mod grid;
 mod joining;
 mod laws;
+mod querying;
 mod replaying;
 mod row;
 mod rows;
@@ -13,7 +13,6 @@ mod task;
 mod tellings;
 mod world;
 
-pub use built::unbuilt;
 pub use laws::laws_of_courses;
 pub use replaying::replay;
 pub use rows::{a_repeat_is_told, an_image_drops_a_tombstone, concurrent_puts_meet};

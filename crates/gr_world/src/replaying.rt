@@ -1,6 +1,5 @@
-ghost use Rattle.std.specs.Prelude.{◌≡◌, true, reverse, IfOk, OnOk};
+ghost use Rattle.std.specs.Prelude.{reverse, IfOk, OnOk};
 ghost use Rattle.gr_script.specs.Scripts.{heading_of};
-ghost use Rattle.gr_world.specs.Built.{is_built};
 ghost use Rattle.gr_world.specs.Clients.{AreServed};
 ghost use Rattle.gr_world.specs.Courses.{course};
 ghost use Rattle.gr_world.specs.Histories.{KeepsLaws};
@@ -14,7 +13,6 @@ use std::alloc::Global;
 
 /// Plays a script line by line, in its one schedule. What it leaves is all that its course says.
 pub fn replay(alloc: Global, script: &Script) -> Result<Record, Memory>
-    requires { is_built script.now.lines ≡ true }
     ensures replayed { IfOk result (IsReplayed (heading_of script.now) script.now.lines) }
 
     // Members that took in the same changes have the same values, and no removed value is back.

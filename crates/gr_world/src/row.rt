@@ -1,14 +1,17 @@
 ghost use Rattle.std.specs.Prelude.{◌≡◌, ◌<◌, IfOk, OnOk, length};
 ghost use Rattle.gr_shard.specs.Records.{IsRecordOf};
 ghost use Rattle.gr_shard.specs.View.{IsPlace};
-ghost use Rattle.gr_world.specs.Doings.{Calls, Gives, call_with};
+ghost use Rattle.gr_history.specs.declared.deed.Deed.TheVariants as deed;
+ghost use Rattle.gr_world.specs.Doings.{Asks, Calls, Gives, call_with};
 ghost use Rattle.gr_world.specs.Numbered.{PairsFrom};
 ghost use Rattle.gr_world.specs.Tasks.{BelongsTo, IsGiven, doing_of};
 ghost use Rattle.gr_world.specs.Worlds.{account_in, deed_at, new_row, row_with};
 
 use crate::cell::Cell;
 use crate::task::Task;
-use gr_history::{Ask, Done, Gift, Identity, MemberRecord, ShardRecordList, What};
+use gr_history::{
+    Ask, Done, Gift, Identity, MemberRecord, QueryAsk, QueryReply, ShardRecordList, What,
+};
 use gr_value::Memory;
 use std::alloc::Global;
 use std::marker::Model;
@@ -68,6 +71,24 @@ impl Row {
     {
         let cell = &mut self.cells[usize::from(shard)];
         cell.call(alloc, client, seq, ask)
+    }
+
+    /// Does a client's step on one of its queries, at a shard.
+    pub fn query(
+        &mut self,
+        alloc: Global,
+        shard: u8,
+        client: u8,
+        seq: u32,
+        ask: &QueryAsk,
+    ) -> Result<QueryReply, Memory>
+        requires { shard < length self.old }
+        ensures reply { IfOk result
+            (λ reply. deed.Asked client seq ask.now reply ≡ deed_at (account_in self.old shard) (Asks client seq ask.now)) }
+        ensures added { IfOk result (λ reply. self.new ≡ row_with self.old shard (deed.Asked client seq ask.now reply)) }
+    {
+        let cell = &mut self.cells[usize::from(shard)];
+        cell.query(alloc, client, seq, ask)
     }
 
     /// Gives a joiner the image of a shard or the changes that were made there.

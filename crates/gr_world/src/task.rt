@@ -2,7 +2,7 @@ use gr_history::Image;
 use gr_stamp::Change;
 use gr_vector::Report;
 
-/// What is done at a shard, beside a client's call.
+/// What is done at a shard, beside a client's steps.
 #[derive(Clone, Copy)]
 pub enum Task<'a> {
     /// A change comes.

@@ -1,11 +1,10 @@
-ghost use Rattle.std.specs.Prelude.{◌≡◌, ◌<◌, ℕ, List, [], true, length, reverse, IfOk};
+ghost use Rattle.std.specs.Prelude.{◌≡◌, ◌<◌, ℕ, List, [], length, reverse, IfOk};
 ghost use Rattle.gr_script.specs.declared.line.Act.TheVariants as act;
 ghost use Rattle.gr_script.specs.declared.line.Line.TheVariants as line;
 ghost use Rattle.gr_script.specs.Rules.{IsMember, IsStated, home_of};
 ghost use Rattle.gr_script.specs.Scripts.{heading_of};
 ghost use Rattle.gr_history.specs.declared.record.Answer.TheVariants as answer;
 ghost use Rattle.gr_history.specs.Standing.{present};
-ghost use Rattle.gr_world.specs.Built.{is_built_line};
 ghost use Rattle.gr_world.specs.Courses.{after, does, for_each, hears_of};
 ghost use Rattle.gr_world.specs.Tasks.{BelongsTo, doing_of};
 ghost use Rattle.gr_shard.specs.View.{Account};
@@ -54,8 +53,8 @@ fn note(
     Ok(())
 }
 
-// The member that a client is at.
-fn home(script: &Script, client: u8) -> u8
+/// The member that a client is at.
+pub(crate) fn home(script: &Script, client: u8) -> u8
     requires { IsStated client (heading_of script.now) }
     ensures home { result ≡ home_of (heading_of script.now) client }
     ensures member { IsMember (heading_of script.now) result }
@@ -139,13 +138,12 @@ impl World {
     ) -> Result<(), Memory>
         requires work { IsAtWork (heading_of script.now) self.old }
         requires stated { IsStated client (heading_of script.now) }
-        requires built { is_built_line (line.Step client seq act.now) ≡ true }
         ensures { IfOk result
             (λ _. Plays (heading_of script.now) (after (heading_of script.now) (line.Step client seq act.now)) self.old self.new) }
     {
         match act {
             Act::Call(ask) => Ok(self.call(alloc, script, client, seq, ask)?),
-            Act::Query(_) => Ok(()),
+            Act::Query(ask) => Ok(self.query(alloc, script, client, seq, ask)?),
             Act::Peek(key) => Ok(self.peek(alloc, script, client, key)?),
         }
     }
@@ -235,7 +233,7 @@ impl World {
     /// Does what a line names.
     pub fn play(&mut self, alloc: Global, script: &Script, line: &Line) -> Result<(), Memory>
         requires work { IsAtWork (heading_of script.now) self.old }
-        requires built { CanPlay (heading_of script.now) line.now }
+        requires stated { CanPlay (heading_of script.now) line.now }
         ensures { IfOk result (λ _. Plays (heading_of script.now) (after (heading_of script.now) line.now) self.old self.new) }
     {
         match line {

@@ -2,7 +2,7 @@ use Rattle.std.proofs.Common.{◌≡◌, subst, List, ℕ, false, Ok, Err, refl,
 use Rattle.gr_script.specs.declared.ending.ScriptEnd.TheVariants as end
 use Rattle.gr_script.specs.Scripts.{heading_of}
 use Rattle.gr_script.specs.Said.{script_of}
-use Rattle.gr_top.proofs.Endings.{refused, keeps_none, within}
+use Rattle.gr_top.proofs.Endings.{keeps_none, within}
 use Rattle.gr_top.proofs.giving.script_from.Goals as goal
 
 pub returns-in-Ok : goal.returns-in-Ok
@@ -28,12 +28,12 @@ returns-in-Err-TooManyLines g c m sink untouched = (
 pub returns-in-Err-Fault : goal.returns-in-Err-Fault
 returns-in-Err-Fault g c m sink untouched = (
   refl,
-  refused m _ c.in-Err-Fault.fault (record {
+  record {
     text = c.in_ok-text.text.items;
     whole = c.in_ok-text.ensures m;
     refused = subst (λ (text : List ℕ). script_of false text ≡ Err (end.Fault c.in-Err-Fault.fault))
         c.as_slice.ensures.value (rw c.in-Err-Fault.field-0-is at c.in-Err-Fault.ensures.exact);
-  }),
+  },
   untouched,
 )
 

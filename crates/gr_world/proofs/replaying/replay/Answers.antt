@@ -16,13 +16,13 @@ play-requires-clause-work c = (
   c.loop-line.invariant,
 )
 
-pub play-requires-clause-built : goal.play-requires-clause-built
-play-requires-clause-built c =
+pub play-requires-clause-stated : goal.play-requires-clause-stated
+play-requires-clause-stated c =
     let heading = heading_of c.args.script.now in
     let line = c.line-item.result in
     let i = c.loop-line.line-index in
     let CanAt : List Line → Type 0 = λ lines. i < length lines → line ≡ get_or lines i line → CanPlay heading line in
-    subst CanAt (sym c.as_slice-line-items.ensures) (can_play heading c.args.script.now.lines c.args.script.now.ruled c.requires i line)
+    subst CanAt (sym c.as_slice-line-items.ensures) (can_play heading c.args.script.now.lines c.args.script.now.ruled i line)
     c.loop-line-test.true c.line-item.is
 
 pub returns-clause-laws : goal.returns-clause-laws

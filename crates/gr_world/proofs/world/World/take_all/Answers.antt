@@ -1,9 +1,8 @@
-use Rattle.std.proofs.Common.{take, ap, sym, ◌∙◌, refl}
-use Rattle.gr_value.specs.Shard.{shard_of}
+use Rattle.std.proofs.Common.{take, refl}
 use Rattle.gr_script.specs.Scripts.{heading_of}
 use Rattle.gr_world.specs.Courses.{takes_all}
 use Rattle.gr_world.specs.declared.task.Task.TheVariants.{Take}
-use Rattle.gr_world.proofs.Handing.{item_here, takes_more_plays, work_id}
+use Rattle.gr_world.proofs.Handing.{item_here, takes_more_plays}
 use Rattle.gr_world.proofs.Worlds.{task_plays, work_cell, work_on}
 use Rattle.gr_world.proofs.world.World.take_all.Goals as goal
 
