@@ -2,7 +2,7 @@ use crate::row::Row;
 use crate::running::no_memory;
 use gr_report::summary;
 use gr_script::{Form, Script, generate, read};
-use gr_world::{replay, unbuilt};
+use gr_world::replay;
 use std::alloc::Global;
 use std::io::{self, Print};
 use std::rt::Files;
@@ -35,9 +35,6 @@ fn summary_of(alloc: Global, case: &Row) -> io::Result<Vec<u8>> {
     let Ok(script) = read(alloc, case.script.as_slice(), Form::Replay) else {
         return Err(bad_case());
     };
-    if unbuilt(&script).is_some() {
-        return Err(bad_case());
-    }
     let record_of = replay(alloc, &script).map_err(|_| no_memory())?;
     let counted = if case.words.len() > 3 {
         drill_of(alloc, start, steps)?
