@@ -1,5 +1,5 @@
 -- The open queries stay in step with a history: told of the turned keys at each deed, and changed where a client asks.
-use Rattle.std.proofs.Common.{suc, ◌≡◌, ℕ, ◌≤◌, List, [], ◌∷◌, ◌++◌, Bool, true, false, ◌&&◌, ◌==◌, refl, sym, ap, ◌∙◌, subst, arith}
+use Rattle.std.proofs.Common.{suc, ◌≡◌, ℕ, ◌≤◌, List, [], ◌∷◌, ◌++◌, Bool, true, false, refl, sym, ap, ◌∙◌, subst, arith}
 use Rattle.std.proofs.Common.{bytes_eq}
 use Rattle.std.proofs.Common.{append-nil, if◌then◌else◌}
 use Rattle.std.specs.Prelude.{Option, Some, None, length, option_map}
@@ -7,6 +7,7 @@ use Rattle.std.proofs.lemmas.Bool.Decides.{nat_tests}
 use Rattle.std.proofs.lemmas.Slice.Eq.{bytes_eq-Decides}
 use Rattle.gr_oql.specs.declared.event.Event.{Event}
 use Rattle.gr_oql.specs.Question.{Question}
+use Rattle.gr_oql.specs.Events.{told_all}
 use Rattle.gr_cq.specs.Entries.{Kept, Entry, find, kept_opened, kept_noted, noted, enrolled, changed_at, kept_stopped, kept_taken, closed}
 use Rattle.gr_cq.specs.Entries.{is_same_query}
 use Rattle.gr_cq.proofs.Pairs.{find_noted, find_enrolled, find_unenrolled, find_changed, find_unchanged, find_closed, find_unclosed}
@@ -16,7 +17,7 @@ use Rattle.gr_history.specs.declared.query_reply.QueryReply.{QueryReply}
 use Rattle.gr_history.specs.declared.deed.Deed.{Deed}
 use Rattle.gr_history.specs.declared.deed.Deed.TheVariants.{Asked}
 use Rattle.gr_history.specs.Turned.{turned, events_at}
-use Rattle.gr_history.specs.Queries.{name_of, Asking, asked_of, State, Neither, Running, Halted, after_asked, state, behind_fetched}
+use Rattle.gr_history.specs.Queries.{name_of, Asking, State, Neither, Running, Halted, after_asked, state, behind_fetched}
 use Rattle.gr_history.specs.Queries.{fetched_upto, waiting_in, waiting, rows_of, answer, query_gives}
 use Rattle.gr_law.proofs.Waiting.{IsWithin, within, fetched_within, noted_in, waits_on, waits_fetched, waits_stopped, waits_opened}
 use Rattle.gr_law.proofs.Waiting.{noted_none}
@@ -227,3 +228,9 @@ untold_in_step deed past entries unasked none in_step client name =
     noted_nothing Neither all = refl
     noted_nothing (Running opening) all = ap (λ more. all ++ more) (none opening.question) ∙ append-nil all
     noted_nothing (Halted opening stop) all = refl
+
+-- So does a deed that turns no key.
+pub quiet_in_step : (deed : Deed) (past : List Deed) (entries : List Entry) → IsUnasked deed → turned deed past ≡ []
+    → IsInStep entries past → IsInStep entries (deed ∷ past)
+quiet_in_step deed past entries unasked none in_step =
+    untold_in_step deed past entries unasked (λ question. ap (told_all question) none) in_step

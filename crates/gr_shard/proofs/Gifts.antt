@@ -11,10 +11,12 @@ use Rattle.gr_history.specs.declared.deed.Deed.TheVariants.{Call, Asked, Taken, 
 use Rattle.gr_history.specs.Gifts.{own_changes}
 use Rattle.gr_history.specs.Made.{made, made_at}
 use Rattle.gr_history.specs.Recipients.{gave_to, is_recipient, member_bits, recipients}
+use Rattle.gr_law.proofs.Turns.{turned_gave}
 use Rattle.gr_stable.proofs.Counting.{heard_next}
 use Rattle.gr_shard.specs.Gifts.{goes_to, is_given}
 use Rattle.gr_stable.specs.Heard.{heard}
 use Rattle.gr_shard.specs.View.{IsKept, IsPlace, Kept, kept}
+use Rattle.gr_shard.proofs.Following.{new_in_step, quiet_in_step}
 use Rattle.gr_shard.proofs.Slots.{stands_unchanged}
 
 at_most_one : (deed : Deed) → reverse (made_at deed) ≡ made_at deed
@@ -88,7 +90,7 @@ all_false (x ∷ xs) all zero = all.0
 all_false (x ∷ xs) all (suc k) = all_false xs all.1 k
 
 pub kept_new : (id : Identity) (opening to : ℕ) → IsPlace id opening → to ≡ member_bits (goes_to id nobody) 8
-    → IsKept id opening (kept [] [] opening 0 false to (heard []) nobody) []
+    → IsKept id opening (kept [] [] opening 0 false to (heard []) nobody []) []
 kept_new id opening to place aimed =
     let gifts : (member : ℕ) → 1 ≤ member → member ≤ 8 → is_given nobody member ≡ gave_to member [] =
     λ member some most. all_false nobody (refl, (refl, (refl, (refl, (refl, (refl, (refl, (refl, tt)))))))) (member - 1) in
@@ -106,6 +108,7 @@ kept_new id opening to place aimed =
       told = refl;
       eight = refl;
       gifts = gifts;
+      in_step = new_in_step;
     }
 
 module _ (id : Identity) (opening : ℕ) (now : Kept) (past : List Deed) where
@@ -132,4 +135,5 @@ module _ (id : Identity) (opening : ℕ) (now : Kept) (past : List Deed) where
         told = kept.told ∙ sym (heard_next (Gave to what) past);
         eight = length-set now.given (to - 1) true ∙ kept.eight;
         gifts = gifts;
+        in_step = quiet_in_step (Gave to what) past now.queries (λ client name. refl) (turned_gave to what past) kept.in_step;
       }

@@ -1,14 +1,13 @@
 -- What a shard keeps stays tied to its history by a call and by a change that is taken in.
-use Rattle.std.proofs.Common.{◌≡◌, ◌≤◌, ◌<◌, ◌∙◌, ap, sym, refl, subst, ℕ, ◌+◌, List, ◌∷◌, Bool, true, false, if◌then◌else◌, max}
+use Rattle.std.proofs.Common.{◌≡◌, ◌∙◌, ap, sym, refl, subst, ℕ, ◌+◌, List, [], ◌∷◌, Bool, true, false, if◌then◌else◌, max}
 use Rattle.std.proofs.Common.{Option, Some, None, bytes_eq, arith}
 use Rattle.std.proofs.lemmas.Slice.Eq.{bytes_eq-Decides}
 use Rattle.std.proofs.lemmas.Bool.Decides.{nat_tests}
 use Rattle.gr_value.specs.Shard.{shard_of}
 use Rattle.gr_stamp.specs.declared.change.Change.{Change}
-use Rattle.gr_stamp.specs.declared.stamp.TheConstants.{LIMIT}
 use Rattle.gr_stamp.specs.Version.{beats}
-use Rattle.gr_stamp.specs.Winner.{wins}
-use Rattle.gr_vector.specs.Ids.{Id, has_id, top}
+use Rattle.gr_stamp.specs.Winner.{wins, put_value}
+use Rattle.gr_vector.specs.Ids.{has_id}
 use Rattle.gr_vector.specs.Order.{with_id}
 use Rattle.gr_history.specs.declared.identity.Identity.{Identity}
 use Rattle.gr_history.specs.declared.ask.Ask.{Ask}
@@ -23,13 +22,20 @@ use Rattle.gr_history.specs.Floor.{floor}
 use Rattle.gr_history.specs.Lawful.{IsOfShard}
 use Rattle.gr_history.specs.Recipients.{recipients}
 use Rattle.gr_history.specs.Standing.{standing}
+use Rattle.gr_history.specs.Turned.{turned}
 use Rattle.gr_history.specs.Verdicts.{verdict, verdict_over}
-use Rattle.gr_history.specs.Calls.{call_gives, ver_of, reach, last_rv}
+use Rattle.gr_history.specs.Calls.{call_gives, ver_of}
+use Rattle.gr_cq.specs.Entries.{noted}
+use Rattle.gr_law.proofs.Turns.{turned_applied, turned_call, turned_discarded, turned_repeat, turned_to, turned_unmade}
+use Rattle.gr_slots.specs.Slots.{Entries}
 use Rattle.gr_stable.proofs.Counting.{heard_next}
+use Rattle.gr_shard.specs.Asking.{Hold}
 use Rattle.gr_shard.specs.Entries.{with_change, with_made, applied}
 use Rattle.gr_shard.specs.View.{IsKept, Kept}
 use Rattle.gr_shard.proofs.Made.{IsMade, made_by_call}
-use Rattle.gr_shard.proofs.Slots.{Stands, stands_unchanged, stands_with, stands_after, stands_still}
+use Rattle.gr_shard.specs.Telling.{turned_by_change}
+use Rattle.gr_shard.proofs.Turning.{told_in_step, value-slot_at}
+use Rattle.gr_shard.proofs.Slots.{stands_unchanged, stands_with, stands_after, stands_still}
 
 -- a change that was made wins over what stood
 makes_win : (id : Identity) (opening : ℕ) (past : List Deed) (key : List ℕ) (change : Change) → IsMade id opening past key change
@@ -49,13 +55,13 @@ made_wins id opening past key change made q same =
 slots_called : (id : Identity) (opening : ℕ) (now : Kept) (past : List Deed) (client seq : ℕ) (ask : Ask) (reply : Reply)
     (made : Option Change)
     (to : ℕ) → IsKept id opening now past → record { reply = reply; made = made; to = to } ≡ call_gives id opening past ask
-    → Stands (with_change made now.clock now.slots) (Call client seq ask reply made to ∷ past)
+    → Hold (with_change made now.clock now.slots) (Call client seq ask reply made to ∷ past)
 slots_called id opening now past client seq ask reply None to kept gives =
     stands_unchanged now.slots (Call client seq ask reply None to) past (λ key. refl) kept.stands
 slots_called id opening now past client seq ask reply (Some change) to kept gives =
     let is = made_by_call id opening past ask reply change to gives in
     let win = made_wins id opening past (key_of ask) change is in
-    subst (λ at. Stands (with_change (Some change) at now.slots) (Call client seq ask reply (Some change) to ∷ past)) (sym kept.clocked)
+    subst (λ at. Hold (with_change (Some change) at now.slots) (Call client seq ask reply (Some change) to ∷ past)) (sym kept.clocked)
     (stands_with now.slots (Call client seq ask reply (Some change) to) past change
     (λ key. stands_after key change past (bytes_eq change.key key) refl (win key)) win kept.stands)
 
@@ -95,11 +101,11 @@ at_its_key past change win is q same =
 -- the slots once a change was taken in
 slots_taken : (id : Identity) (opening : ℕ) (now : Kept) (past : List Deed) (change : Change) (told : Verdict) → IsKept id opening now
     past
-    → told ≡ verdict past change → Stands (with_change (applied told change) now.clock now.slots) (Taken change told ∷ past)
+    → told ≡ verdict past change → Hold (with_change (applied told change) now.clock now.slots) (Taken change told ∷ past)
 slots_taken id opening now past change Applied kept is =
     let win = at_its_key past change true
     (verdict_wins (has_id (id_of change) (ids past)) (standing change.key past) change (sym is)) in
-    subst (λ at. Stands (with_change (Some change) at now.slots) (Taken change Applied ∷ past)) (sym kept.clocked)
+    subst (λ at. Hold (with_change (Some change) at now.slots) (Taken change Applied ∷ past)) (sym kept.clocked)
     (stands_with now.slots (Taken change Applied) past change
     (λ key. stands_after key change past (bytes_eq change.key key) refl (win key)) win kept.stands)
 slots_taken id opening now past change Discarded kept is =
@@ -110,12 +116,28 @@ slots_taken id opening now past change Discarded kept is =
 slots_taken id opening now past change Repeat kept is =
     stands_unchanged now.slots (Taken change Repeat) past (λ key. refl) kept.stands
 
+-- What a change that came in turns, by the slots before.
+turned_change : (change : Change) (past : List Deed) (slots : Entries) → Hold slots past
+    → turned_to change past ∷ [] ≡ turned_by_change slots (Some change)
+turned_change change past slots stands =
+    ap (λ v. record { key = change.key; old = v; new = put_value change.kind } ∷ []) (sym (value-slot_at change.key slots past stands))
+
+turned_taken : (change : Change) (told : Verdict) (past : List Deed) (slots : Entries) → told ≡ verdict past change → Hold slots past
+    → turned (Taken change told) past ≡ turned_by_change slots (applied told change)
+turned_taken change Applied past slots is stands = turned_applied change past is ∙ turned_change change past slots stands
+turned_taken change Discarded past slots is stands = turned_discarded change past is
+turned_taken change Repeat past slots is stands = turned_repeat change past
+
 module _ (id : Identity) (opening : ℕ) (now : Kept) (past : List Deed) where
   -- Kept before a call, all is kept after it.
   pub kept_called : (client seq : ℕ) (ask : Ask) (reply : Reply) (made : Option Change) (to : ℕ) → IsKept id opening now past
       → shard_of (key_of ask) id.shards ≡ id.shard
       → record { reply = reply; made = made; to = to } ≡ call_gives id opening past ask
-      → IsKept id opening (record now { slots = with_change made now.clock now.slots; vector = with_made made now.vector })
+      → IsKept id opening (record now {
+        slots = with_change made now.clock now.slots;
+        vector = with_made made now.vector;
+        queries = noted (turned_by_change now.slots made) now.queries;
+      })
       (Call client seq ask reply made to ∷ past)
   unfolding recipients
   kept_called client seq ask reply None to kept here gives = record {
@@ -132,6 +154,8 @@ module _ (id : Identity) (opening : ℕ) (now : Kept) (past : List Deed) where
     told = kept.told ∙ sym (heard_next (Call client seq ask reply None to) past);
     eight = kept.eight;
     gifts = kept.gifts;
+    in_step = told_in_step (Call client seq ask reply None to) past [] now.queries (λ client name. refl)
+        (turned_unmade client seq ask reply to past) kept.in_step;
   }
   kept_called client seq ask reply (Some change) to kept here gives =
       let is = made_by_call id opening past ask reply change to gives in
@@ -149,13 +173,20 @@ module _ (id : Identity) (opening : ℕ) (now : Kept) (past : List Deed) where
         told = kept.told ∙ sym (heard_next (Call client seq ask reply (Some change) to) past);
         eight = kept.eight;
         gifts = kept.gifts;
+        in_step = told_in_step (Call client seq ask reply (Some change) to) past
+            (turned_by_change now.slots (Some change)) now.queries (λ client name. refl)
+            (turned_call id opening client seq ask reply change to past gives
+            ∙ turned_change change past now.slots kept.stands) kept.in_step;
       }
 
   -- Kept before a change is taken in, all is kept after it.
   pub kept_taken : (change : Change) (told : Verdict) → IsKept id opening now past → shard_of change.key id.shards ≡ id.shard
       → told ≡ verdict past change
-      → IsKept id opening
-      (record now { slots = with_change (applied told change) now.clock now.slots; vector = with_id (id_of change) now.vector })
+      → IsKept id opening (record now {
+        slots = with_change (applied told change) now.clock now.slots;
+        vector = with_id (id_of change) now.vector;
+        queries = noted (turned_by_change now.slots (applied told change)) now.queries;
+      })
       (Taken change told ∷ past)
   unfolding recipients
   kept_taken change told kept here is = record {
@@ -172,4 +203,6 @@ module _ (id : Identity) (opening : ℕ) (now : Kept) (past : List Deed) where
     told = kept.told ∙ sym (heard_next (Taken change told) past);
     eight = kept.eight;
     gifts = kept.gifts;
+    in_step = told_in_step (Taken change told) past (turned_by_change now.slots (applied told change)) now.queries
+        (λ client name. refl) (turned_taken change told past now.slots is kept.stands) kept.in_step;
   }

@@ -23,8 +23,10 @@ use Rattle.gr_law.specs.Grids.{Among}
 use Rattle.gr_law.proofs.Images.{key_of_change, lasting_came}
 use Rattle.gr_law.proofs.Steps.{standing_best}
 use Rattle.gr_slots.specs.declared.slot.Slot.{Slot}
+use Rattle.gr_slots.specs.Slots.{Entries}
 use Rattle.gr_slots.proofs.Found.{same_key}
 use Rattle.gr_slots.proofs.Ordered.{found_at, tabulated}
+use Rattle.gr_shard.specs.Asking.{Hold}
 use Rattle.gr_shard.specs.Entries.{slot_of, changes_in, puts_of, removals_of}
 use Rattle.gr_shard.specs.View.{IsKept, Kept}
 
@@ -53,7 +55,7 @@ before_all : (key first : List ℕ) (keys : List (List ℕ)) → slice_cmp nat_c
 before_all key first [] less all = tt
 before_all key first (other ∷ keys) less all = (total.trans key first other less all.0, before_all key first keys less all.1)
 
-with_key-sorted : (key : List ℕ) (keys : List (List ℕ)) → IsStrictlySortedBy (slice_cmp nat_cmp) keys
+pub with_key-sorted : (key : List ℕ) (keys : List (List ℕ)) → IsStrictlySortedBy (slice_cmp nat_cmp) keys
     → IsStrictlySortedBy (slice_cmp nat_cmp) (with_key key keys)
 unfolding IsStrictlySortedBy
 with_key-sorted key [] sorted = (tt, tt)
@@ -114,14 +116,18 @@ found_stands past (key ∷ keys) = at_standing (standing key past) refl (found_s
         rw e (ap (λ k. record { key = k; kind = change.kind; stamp = change.stamp } ∷ changes_in (found_at find keys)) (sym same)
         ∙ ap (λ changes. change ∷ changes) rest)
 
--- The slots are those that the history has at the keys of its changes.
+-- The slots that hold what stands are those that the history has at the keys of its changes.
+pub slots-held : (slots : Entries) (past : List Deed) → Hold slots past → IsStrictlySortedBy (slice_cmp nat_cmp) (keys_in slots)
+    → slots ≡ found_at (λ key. slot_of (standing key past) (since key past)) (keys_of (changes past))
+slots-held slots past hold ordered =
+    tabulated (slice_cmp nat_cmp) total same_key slots (keys_of (changes past))
+    (λ key. slot_of (standing key past) (since key past)) ordered (keys_of-sorted (changes past)) hold
+    (slot_stands past)
+
 pub slots-kept : (id : Identity) (opening : ℕ) (now : Kept) (past : List Deed) → IsKept id opening now past
     → IsStrictlySortedBy (slice_cmp nat_cmp) (keys_in now.slots)
     → now.slots ≡ found_at (λ key. slot_of (standing key past) (since key past)) (keys_of (changes past))
-slots-kept id opening now past kept ordered =
-    tabulated (slice_cmp nat_cmp) total same_key now.slots (keys_of (changes past))
-    (λ key. slot_of (standing key past) (since key past)) ordered (keys_of-sorted (changes past)) kept.stands
-    (slot_stands past)
+slots-kept id opening now past kept ordered = slots-held now.slots past kept.stands ordered
 
 pub changes_in-kept : (id : Identity) (opening : ℕ) (now : Kept) (past : List Deed) → IsKept id opening now past
     → IsStrictlySortedBy (slice_cmp nat_cmp) (keys_in now.slots) → changes_in now.slots ≡ all_standing past

@@ -11,3 +11,6 @@ pub mod Reports
 pub mod Slots
 pub mod Sweeps
 pub mod Following
+pub mod Turning
+pub mod Opened
+pub mod Asked

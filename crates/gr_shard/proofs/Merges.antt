@@ -30,25 +30,27 @@ use Rattle.gr_history.specs.declared.deed.Deed.{Deed}
 use Rattle.gr_history.specs.declared.deed.Deed.TheVariants.{Imaged}
 use Rattle.gr_history.specs.Ids.{id_of, ids, known}
 use Rattle.gr_history.specs.Clock.{clock, since, is_same_standing}
-use Rattle.gr_history.specs.Lawful.{AreInOrder, IsOfShard}
+use Rattle.gr_history.specs.Lawful.{AreInOrder}
 use Rattle.gr_history.specs.Recipients.{recipients}
-use Rattle.gr_history.specs.Regions.{keys_of}
 use Rattle.gr_history.specs.Standing.{changes, has_key, is_known, lasting, standing}
 use Rattle.gr_history.specs.Verdicts.{verdict_over}
 use Rattle.gr_law.proofs.Lists.{known_ids}
 use Rattle.gr_law.proofs.Winners.{bytes_eq-itself}
 use Rattle.gr_slots.specs.declared.slot.Slot.{Slot}
 use Rattle.gr_slots.specs.Slots.{Entries, slot_at, with_slot}
+use Rattle.gr_cq.specs.Entries.{noted}
 use Rattle.gr_slots.proofs.Found.{slot_at-with_slot}
-use Rattle.gr_slots.proofs.Ordered.{is_equal}
 use Rattle.gr_stable.proofs.Counting.{heard_next}
-use Rattle.gr_shard.specs.Entries.{change_of, slot_from, slot_of, verdict_at}
+use Rattle.gr_shard.specs.Asking.{Hold}
+use Rattle.gr_shard.specs.Entries.{change_of, slot_of, verdict_at}
 use Rattle.gr_shard.specs.Merges.{IsImageFor, left_by, merged, row_leaves, rows_leave, with_left, with_unknown}
+use Rattle.gr_shard.specs.Telling.{turned_between}
 use Rattle.gr_shard.specs.View.{IsKept, Kept}
 use Rattle.gr_shard.proofs.Left.{keys_of-sorted}
 use Rattle.gr_shard.proofs.Kept.{verdict_wins, verdict_loses}
 use Rattle.gr_shard.proofs.Made.{verdict-slot_of}
-use Rattle.gr_shard.proofs.Slots.{Stands, unchanged, won_slot}
+use Rattle.gr_shard.proofs.Slots.{unchanged, won_slot}
+use Rattle.gr_shard.proofs.Turning.{told_in_step, turned_by_slots}
 
 total : IsTotalOrder (slice_cmp nat_cmp)
 total = lists_total nat_cmp_total
@@ -417,8 +419,8 @@ module _ (q : List ℕ) (image : Image) (past : List Deed) where
               at_test false f = cc
 
 stands_merged : (image : Image) (past : List Deed) (slots : Entries) (known_ : List Id) (clock_ : ℕ) → AreInOrder image.rows
-    → IsStrictlySortedBy (slice_cmp nat_cmp) (keys_in slots) → known_ ≡ known past → clock_ ≡ clock past → Stands slots past
-    → Stands (merged known_ clock_ image slots) (Imaged image ∷ past)
+    → IsStrictlySortedBy (slice_cmp nat_cmp) (keys_in slots) → known_ ≡ known past → clock_ ≡ clock past → Hold slots past
+    → Hold (merged known_ clock_ image slots) (Imaged image ∷ past)
 stands_merged image past slots known_ clock_ in_order sorted known_is clock_is stands q =
     slot_at-merged q known_ clock_ image slots in_order sorted
     ∙ ap (λ s. first_of (option_and_then (λ row. row_leaves known_ clock_ row s) (row_at q image.rows)) (unless_known image.vector.ids s))
@@ -461,6 +463,7 @@ module _ (id : Identity) (opening : ℕ) (now : Kept) (past : List Deed) where
         vector = united now.vector image.vector.ids;
         floor = max image.floor now.floor;
         joined = true;
+        queries = noted (turned_between now.slots (merged now.vector now.clock image now.slots)) now.queries;
       })
       (Imaged image ∷ past)
   unfolding recipients
@@ -468,7 +471,7 @@ module _ (id : Identity) (opening : ℕ) (now : Kept) (past : List Deed) where
     place = kept.place;
     lawful = (fits.in_order, kept.lawful);
     of_shard = of_shard_rows id (λ row. not (has_id (id_of row) (ids past))) image.rows (changes past) fits.of_shard kept.of_shard;
-    stands = stands_merged image past now.slots now.vector now.clock fits.in_order ordered kept.noted kept.clocked kept.stands;
+    stands = stands;
     noted = ap (λ ids_. united ids_ image.vector.ids) kept.noted ∙ sym (united-append [] image.vector.ids (ids past));
     floored = ap (max image.floor) kept.floored;
     low = most image.floor now.floor fits.low kept.low;
@@ -478,7 +481,13 @@ module _ (id : Identity) (opening : ℕ) (now : Kept) (past : List Deed) where
     told = kept.told ∙ sym (heard_next (Imaged image) past);
     eight = kept.eight;
     gifts = kept.gifts;
+    in_step = told_in_step (Imaged image) past (turned_between now.slots (merged now.vector now.clock image now.slots)) now.queries
+        (λ client name. refl)
+        (turned_by_slots (Imaged image) past now.slots (merged now.vector now.clock image now.slots) kept.stands stands) kept.in_step;
   }
     where
+      stands : Hold (merged now.vector now.clock image now.slots) (Imaged image ∷ past)
+      stands = stands_merged image past now.slots now.vector now.clock fits.in_order ordered kept.noted kept.clocked kept.stands
+
       most : (a b : ℕ) → a ≤ LIMIT → b ≤ LIMIT → max a b ≤ LIMIT
       most a b some more = omega (arith, some, more)

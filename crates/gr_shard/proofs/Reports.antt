@@ -7,8 +7,10 @@ use Rattle.gr_history.specs.declared.deed.Deed.TheVariants.{Reported, Heard}
 use Rattle.gr_history.specs.Gifts.{IsReportOf}
 use Rattle.gr_history.specs.Recipients.{recipients}
 use Rattle.gr_stable.specs.Heard.{with_report}
+use Rattle.gr_law.proofs.Turns.{turned_heard, turned_reported}
 use Rattle.gr_stable.proofs.Counting.{heard_next}
 use Rattle.gr_shard.specs.View.{IsKept, Kept}
+use Rattle.gr_shard.proofs.Following.{quiet_in_step}
 use Rattle.gr_shard.proofs.Slots.{stands_unchanged}
 
 module _ (id : Identity) (opening : ℕ) (now : Kept) (past : List Deed) where
@@ -29,6 +31,7 @@ module _ (id : Identity) (opening : ℕ) (now : Kept) (past : List Deed) where
     told = kept.told ∙ sym (heard_next (Reported report) past);
     eight = kept.eight;
     gifts = kept.gifts;
+    in_step = quiet_in_step (Reported report) past now.queries (λ client name. refl) (turned_reported report past) kept.in_step;
   }
 
   pub kept_heard : (report : Report) → IsKept id opening now past
@@ -48,4 +51,5 @@ module _ (id : Identity) (opening : ℕ) (now : Kept) (past : List Deed) where
     told = ap (with_report report) kept.told ∙ sym (heard_next (Heard report) past);
     eight = kept.eight;
     gifts = kept.gifts;
+    in_step = quiet_in_step (Heard report) past now.queries (λ client name. refl) (turned_heard report past) kept.in_step;
   }

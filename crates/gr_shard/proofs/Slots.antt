@@ -11,11 +11,8 @@ use Rattle.gr_history.specs.Clock.{clock, since, is_same_stamp, is_same_standing
 use Rattle.gr_history.specs.Standing.{lasting, standing}
 use Rattle.gr_slots.specs.Slots.{Entries, slot_at, with_slot}
 use Rattle.gr_slots.proofs.Found.{slot_at-with_slot}
+use Rattle.gr_shard.specs.Asking.{Hold}
 use Rattle.gr_shard.specs.Entries.{slot_from, slot_of}
-
--- The slots hold what stands after a history.
-abbrev pub Stands : Entries → List Deed → Type 0
-Stands slots past = (key : List ℕ) → slot_at key slots ≡ slot_of (standing key past) (since key past)
 
 same_stamp : (change : Change) → is_same_stamp change.stamp change.stamp ≡ true
 same_stamp change = grind (arith, nat_tests)
@@ -38,7 +35,7 @@ unchanged key deed past same =
 
 pub stands_unchanged : (slots : Entries) (deed : Deed) (past : List Deed)
     → ((key : List ℕ) → standing key (deed ∷ past) ≡ standing key past)
-    → Stands slots past → Stands slots (deed ∷ past)
+    → Hold slots past → Hold slots (deed ∷ past)
 stands_unchanged slots deed past same stands key = stands key ∙ sym (unchanged key deed past (same key))
 
 -- a change that wins stands from now on
@@ -51,7 +48,7 @@ won_slot change (Some before) now then_ win = rw (beats_apart change before win)
 pub stands_with : (slots : Entries) (deed : Deed) (past : List Deed) (change : Change)
     → ((key : List ℕ) → standing key (deed ∷ past) ≡ (if bytes_eq change.key key then Some change else standing key past))
     → ((key : List ℕ) → bytes_eq change.key key ≡ true → wins change (standing key past) ≡ true)
-    → Stands slots past → Stands (with_slot change.key (slot_from change (clock past)) slots) (deed ∷ past)
+    → Hold slots past → Hold (with_slot change.key (slot_from change (clock past)) slots) (deed ∷ past)
 stands_with slots deed past change after win stands key =
     slot_at-with_slot key change.key (slot_from change (clock past)) slots ∙ at_key (bytes_eq change.key key) refl
   where

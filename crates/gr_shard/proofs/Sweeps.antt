@@ -31,12 +31,15 @@ use Rattle.gr_slots.proofs.Found.{same_key}
 use Rattle.gr_slots.proofs.Ordered.{found_at, is_equal}
 use Rattle.gr_stable.proofs.Counting.{heard_next}
 use Rattle.gr_history.specs.Calls.{ver_of}
+use Rattle.gr_shard.specs.Asking.{Hold}
 use Rattle.gr_shard.specs.Entries.{slot_from, slot_of, slot_ver}
 use Rattle.gr_shard.specs.Sweeps.{stands_stable, without_all, risen}
 use Rattle.gr_shard.specs.View.{IsKept, Kept}
+use Rattle.gr_law.proofs.Turns.{swept_untold}
+use Rattle.gr_shard.proofs.Following.{untold_in_step}
 use Rattle.gr_shard.proofs.Left.{slots-kept}
 use Rattle.gr_shard.proofs.Made.{slot_ver-slot_of}
-use Rattle.gr_shard.proofs.Slots.{Stands, unchanged}
+use Rattle.gr_shard.proofs.Slots.{unchanged}
 
 total : IsTotalOrder (slice_cmp nat_cmp)
 total = lists_total nat_cmp_total
@@ -225,8 +228,8 @@ all_due id moment past (key ∷ keys) = at_test (is_due id moment past key) refl
 -- ---- all together
 
 stands_swept : (slots : Entries) (moment : ℕ) (expired : List (List ℕ)) (past : List Deed)
-    → IsStrictlySortedBy (slice_cmp nat_cmp) (keys_in slots) → Stands slots past
-    → Stands (without_all expired slots) (Swept moment expired ∷ past)
+    → IsStrictlySortedBy (slice_cmp nat_cmp) (keys_in slots) → Hold slots past
+    → Hold (without_all expired slots) (Swept moment expired ∷ past)
 stands_swept slots moment expired past ordered stands key =
     slot_at-without_all key expired slots ordered ∙ at_named (names key expired) refl
   where
@@ -271,4 +274,6 @@ module _ (id : Identity) (opening moment : ℕ) (now : Kept) (past : List Deed) 
     told = kept.told ∙ sym (heard_next (Swept moment expired) past);
     eight = kept.eight;
     gifts = kept.gifts;
+    in_step = untold_in_step (Swept moment expired) past now.queries (λ client name. refl)
+        (swept_untold id opening moment expired past is) kept.in_step;
   }

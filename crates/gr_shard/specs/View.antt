@@ -10,10 +10,12 @@ use Rattle.gr_history.specs.Floor.{floor as floor_of}
 use Rattle.gr_history.specs.Clock.{clock as clock_of, since}
 use Rattle.gr_history.specs.Recipients.{gave_to, has_image, recipients}
 use Rattle.gr_history.specs.Lawful.{IsLawful, IsOfShard}
+use Rattle.gr_cq.specs.Entries.{Entry}
 use Rattle.gr_slots.specs.Slots.{Entries, slot_at}
 use Rattle.gr_stable.specs.Heard.{Reports, heard}
 use Rattle.gr_shard.specs.Entries.{slot_of}
 use Rattle.gr_shard.specs.Gifts.{is_given}
+use Rattle.gr_shard.specs.InStep.{IsInStep}
 
 -- whose shard it is, the floor that it began with, and its deeds, the oldest first
 pub record Account : Type 0 where
@@ -45,9 +47,11 @@ pub record Kept : Type 0 where
   pub heard : Reports
   -- of each member whether it was given something
   pub given : List Bool
+  -- the open queries
+  pub queries : List Entry
 
-abbrev pub kept : Entries → List Id → ℕ → ℕ → Bool → ℕ → Reports → List Bool → Kept
-kept slots vector floor clock joined to heard given = record {
+abbrev pub kept : Entries → List Id → ℕ → ℕ → Bool → ℕ → Reports → List Bool → List Entry → Kept
+kept slots vector floor clock joined to heard given queries = record {
   slots = slots;
   vector = vector;
   floor = floor;
@@ -56,6 +60,7 @@ kept slots vector floor clock joined to heard given = record {
   to = to;
   heard = heard;
   given = given;
+  queries = queries;
 }
 
 -- What is kept is what the history says, which is lawful and of this shard's keys.
@@ -73,3 +78,4 @@ pub record IsKept (id : Identity) (opening : ℕ) (now : Kept) (past : List Deed
   pub told : now.heard ≡ heard past
   pub eight : length now.given ≡ 8
   pub gifts : (member : ℕ) → 1 ≤ member → member ≤ 8 → is_given now.given member ≡ gave_to member past
+  pub in_step : IsInStep now.queries past

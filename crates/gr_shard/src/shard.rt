@@ -12,6 +12,7 @@ ghost use Rattle.gr_history.specs.Floor.{floor};
 ghost use Rattle.gr_history.specs.Clock.{since};
 ghost use Rattle.gr_history.specs.Verdicts.{verdict};
 ghost use Rattle.gr_history.specs.Recipients.{is_ready};
+ghost use Rattle.gr_history.specs.Queries.{query_gives};
 ghost use Rattle.gr_history.specs.Gifts.{IsGiftOf, IsImageOf, IsReportOf};
 ghost use Rattle.gr_stamp.specs.Winner.{put_value};
 ghost use Rattle.gr_shard.specs.Entries.{slot_of, slot_ver};
@@ -21,15 +22,19 @@ ghost use Rattle.gr_shard.specs.Records.{IsRecordOf};
 ghost use Rattle.gr_shard.specs.Sweeps.{stands_stable};
 ghost use Rattle.gr_shard.specs.View.{IsPlace};
 
-use crate::entering::{applied, enter, value_of, ver_of, verdict_at};
+use crate::asking::{Replies, answer};
+use crate::entering::{applied, value_of, ver_of, verdict_at};
 use crate::giving::{own_changes, standing};
 use crate::making::{deed_of, note, nothing_made, recipients};
 use crate::merging::merged;
 use crate::regions::region;
 use crate::sweeping::{drop_all, risen};
+use crate::telling::{come_in, take_over};
 use crate::told::tells;
+use gr_cq::Registry;
 use gr_history::{
-    Ask, Deed, Done, Gift, History, Identity, Image, Reply, ShardRecord, Told, Verdict, What,
+    Ask, Deed, Done, Gift, History, Identity, Image, QueryAsk, QueryReply, Reply, ShardRecord,
+    Told, Verdict, What,
 };
 use gr_slots::{Slot, Slots};
 use gr_stable::Heard;
@@ -52,6 +57,7 @@ pub struct Shard {
     slots: Slots,
     vector: Vector,
     heard: Heard,
+    queries: Registry,
     history: History,
 }
 
@@ -68,7 +74,7 @@ impl Model for Shard {
     ghost view = { λ shard. record { id = shard.id; opening = shard.opening; deeds = shard.history.deeds } };
 
     ghost invariant = { λ shard. IsKept shard.id shard.opening (kept shard.slots shard.vector.ids shard.floor shard.clock shard.joined shard.to
-        shard.heard shard.given) (reverse shard.history.deeds) };
+        shard.heard shard.given shard.queries.entries) (reverse shard.history.deeds) };
 }
 
 impl Shard {
@@ -88,6 +94,7 @@ impl Shard {
             slots: Slots::new(alloc),
             vector: Vector::new(alloc)?,
             heard: Heard::new(alloc)?,
+            queries: Registry::new(alloc)?,
             history: History::new(alloc)?,
         })
     }
@@ -108,7 +115,7 @@ impl Shard {
         self.history.reserve(1)?;
         self.vector.reserve()?;
         let made = done.made.as_ref();
-        enter(alloc, &mut self.slots, self.clock, made)?;
+        come_in(alloc, &mut self.slots, &mut self.queries, self.clock, made)?;
         note(&mut self.vector, made);
         let _ = self.history.push(deed);
         Ok(done)
@@ -129,10 +136,38 @@ impl Shard {
         };
         self.history.reserve(1)?;
         self.vector.reserve()?;
-        enter(alloc, &mut self.slots, self.clock, applied(verdict, change))?;
+        let came = applied(verdict, change);
+        come_in(alloc, &mut self.slots, &mut self.queries, self.clock, came)?;
         note(&mut self.vector, Some(change));
         let _ = self.history.push(deed);
         Ok(verdict)
+    }
+
+    /// Does a client's step on one of its queries, and adds it to the history. A query is opened whether
+    /// or not calls are answered here. An opening takes time in proportion to the slots, and a fetch to
+    /// what it hands out.
+    pub fn query(
+        &mut self,
+        alloc: Global,
+        client: u8,
+        seq: u32,
+        ask: &QueryAsk,
+    ) -> Result<QueryReply, Memory>
+        ensures reply { IfOk result (λ reply. reply ≡ query_gives client ask.now (reverse self.old.deeds)) }
+        ensures added { IfOk result
+            (λ reply. self.new ≡ record self.old { deeds = self.old.deeds ++ deed.Asked client seq ask.now reply ∷ [] }) }
+        ensures err { OnErr result (self.new ≡ self.old) }
+    {
+        let asked = ask.copy(alloc)?;
+        self.history.reserve(1)?;
+        let Replies { noted, told } = answer(alloc, &mut self.queries, &self.slots, client, ask)?;
+        let _ = self.history.push(Deed::Asked {
+            client,
+            seq,
+            ask: asked,
+            reply: noted,
+        });
+        Ok(told)
     }
 
     /// Says what this member knows of the shard, and adds that to the history.
@@ -189,7 +224,8 @@ impl Shard {
     }
 
     /// Merges an image that another member gave of this shard, and adds that to the history. From then
-    /// on calls are answered here. Takes time in proportion to the image and the slots.
+    /// on calls are answered here. Each row and each slot takes the logarithm of the slots, or of the
+    /// ranges that the image's vector lacks.
     pub fn merge(&mut self, alloc: Global, image: &Image) -> Result<(), Memory>
         requires { IsImageFor self.old.id image.now }
         ensures added { OnOk result (self.new ≡ record self.old { deeds = self.old.deeds ++ deed.Imaged image.now ∷ [] }) }
@@ -200,8 +236,8 @@ impl Shard {
             image: image.copy(alloc)?,
         };
         self.history.reserve(1)?;
-        self.vector.unite(&image.vector)?;
-        self.slots = slots;
+        let (old, ids) = (&mut self.slots, &mut self.vector);
+        take_over(alloc, old, ids, &mut self.queries, slots, &image.vector)?;
         self.floor = image.floor.max(self.floor);
         self.joined = true;
         let _ = self.history.push(deed);

@@ -5,6 +5,8 @@ use Rattle.gr_history.specs.declared.deed.Deed.TheVariants.{Call}
 use Rattle.gr_history.specs.Asks.{key_of}
 use Rattle.gr_history.specs.Calls.{call_gives}
 use Rattle.gr_shard.specs.Entries.{with_made, with_change}
+use Rattle.gr_cq.specs.Entries.{noted as noted_}
+use Rattle.gr_shard.specs.Telling.{turned_by_change}
 use Rattle.gr_shard.specs.View.{kept}
 use Rattle.gr_shard.proofs.Pushed.{on_ok}
 use Rattle.gr_shard.proofs.Kept.{kept_called}
@@ -25,9 +27,12 @@ invariant_of-self-2 c =
     let noted : c.note.new.vector.ids ≡ with_made done.made was.vector.ids =
     c.note.ensures ∙ ap (λ m. with_made m c.reserve-2.new.self.ids) c.as_ref-made.ensures.value
     ∙ ap (λ v. with_made done.made v.ids) c.in_ok-reserve-2.ensures.room in
-    let entered : c.enter.new.slots ≡ with_change done.made was.clock was.slots = c.in_ok-enter.ensures.ok
+    let entered : c.come_in.new.slots ≡ with_change done.made was.clock was.slots = c.in_ok-come_in.ensures.slots
     ∙ ap (λ m. with_change m was.clock was.slots) c.as_ref-made.ensures.value in
-    rw (pushed, reverse-append, noted, entered)
-    (kept_called was.id was.opening (kept was.slots was.vector.ids was.floor was.clock was.joined was.to was.heard was.given) past
+    let told : c.come_in.new.queries.entries ≡ noted_ (turned_by_change was.slots done.made) was.queries.entries =
+    c.in_ok-come_in.ensures.told
+    ∙ ap (λ m. noted_ (turned_by_change was.slots m) was.queries.entries) c.as_ref-made.ensures.value in
+    rw (pushed, reverse-append, noted, entered, told)
+    (kept_called was.id was.opening (kept was.slots was.vector.ids was.floor was.clock was.joined was.to was.heard was.given was.queries.entries) past
     c.args.client c.args.seq
     c.args.ask.now done.reply done.made done.to c.self.invariant here gives)

@@ -1,7 +1,9 @@
-use Rattle.std.proofs.Common.{◌≡◌, ◌∙◌, ap, [], ◌∷◌, ◌++◌, reverse, max, true}
+use Rattle.std.proofs.Common.{◌≡◌, ◌∙◌, ap, [], ◌∷◌, ◌++◌, reverse}
 use Rattle.std.proofs.lemmas.List.{reverse-append}
 use Rattle.gr_history.specs.declared.deed.Deed.TheVariants.{Imaged}
 use Rattle.gr_shard.specs.Merges.{IsImageFor, merged}
+use Rattle.gr_cq.specs.Entries.{noted}
+use Rattle.gr_shard.specs.Telling.{turned_between}
 use Rattle.gr_shard.specs.View.{kept}
 use Rattle.gr_shard.proofs.Merges.{kept_merged}
 use Rattle.gr_shard.proofs.Pushed.{on_ok}
@@ -17,6 +19,11 @@ invariant_of-self-2 c =
     on_ok c.push.result (c.push.ensures.room c.in_ok-reserve.ensures.room) c.push.ensures.ok
     ∙ ap (λ deeds. deeds ++ Imaged c.in_ok-copy.field-0 ∷ []) c.in_ok-reserve.ensures.deeds
     ∙ ap (λ copy. was.history.deeds ++ Imaged copy ∷ []) c.in_ok-copy.ensures in
-    rw (pushed, reverse-append, c.in_ok-unite.ensures.ids, c.in_ok-slots.ensures.merged, c.max-self-inside.ensures)
-    (kept_merged was.id was.opening (kept was.slots was.vector.ids was.floor was.clock was.joined was.to was.heard was.given) past image
+    let left = merged was.vector.ids was.clock image was.slots in
+    let slots_are : c.take_over.new.slots ≡ left = c.in_ok-take_over.ensures.slots ∙ c.in_ok-slots.ensures.merged in
+    let told : c.take_over.new.queries.entries ≡ noted (turned_between was.slots left) was.queries.entries =
+    c.in_ok-take_over.ensures.told
+    ∙ ap (λ slots. noted (turned_between was.slots slots) was.queries.entries) c.in_ok-slots.ensures.merged in
+    rw (pushed, reverse-append, c.in_ok-take_over.ensures.ids, slots_are, told, c.max-self-inside.ensures)
+    (kept_merged was.id was.opening (kept was.slots was.vector.ids was.floor was.clock was.joined was.to was.heard was.given was.queries.entries) past image
     c.self.invariant c.in_ok-slots.ensures.ordered fits)
