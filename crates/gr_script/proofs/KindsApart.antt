@@ -1,63 +1,12 @@
--- Which kinds a line is not, by what it is.
-use Rattle.std.proofs.Common.{◌≡◌, ◌≤◌, true, false, refl, arith}
+-- A line behind the heading is of none of the heading's kinds.
+use Rattle.std.proofs.Common.{◌≡◌, ◌∙◌, ◌≤◌, ◌<◌, ◌+◌, ℕ, false, sym, ap, eqb, nat_lt, if◌then◌else◌, arith}
+use Rattle.std.proofs.Math.Nat.{le_trans, min-le_left, min-eq_right}
+use Rattle.std.proofs.lemmas.Bool.{ne_eqb}
 use Rattle.gr_script.specs.declared.forms.LineKind.{LineKind}
 use Rattle.gr_script.specs.declared.forms.LineKind.TheVariants as kind
-use Rattle.gr_script.specs.Forms.{rank, is_step, is_kind}
+use Rattle.gr_script.specs.Forms.{place, rank, is_kind}
 use Rattle.gr_script.specs.Past.{next_rank}
-
-pub no_report : (one : LineKind) → is_step one ≡ true → is_kind kind.Report one ≡ false
-no_report kind.Georep is = absurd cc
-no_report kind.Region is = absurd cc
-no_report kind.Members is = absurd cc
-no_report kind.Shards is = absurd cc
-no_report kind.Inbox is = absurd cc
-no_report kind.Trouble is = absurd cc
-no_report kind.Floor is = absurd cc
-no_report kind.Client is = absurd cc
-no_report kind.Get is = refl
-no_report kind.Put is = refl
-no_report kind.PutIfAbsent is = refl
-no_report kind.Replace is = refl
-no_report kind.ReplaceIf is = refl
-no_report kind.Destroy is = refl
-no_report kind.Remove is = refl
-no_report kind.Peek is = refl
-no_report kind.Open is = refl
-no_report kind.Stop is = refl
-no_report kind.Close is = refl
-no_report kind.Fetch is = refl
-no_report kind.Deliver is = absurd cc
-no_report kind.Report is = absurd cc
-no_report kind.Hear is = absurd cc
-no_report kind.Sweep is = absurd cc
-no_report kind.Join is = absurd cc
-
-pub no_join : (one : LineKind) → is_step one ≡ true → is_kind kind.Join one ≡ false
-no_join kind.Georep is = absurd cc
-no_join kind.Region is = absurd cc
-no_join kind.Members is = absurd cc
-no_join kind.Shards is = absurd cc
-no_join kind.Inbox is = absurd cc
-no_join kind.Trouble is = absurd cc
-no_join kind.Floor is = absurd cc
-no_join kind.Client is = absurd cc
-no_join kind.Get is = refl
-no_join kind.Put is = refl
-no_join kind.PutIfAbsent is = refl
-no_join kind.Replace is = refl
-no_join kind.ReplaceIf is = refl
-no_join kind.Destroy is = refl
-no_join kind.Remove is = refl
-no_join kind.Peek is = refl
-no_join kind.Open is = refl
-no_join kind.Stop is = refl
-no_join kind.Close is = refl
-no_join kind.Fetch is = refl
-no_join kind.Deliver is = absurd cc
-no_join kind.Report is = absurd cc
-no_join kind.Hear is = absurd cc
-no_join kind.Sweep is = absurd cc
-no_join kind.Join is = absurd cc
+use Rattle.gr_script.proofs.KindPlaces.{placed_alike}
 
 -- A line behind the heading states nothing of it.
 pub record StatesNone (one : LineKind) : Type 0 where
@@ -70,197 +19,25 @@ pub record StatesNone (one : LineKind) : Type 0 where
   pub client : is_kind kind.Client one ≡ false
   pub last : 8 ≡ next_rank one
 
+late_place : (one : LineKind) → 8 ≤ rank one → 8 ≤ place one
+late_place one late = le_trans late (min-le_left (place one) 8)
+
+other : (form one : LineKind) → place form < 8 → 8 ≤ place one → is_kind form one ≡ false
+other form one early late =
+    sym (placed_alike form one)
+    ∙ ne_eqb (place form) (place one) (λ same. absurd (omega arith))
+
 pub states_none : (one : LineKind) → 8 ≤ rank one → StatesNone one
-states_none kind.Georep late = absurd (omega arith)
-states_none kind.Region late = absurd (omega arith)
-states_none kind.Members late = absurd (omega arith)
-states_none kind.Shards late = absurd (omega arith)
-states_none kind.Inbox late = absurd (omega arith)
-states_none kind.Trouble late = absurd (omega arith)
-states_none kind.Floor late = absurd (omega arith)
-states_none kind.Client late = absurd (omega arith)
-states_none kind.Get late = record {
-  region = refl;
-  members = refl;
-  shards = refl;
-  inbox = refl;
-  trouble = refl;
-  floor = refl;
-  client =
-      refl;
-  last = refl;
-}
-states_none kind.Put late = record {
-  region = refl;
-  members = refl;
-  shards = refl;
-  inbox = refl;
-  trouble = refl;
-  floor = refl;
-  client =
-      refl;
-  last = refl;
-}
-states_none kind.PutIfAbsent late = record {
-  region = refl;
-  members = refl;
-  shards = refl;
-  inbox = refl;
-  trouble = refl;
-  floor = refl;
-  client = refl;
-  last = refl;
-}
-states_none kind.Replace late = record {
-  region = refl;
-  members = refl;
-  shards = refl;
-  inbox = refl;
-  trouble = refl;
-  floor = refl;
-  client
-      = refl;
-  last = refl;
-}
-states_none kind.ReplaceIf late = record {
-  region = refl;
-  members = refl;
-  shards = refl;
-  inbox = refl;
-  trouble = refl;
-  floor = refl;
-  client = refl;
-  last = refl;
-}
-states_none kind.Destroy late = record {
-  region = refl;
-  members = refl;
-  shards = refl;
-  inbox = refl;
-  trouble = refl;
-  floor = refl;
-  client
-      = refl;
-  last = refl;
-}
-states_none kind.Remove late = record {
-  region = refl;
-  members = refl;
-  shards = refl;
-  inbox = refl;
-  trouble = refl;
-  floor = refl;
-  client
-      = refl;
-  last = refl;
-}
-states_none kind.Peek late = record {
-  region = refl;
-  members = refl;
-  shards = refl;
-  inbox = refl;
-  trouble = refl;
-  floor = refl;
-  client =
-      refl;
-  last = refl;
-}
-states_none kind.Open late = record {
-  region = refl;
-  members = refl;
-  shards = refl;
-  inbox = refl;
-  trouble = refl;
-  floor = refl;
-  client =
-      refl;
-  last = refl;
-}
-states_none kind.Stop late = record {
-  region = refl;
-  members = refl;
-  shards = refl;
-  inbox = refl;
-  trouble = refl;
-  floor = refl;
-  client =
-      refl;
-  last = refl;
-}
-states_none kind.Close late = record {
-  region = refl;
-  members = refl;
-  shards = refl;
-  inbox = refl;
-  trouble = refl;
-  floor = refl;
-  client =
-      refl;
-  last = refl;
-}
-states_none kind.Fetch late = record {
-  region = refl;
-  members = refl;
-  shards = refl;
-  inbox = refl;
-  trouble = refl;
-  floor = refl;
-  client =
-      refl;
-  last = refl;
-}
-states_none kind.Deliver late = record {
-  region = refl;
-  members = refl;
-  shards = refl;
-  inbox = refl;
-  trouble = refl;
-  floor = refl;
-  client
-      = refl;
-  last = refl;
-}
-states_none kind.Report late = record {
-  region = refl;
-  members = refl;
-  shards = refl;
-  inbox = refl;
-  trouble = refl;
-  floor = refl;
-  client
-      = refl;
-  last = refl;
-}
-states_none kind.Hear late = record {
-  region = refl;
-  members = refl;
-  shards = refl;
-  inbox = refl;
-  trouble = refl;
-  floor = refl;
-  client =
-      refl;
-  last = refl;
-}
-states_none kind.Sweep late = record {
-  region = refl;
-  members = refl;
-  shards = refl;
-  inbox = refl;
-  trouble = refl;
-  floor = refl;
-  client =
-      refl;
-  last = refl;
-}
-states_none kind.Join late = record {
-  region = refl;
-  members = refl;
-  shards = refl;
-  inbox = refl;
-  trouble = refl;
-  floor = refl;
-  client =
-      refl;
-  last = refl;
-}
+states_none one late =
+    let behind = late_place one late in
+    let next : ℕ → ℕ = λ of. if nat_lt of 7 then of + 1 else of in
+    record {
+      region = other kind.Region one (omega arith) behind;
+      members = other kind.Members one (omega arith) behind;
+      shards = other kind.Shards one (omega arith) behind;
+      inbox = other kind.Inbox one (omega arith) behind;
+      trouble = other kind.Trouble one (omega arith) behind;
+      floor = other kind.Floor one (omega arith) behind;
+      client = other kind.Client one (omega arith) behind;
+      last = ap next (sym (min-eq_right behind));
+    }

@@ -1,5 +1,5 @@
 -- The forms of lines, as data: the word of each, its fields, and where it may stand.
-use Rattle.std.specs.Prelude.{ℕ, List, [], ◌∷◌, Bool, true, false, Option, codes, bytes_eq}
+use Rattle.std.specs.Prelude.{ℕ, List, [], ◌∷◌, Bool, true, false, Option, codes, bytes_eq, min}
 use Rattle.std.specs.List.{find}
 use Rattle.gr_script.specs.declared.forms.LineKind.{LineKind}
 use Rattle.gr_script.specs.declared.forms.LineKind.TheVariants.{Georep, Region, Members, Shards, Inbox, Trouble, Floor, Client, Get, Put}
@@ -93,31 +93,7 @@ place Join = 24
 
 -- A line of a greater rank stands behind one of a lesser.
 abbrev pub rank : LineKind → ℕ
-rank Georep = 0
-rank Region = 1
-rank Members = 2
-rank Shards = 3
-rank Inbox = 4
-rank Trouble = 5
-rank Floor = 6
-rank Client = 7
-rank Get = 8
-rank Put = 8
-rank PutIfAbsent = 8
-rank Replace = 8
-rank ReplaceIf = 8
-rank Destroy = 8
-rank Remove = 8
-rank Peek = 8
-rank Open = 8
-rank Stop = 8
-rank Close = 8
-rank Fetch = 8
-rank Deliver = 8
-rank Report = 8
-rank Hear = 8
-rank Sweep = 8
-rank Join = 8
+rank kind = min (place kind) 8
 
 -- the lines that begin with a client's number
 abbrev pub step_kinds : List LineKind

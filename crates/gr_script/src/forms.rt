@@ -245,23 +245,6 @@ pub(crate) fn kind_of(is_step: bool, text: &[u8]) -> Option<LineKind>
     }
 }
 
-/// Its rank. A line of a greater rank stands behind one of a lesser.
-pub(crate) fn rank(kind: LineKind) -> u8
-    ensures { result ≡ rank kind }
-{
-    match kind {
-        LineKind::Georep => 0,
-        LineKind::Region => 1,
-        LineKind::Members => 2,
-        LineKind::Shards => 3,
-        LineKind::Inbox => 4,
-        LineKind::Trouble => 5,
-        LineKind::Floor => 6,
-        LineKind::Client => 7,
-        _ => 8,
-    }
-}
-
 /// Whether the line begins with a client's number.
 pub(crate) fn is_step(kind: LineKind) -> bool
     ensures { result ≡ is_step kind }
@@ -314,6 +297,13 @@ fn place(kind: LineKind) -> u8
         LineKind::Sweep => 23,
         LineKind::Join => 24,
     }
+}
+
+/// Its rank. A line of a greater rank stands behind one of a lesser.
+pub(crate) fn rank(kind: LineKind) -> u8
+    ensures { result ≡ rank kind }
+{
+    place(kind).min(8)
 }
 
 /// Whether lines of these kinds have the same word.

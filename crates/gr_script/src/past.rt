@@ -289,7 +289,6 @@ impl Past {
 }
 
 // Counts a line of this kind at its first number.
-#[tactic(auto, using(crate::proofs::KindsApart::no_report, crate::proofs::KindsApart::no_join))]
 fn count_line(
     form: LineKind,
     first: u128,
