@@ -34,8 +34,8 @@ pub asked_next : (heading : Heading) (client seq : ℕ) (ask : QueryAsk) (n : �
 asked_next heading client seq ask n replies reply first now next member is within at_home asked done tells made_same = record {
   plays = for_each_plays heading (λ shard. does heading (home_of heading client) shard (Asks client seq ask)) n first now next asked.plays
       (subst (λ m. Plays heading (does heading m n (Asks client seq ask)) now next) at_home
-      (quiet_plays heading now next member n (Asks client seq ask) (Asked client seq ask reply) is within
-      (λ id opening past. record { unmade = λ c number. refl; untold = λ c. refl }) done tells made_same));
+      (quiet_plays heading now next member n (Asks client seq ask) (Asked client seq ask reply)
+      (λ id opening past. record { unmade = λ c number. refl; untold = λ c. refl }) is within done tells made_same));
   replies_are = λ events world. numbers_more 0 n (λ shard. query_gives client ask (history (home_of heading client) shard events))
       replies reply (asked.replies_are events world) (gives events world);
 }

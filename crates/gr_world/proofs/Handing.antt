@@ -19,11 +19,11 @@ use Rattle.gr_shard.specs.Merges.{IsGiftFor}
 use Rattle.gr_script.specs.Rules.{Heading, IsMember}
 use Rattle.gr_world.specs.declared.world.World.{World}
 use Rattle.gr_world.specs.Courses.{does, gives, identity_at, takes_all, takes_gift}
-use Rattle.gr_world.specs.Doings.{Takes, Gives, Merges, image_of}
+use Rattle.gr_world.specs.Doings.{Takes, Gives, image_of}
 use Rattle.gr_world.specs.Events.{Event, history}
 use Rattle.gr_world.specs.Tasks.{IsGiven}
-use Rattle.gr_world.specs.Worlds.{IsAtWork, IsDone, IsWorld, Plays, account_at}
-use Rattle.gr_world.proofs.Worlds.{cell_left, quiet_plays}
+use Rattle.gr_world.specs.Worlds.{IsAtWork, IsWorld, Plays, account_at}
+use Rattle.gr_world.proofs.Worlds.{Adds, cell_left, quiet_plays}
 
 -- one change more is taken in
 takes_more : (heading : Heading) (member shard : ℕ) (changes : List Change) (i : ℕ) (d : Change) (before : List Event) → i < length changes
@@ -109,22 +109,10 @@ item_here heading world member shard changes i change work is within all less at
 -- ---- a gift is given and taken in
 
 pub give_plays : (heading : Heading) (old new : World) (giver shard joiner : ℕ) (what_ : What) (deed : Deed)
-    → IsMember heading giver → shard < heading.shards
-    → IsDone old.grid new.grid giver shard (Gives joiner what_) deed
-    → new.tellings ≡ old.tellings → new.made ≡ old.made
-    → Plays heading (does heading giver shard (Gives joiner what_)) old new
-give_plays heading old new giver shard joiner what_ deed is within done tells made_same =
-    quiet_plays heading old new giver shard (Gives joiner what_) deed is within
-    (λ id opening past. record { unmade = λ client number. refl; untold = λ client. refl }) done tells made_same
-
-pub merge_plays : (heading : Heading) (old new : World) (joiner shard : ℕ) (image : Image) (deed : Deed)
-    → IsMember heading joiner → shard < heading.shards
-    → IsDone old.grid new.grid joiner shard (Merges image) deed
-    → new.tellings ≡ old.tellings → new.made ≡ old.made
-    → Plays heading (does heading joiner shard (Merges image)) old new
-merge_plays heading old new joiner shard image deed is within done tells made_same =
-    quiet_plays heading old new joiner shard (Merges image) deed is within
-    (λ id opening past. record { unmade = λ client number. refl; untold = λ client. refl }) done tells made_same
+    → Adds heading old new giver shard (Gives joiner what_) deed
+give_plays heading old new giver shard joiner what_ deed =
+    quiet_plays heading old new giver shard (Gives joiner what_) deed
+    (λ id opening past. record { unmade = λ client number. refl; untold = λ client. refl })
 
 gives_are : (heading : Heading) (joiner shard giver : ℕ) (what_ : What) (before : List Event)
     → takes_gift heading joiner shard (gift_of giver heading.floor (history giver shard before) what_)

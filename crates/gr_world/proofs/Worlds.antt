@@ -220,14 +220,19 @@ untold_left heading events member shard deed quiet =
     numbers_same 1 (length heading.clients) (λ client. answers client events) (λ client. answers client (Did member shard deed ∷ events))
     (λ client low high. ap (λ o. numbered_answers (add_some o (told client events))) (sym (quiet.untold client)))
 
--- What is quiet adds its deed.
-pub quiet_plays : (heading : Heading) (old new : World) (member shard : ℕ) (doing : Doing) (deed : Deed)
-    → IsMember heading member → shard < heading.shards
-    → ((id : Identity) (opening : ℕ) (past : List Deed) → IsQuiet (deed_of id opening past doing))
+-- What is done at a shard is all that is done.
+abbrev pub Adds : Heading → World → World → ℕ → ℕ → Doing → Deed → Type 0
+Adds heading old new member shard doing deed =
+    IsMember heading member → shard < heading.shards
     → IsDone old.grid new.grid member shard doing deed
     → new.tellings ≡ old.tellings → new.made ≡ old.made
     → Plays heading (does heading member shard doing) old new
-quiet_plays heading old new member shard doing deed is within is_quiet did tells made_same events world =
+
+-- What is quiet adds its deed.
+pub quiet_plays : (heading : Heading) (old new : World) (member shard : ℕ) (doing : Doing) (deed : Deed)
+    → ((id : Identity) (opening : ℕ) (past : List Deed) → IsQuiet (deed_of id opening past doing))
+    → Adds heading old new member shard doing deed
+quiet_plays heading old new member shard doing deed is_quiet is within did tells made_same events world =
     let past = history member shard events in
     let done = done_left heading events old.grid new.grid member shard doing deed is within world.grid_is did in
     let added = deed_of (identity_at heading member shard) heading.floor past doing in
@@ -242,13 +247,9 @@ quiet_plays heading old new member shard doing deed is within is_quiet did tells
 
 -- A task adds its deed.
 pub task_plays : (heading : Heading) (old new : World) (member shard : ℕ) (task_ : Task) (deed : Deed)
-    → IsMember heading member → shard < heading.shards
-    → IsDone old.grid new.grid member shard (doing_of task_) deed
-    → new.tellings ≡ old.tellings → new.made ≡ old.made
-    → Plays heading (does heading member shard (doing_of task_)) old new
-task_plays heading old new member shard task_ deed is within did tells made_same =
-    quiet_plays heading old new member shard (doing_of task_) deed is within (λ id opening past. quiet_task id opening past task_) did tells
-    made_same
+    → Adds heading old new member shard (doing_of task_) deed
+task_plays heading old new member shard task_ deed =
+    quiet_plays heading old new member shard (doing_of task_) deed (λ id opening past. quiet_task id opening past task_)
 
 -- What was made is taken in, in the shard of its key.
 pub deliver_plays : (heading : Heading) (old new : World) (to client seq shard : ℕ) (change : Change) → seq < 2 ^ 32

@@ -6,6 +6,7 @@ ghost use Rattle.gr_world.specs.Named.{numbered, reports};
 ghost use Rattle.gr_world.specs.Tasks.{BelongsTo, IsGiven, doing_of};
 ghost use Rattle.gr_world.specs.Worlds.{deed_at, longer};
 
+use crate::step::Step;
 use crate::task::Task;
 use gr_history::{Ask, Done, Gift, Identity, QueryAsk, QueryReply, What};
 use gr_shard::Shard;
@@ -77,28 +78,22 @@ impl Cell {
         at(&self.reported, number as usize - 1)
     }
 
-    pub fn call(&mut self, alloc: Global, client: u8, seq: u32, ask: &Ask) -> Result<Done, Memory>
-        requires { BelongsTo self.old (Calls client seq ask.now) }
+    pub fn call(&mut self, alloc: Global, step: Step, ask: &Ask) -> Result<Done, Memory>
+        requires { BelongsTo self.old (Calls step.client step.seq ask.now) }
         ensures given { IfOk result
-            (λ done. call_with client seq ask.now done ≡ deed_at self.old (Calls client seq ask.now)) }
-        ensures added { IfOk result (λ done. self.new ≡ longer self.old (call_with client seq ask.now done)) }
+            (λ done. call_with step.client step.seq ask.now done ≡ deed_at self.old (Calls step.client step.seq ask.now)) }
+        ensures added { IfOk result (λ done. self.new ≡ longer self.old (call_with step.client step.seq ask.now done)) }
     {
-        self.shard.call(alloc, client, seq, ask)
+        self.shard.call(alloc, step.client, step.seq, ask)
     }
 
     /// Does a client's step on one of its queries.
-    pub fn query(
-        &mut self,
-        alloc: Global,
-        client: u8,
-        seq: u32,
-        ask: &QueryAsk,
-    ) -> Result<QueryReply, Memory>
+    pub fn query(&mut self, alloc: Global, step: Step, ask: &QueryAsk) -> Result<QueryReply, Memory>
         ensures reply { IfOk result
-            (λ reply. deed.Asked client seq ask.now reply ≡ deed_at self.old (Asks client seq ask.now)) }
-        ensures added { IfOk result (λ reply. self.new ≡ longer self.old (deed.Asked client seq ask.now reply)) }
+            (λ reply. deed.Asked step.client step.seq ask.now reply ≡ deed_at self.old (Asks step.client step.seq ask.now)) }
+        ensures added { IfOk result (λ reply. self.new ≡ longer self.old (deed.Asked step.client step.seq ask.now reply)) }
     {
-        self.shard.query(alloc, client, seq, ask)
+        self.shard.query(alloc, step.client, step.seq, ask)
     }
 
     /// Gives a joiner the image or the own changes.

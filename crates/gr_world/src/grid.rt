@@ -8,6 +8,8 @@ ghost use Rattle.gr_world.specs.Worlds.{IsCell, IsDone, IsMemberOf, account_at, 
 
 use crate::cell::Cell;
 use crate::row::Row;
+use crate::site::Site;
+use crate::step::Step;
 use crate::task::Task;
 use gr_history::{Ask, Done, Gift, Identity, MemberRecordList, QueryAsk, QueryReply, What};
 use gr_value::Memory;
@@ -48,77 +50,64 @@ impl Grid {
     }
 
     /// A member's shard.
-    pub fn cell(&self, member: u8, shard: u8) -> &Cell
-        requires { IsCell self.now member shard }
-        ensures { result.now ≡ account_at self.now member shard }
+    pub fn cell(&self, site: Site) -> &Cell
+        requires { IsCell self.now site.member site.shard }
+        ensures { result.now ≡ account_at self.now site.member site.shard }
     {
-        self.rows[usize::from(member) - 1].cell(shard)
+        self.rows[usize::from(site.member) - 1].cell(site.shard)
     }
 
-    pub fn call(
-        &mut self,
-        alloc: Global,
-        member: u8,
-        shard: u8,
-        client: u8,
-        seq: u32,
-        ask: &Ask,
-    ) -> Result<Done, Memory>
-        requires cell { IsCell self.old member shard }
-        requires here { BelongsTo (account_at self.old member shard) (Calls client seq ask.now) }
+    pub fn call(&mut self, alloc: Global, site: Site, step: Step, ask: &Ask) -> Result<Done, Memory>
+        requires cell { IsCell self.old site.member site.shard }
+        requires here { BelongsTo (account_at self.old site.member site.shard) (Calls step.client step.seq ask.now) }
         ensures { IfOk result
-            (λ done. IsDone self.old self.new member shard (Calls client seq ask.now) (call_with client seq ask.now done)) }
+            (λ done. IsDone self.old self.new site.member site.shard (Calls step.client step.seq ask.now)
+            (call_with step.client step.seq ask.now done)) }
     {
-        let row = &mut self.rows[usize::from(member) - 1];
-        row.call(alloc, shard, client, seq, ask)
+        let row = &mut self.rows[usize::from(site.member) - 1];
+        row.call(alloc, site.shard, step, ask)
     }
 
     /// Does a client's step on one of its queries, at a member's shard.
     pub fn query(
         &mut self,
         alloc: Global,
-        member: u8,
-        shard: u8,
-        client: u8,
-        seq: u32,
+        site: Site,
+        step: Step,
         ask: &QueryAsk,
     ) -> Result<QueryReply, Memory>
-        requires { IsCell self.old member shard }
+        requires { IsCell self.old site.member site.shard }
         ensures { IfOk result
-            (λ reply. IsDone self.old self.new member shard (Asks client seq ask.now) (deed.Asked client seq ask.now reply)) }
+            (λ reply. IsDone self.old self.new site.member site.shard (Asks step.client step.seq ask.now)
+            (deed.Asked step.client step.seq ask.now reply)) }
     {
-        let row = &mut self.rows[usize::from(member) - 1];
-        row.query(alloc, shard, client, seq, ask)
+        let row = &mut self.rows[usize::from(site.member) - 1];
+        row.query(alloc, site.shard, step, ask)
     }
 
     /// A member gives a joiner the image of a shard or the changes that it made there.
-    pub fn give(
-        &mut self,
-        alloc: Global,
-        member: u8,
-        shard: u8,
-        to: u8,
-        what: What,
-    ) -> Result<Gift, Memory>
-        requires cell { IsCell self.old member shard }
-        requires here { BelongsTo (account_at self.old member shard) (Gives to what) }
-        ensures given { IfOk result (IsGiven (account_at self.old member shard) what) }
+    pub fn give(&mut self, alloc: Global, site: Site, to: u8, what: What) -> Result<Gift, Memory>
+        requires cell { IsCell self.old site.member site.shard }
+        requires here { BelongsTo (account_at self.old site.member site.shard) (Gives to what) }
+        ensures given { IfOk result (IsGiven (account_at self.old site.member site.shard) what) }
         ensures done { OnOk result
-            (IsDone self.old self.new member shard (Gives to what) (deed_at (account_at self.old member shard) (Gives to what))) }
+            (IsDone self.old self.new site.member site.shard (Gives to what)
+            (deed_at (account_at self.old site.member site.shard) (Gives to what))) }
     {
-        let row = &mut self.rows[usize::from(member) - 1];
-        row.give(alloc, shard, to, what)
+        let row = &mut self.rows[usize::from(site.member) - 1];
+        row.give(alloc, site.shard, to, what)
     }
 
     /// Does one thing at a member's shard, which adds its deed.
-    pub fn does(&mut self, alloc: Global, member: u8, shard: u8, task: Task) -> Result<(), Memory>
-        requires cell { IsCell self.old member shard }
-        requires here { BelongsTo (account_at self.old member shard) (doing_of task) }
+    pub fn does(&mut self, alloc: Global, site: Site, task: Task) -> Result<(), Memory>
+        requires cell { IsCell self.old site.member site.shard }
+        requires here { BelongsTo (account_at self.old site.member site.shard) (doing_of task) }
         ensures { OnOk result
-            (IsDone self.old self.new member shard (doing_of task.entry) (deed_at (account_at self.old member shard) (doing_of task.entry))) }
+            (IsDone self.old self.new site.member site.shard (doing_of task.entry)
+            (deed_at (account_at self.old site.member site.shard) (doing_of task.entry))) }
     {
-        let row = &mut self.rows[usize::from(member) - 1];
-        row.does(alloc, shard, task)
+        let row = &mut self.rows[usize::from(site.member) - 1];
+        row.does(alloc, site.shard, task)
     }
 
     /// What all members leave.

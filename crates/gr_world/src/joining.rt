@@ -1,20 +1,20 @@
-ghost use Rattle.std.specs.Prelude.{◌≡◌, ◌<◌, ◌==◌, IfOk};
+ghost use Rattle.std.specs.Prelude.{◌≡◌, ◌<◌, IfOk};
 ghost use Rattle.std.specs.List.{AllByRecursion};
 ghost use Rattle.gr_value.specs.Shard.{shard_of};
 ghost use Rattle.gr_script.specs.declared.line.Line.TheVariants as line;
 ghost use Rattle.gr_script.specs.Rules.{IsMember};
 ghost use Rattle.gr_script.specs.Scripts.{heading_of};
 ghost use Rattle.gr_shard.specs.Merges.{IsGiftFor};
-ghost use Rattle.gr_world.specs.Courses.{after, gives, gives_unless, identity_at, joins_at, takes_all, takes_gift, what_from};
+ghost use Rattle.gr_world.specs.Courses.{after, gives, identity_at, joins_at, takes_all, takes_gift, what_from};
 ghost use Rattle.gr_world.specs.Worlds.{IsAtWork, Plays};
 
+use crate::site::Site;
+use crate::stage::Stage;
 use crate::task::Task;
 use crate::world::World;
 use gr_history::{Gift, What};
-use gr_script::Script;
 use gr_stamp::Change;
 use gr_value::Memory;
-use std::alloc::Global;
 
 // The provider gives its image, and every other member what it made.
 fn what_from(is_provider: bool) -> What
@@ -25,131 +25,83 @@ fn what_from(is_provider: bool) -> What
 
 impl World {
     // A member takes in changes of one shard, in their order.
-    fn take_all(
-        &mut self,
-        alloc: Global,
-        script: &Script,
-        member: u8,
-        shard: u8,
-        changes: &[Change],
-    ) -> Result<(), Memory>
-        requires work { IsAtWork (heading_of script.now) self.old }
-        requires member { IsMember (heading_of script.now) member }
-        requires shard { shard < script.now.shards }
-        requires here { AllByRecursion (λ change. shard_of change.key script.now.shards ≡ shard) changes.now }
-        ensures { IfOk result (λ _. Plays (heading_of script.now) (takes_all (heading_of script.now) member shard changes.now) self.old self.new) }
+    fn take_all(&mut self, stage: Stage, site: Site, changes: &[Change]) -> Result<(), Memory>
+        requires work { IsAtWork (heading_of stage.script.now) self.old }
+        requires member { IsMember (heading_of stage.script.now) site.member }
+        requires shard { site.shard < stage.script.now.shards }
+        requires here { AllByRecursion (λ change. shard_of change.key stage.script.now.shards ≡ site.shard) changes.now }
+        ensures { IfOk result
+            (λ _. Plays (heading_of stage.entry.script.now)
+            (takes_all (heading_of stage.entry.script.now) site.member site.shard changes.now) self.old self.new) }
     {
         for change in changes {
-            self.grid.does(alloc, member, shard, Task::Take(change))?;
+            self.grid.does(stage.alloc, site, Task::Take(change))?;
         }
         Ok(())
     }
 
     // A joiner takes in what it was given of a shard.
-    fn take_gift(
-        &mut self,
-        alloc: Global,
-        script: &Script,
-        joiner: u8,
-        shard: u8,
-        gift: &Gift,
-    ) -> Result<(), Memory>
-        requires work { IsAtWork (heading_of script.now) self.old }
-        requires joiner { IsMember (heading_of script.now) joiner }
-        requires shard { shard < script.now.shards }
-        requires fits { IsGiftFor (identity_at (heading_of script.now) joiner shard) gift.now }
-        ensures { IfOk result (λ _. Plays (heading_of script.now) (takes_gift (heading_of script.now) joiner shard gift.now) self.old self.new) }
+    fn take_gift(&mut self, stage: Stage, site: Site, gift: &Gift) -> Result<(), Memory>
+        requires work { IsAtWork (heading_of stage.script.now) self.old }
+        requires joiner { IsMember (heading_of stage.script.now) site.member }
+        requires shard { site.shard < stage.script.now.shards }
+        requires fits { IsGiftFor (identity_at (heading_of stage.script.now) site.member site.shard) gift.now }
+        ensures { IfOk result
+            (λ _. Plays (heading_of stage.entry.script.now)
+            (takes_gift (heading_of stage.entry.script.now) site.member site.shard gift.now) self.old self.new) }
     {
         match gift {
-            Gift::Image(image) => Ok(self.grid.does(alloc, joiner, shard, Task::Merge(image))?),
-            Gift::Own(changes) => {
-                Ok(self.take_all(alloc, script, joiner, shard, changes.as_slice())?)
-            }
+            Gift::Image(image) => Ok(self.grid.does(stage.alloc, site, Task::Merge(image))?),
+            Gift::Own(changes) => Ok(self.take_all(stage, site, changes.as_slice())?),
         }
     }
 
     // A member gives the joiner an image of a shard, or its own changes, and the joiner takes it in at once.
-    fn hand_over(
-        &mut self,
-        alloc: Global,
-        script: &Script,
-        joiner: u8,
-        shard: u8,
-        giver: u8,
-        what: What,
-    ) -> Result<(), Memory>
-        requires work { IsAtWork (heading_of script.now) self.old }
-        requires joiner { IsMember (heading_of script.now) joiner }
-        requires giver { IsMember (heading_of script.now) giver }
-        requires shard { shard < script.now.shards }
-        ensures { IfOk result (λ _. Plays (heading_of script.now) (gives (heading_of script.now) joiner shard giver what) self.old self.new) }
+    fn hand_over(&mut self, stage: Stage, site: Site, giver: u8, what: What) -> Result<(), Memory>
+        requires work { IsAtWork (heading_of stage.script.now) self.old }
+        requires joiner { IsMember (heading_of stage.script.now) site.member }
+        requires giver { IsMember (heading_of stage.script.now) giver }
+        requires shard { site.shard < stage.script.now.shards }
+        ensures { IfOk result
+            (λ _. Plays (heading_of stage.entry.script.now)
+            (gives (heading_of stage.entry.script.now) site.member site.shard giver what) self.old self.new) }
     {
-        let gift = self.grid.give(alloc, giver, shard, joiner, what)?;
-        Ok(self.take_gift(alloc, script, joiner, shard, &gift)?)
+        let from = Site {
+            member: giver,
+            ..site
+        };
+        let gift = self.grid.give(stage.alloc, from, site.member, what)?;
+        Ok(self.take_gift(stage, site, &gift)?)
     }
 
-    // The same, unless the joiner itself is the giver.
-    fn hand_over_unless_own(
-        &mut self,
-        alloc: Global,
-        script: &Script,
-        joiner: u8,
-        shard: u8,
-        giver: u8,
-        what: What,
-    ) -> Result<(), Memory>
-        requires work { IsAtWork (heading_of script.now) self.old }
-        requires joiner { IsMember (heading_of script.now) joiner }
-        requires giver { IsMember (heading_of script.now) giver }
-        requires shard { shard < script.now.shards }
+    // All other members' gifts at one shard.
+    fn join_at(&mut self, stage: Stage, site: Site, provider: u8) -> Result<(), Memory>
+        requires work { IsAtWork (heading_of stage.script.now) self.old }
+        requires joiner { IsMember (heading_of stage.script.now) site.member }
+        requires shard { site.shard < stage.script.now.shards }
         ensures { IfOk result
-            (λ _. Plays (heading_of script.now)
-            (gives_unless (giver == joiner) (heading_of script.now) joiner shard giver what) self.old self.new) }
+            (λ _. Plays (heading_of stage.entry.script.now)
+            (joins_at (heading_of stage.entry.script.now) site.member provider site.shard) self.old self.new) }
     {
-        if giver == joiner {
-            return Ok(());
-        }
-        Ok(self.hand_over(alloc, script, joiner, shard, giver, what)?)
-    }
-
-    // All members' gifts at one shard.
-    fn join_at(
-        &mut self,
-        alloc: Global,
-        script: &Script,
-        joiner: u8,
-        provider: u8,
-        shard: u8,
-    ) -> Result<(), Memory>
-        requires work { IsAtWork (heading_of script.now) self.old }
-        requires joiner { IsMember (heading_of script.now) joiner }
-        requires shard { shard < script.now.shards }
-        ensures { IfOk result
-            (λ _. Plays (heading_of script.now) (joins_at (heading_of script.now) joiner provider shard) self.old self.new) }
-    {
-        for below in 0..script.members {
+        for below in 0..stage.script.members {
             let giver = below + 1;
-            let what = what_from(giver == provider);
-            self.hand_over_unless_own(alloc, script, joiner, shard, giver, what)?;
+            if giver != site.member {
+                self.hand_over(stage, site, giver, what_from(giver == provider))?;
+            }
         }
         Ok(())
     }
 
     /// A member joins: of each shard the provider gives it an image, and the other members what they made.
-    pub(crate) fn join(
-        &mut self,
-        alloc: Global,
-        script: &Script,
-        joiner: u8,
-        provider: u8,
-    ) -> Result<(), Memory>
-        requires work { IsAtWork (heading_of script.now) self.old }
-        requires joiner { IsMember (heading_of script.now) joiner }
+    pub(crate) fn join(&mut self, stage: Stage, member: u8, provider: u8) -> Result<(), Memory>
+        requires work { IsAtWork (heading_of stage.script.now) self.old }
+        requires member { IsMember (heading_of stage.script.now) member }
         ensures { IfOk result
-            (λ _. Plays (heading_of script.now) (after (heading_of script.now) (line.Join joiner provider)) self.old self.new) }
+            (λ _. Plays (heading_of stage.entry.script.now)
+            (after (heading_of stage.entry.script.now) (line.Join member provider)) self.old self.new) }
     {
-        for shard in 0..script.shards {
-            self.join_at(alloc, script, joiner, provider, shard)?;
+        for shard in 0..stage.script.shards {
+            self.join_at(stage, Site { member, shard }, provider)?;
         }
         Ok(())
     }

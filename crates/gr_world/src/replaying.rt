@@ -5,6 +5,7 @@ ghost use Rattle.gr_world.specs.Courses.{course};
 ghost use Rattle.gr_world.specs.Histories.{KeepsLaws};
 ghost use Rattle.gr_world.specs.Records.{IsReplayed};
 
+use crate::stage::Stage;
 use crate::world::World;
 use gr_history::Record;
 use gr_script::Script;
@@ -24,7 +25,7 @@ pub fn replay(alloc: Global, script: &Script) -> Result<Record, Memory>
 {
     let mut world = World::new(alloc, script)?;
     for line in script.lines.as_slice() {
-        world.play(alloc, script, line)?;
+        world.play(Stage { alloc, script }, line)?;
     }
     Ok(world.into_record(alloc, script)?)
 }

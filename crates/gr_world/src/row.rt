@@ -8,6 +8,7 @@ ghost use Rattle.gr_world.specs.Tasks.{BelongsTo, IsGiven, doing_of};
 ghost use Rattle.gr_world.specs.Worlds.{account_in, deed_at, new_row, row_with};
 
 use crate::cell::Cell;
+use crate::step::Step;
 use crate::task::Task;
 use gr_history::{
     Ask, Done, Gift, Identity, MemberRecord, QueryAsk, QueryReply, ShardRecordList, What,
@@ -55,22 +56,15 @@ impl Row {
         &self.cells[usize::from(shard)]
     }
 
-    pub fn call(
-        &mut self,
-        alloc: Global,
-        shard: u8,
-        client: u8,
-        seq: u32,
-        ask: &Ask,
-    ) -> Result<Done, Memory>
+    pub fn call(&mut self, alloc: Global, shard: u8, step: Step, ask: &Ask) -> Result<Done, Memory>
         requires within { shard < length self.old }
-        requires here { BelongsTo (account_in self.old shard) (Calls client seq ask.now) }
+        requires here { BelongsTo (account_in self.old shard) (Calls step.client step.seq ask.now) }
         ensures given { IfOk result
-            (λ done. call_with client seq ask.now done ≡ deed_at (account_in self.old shard) (Calls client seq ask.now)) }
-        ensures added { IfOk result (λ done. self.new ≡ row_with self.old shard (call_with client seq ask.now done)) }
+            (λ done. call_with step.client step.seq ask.now done ≡ deed_at (account_in self.old shard) (Calls step.client step.seq ask.now)) }
+        ensures added { IfOk result (λ done. self.new ≡ row_with self.old shard (call_with step.client step.seq ask.now done)) }
     {
         let cell = &mut self.cells[usize::from(shard)];
-        cell.call(alloc, client, seq, ask)
+        cell.call(alloc, step, ask)
     }
 
     /// Does a client's step on one of its queries, at a shard.
@@ -78,17 +72,16 @@ impl Row {
         &mut self,
         alloc: Global,
         shard: u8,
-        client: u8,
-        seq: u32,
+        step: Step,
         ask: &QueryAsk,
     ) -> Result<QueryReply, Memory>
         requires { shard < length self.old }
         ensures reply { IfOk result
-            (λ reply. deed.Asked client seq ask.now reply ≡ deed_at (account_in self.old shard) (Asks client seq ask.now)) }
-        ensures added { IfOk result (λ reply. self.new ≡ row_with self.old shard (deed.Asked client seq ask.now reply)) }
+            (λ reply. deed.Asked step.client step.seq ask.now reply ≡ deed_at (account_in self.old shard) (Asks step.client step.seq ask.now)) }
+        ensures added { IfOk result (λ reply. self.new ≡ row_with self.old shard (deed.Asked step.client step.seq ask.now reply)) }
     {
         let cell = &mut self.cells[usize::from(shard)];
-        cell.query(alloc, client, seq, ask)
+        cell.query(alloc, step, ask)
     }
 
     /// Gives a joiner the image of a shard or the changes that were made there.

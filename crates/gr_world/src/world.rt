@@ -1,11 +1,11 @@
-ghost use Rattle.std.specs.Prelude.{◌≡◌, ◌<◌, ℕ, List, [], length, reverse, IfOk};
+ghost use Rattle.std.specs.Prelude.{◌≡◌, ℕ, List, [], length, reverse, IfOk};
 ghost use Rattle.gr_script.specs.declared.line.Act.TheVariants as act;
 ghost use Rattle.gr_script.specs.declared.line.Line.TheVariants as line;
 ghost use Rattle.gr_script.specs.Rules.{IsMember, IsStated, home_of};
 ghost use Rattle.gr_script.specs.Scripts.{heading_of};
 ghost use Rattle.gr_history.specs.declared.record.Answer.TheVariants as answer;
 ghost use Rattle.gr_history.specs.Standing.{present};
-ghost use Rattle.gr_world.specs.Courses.{after, does, for_each, hears_of};
+ghost use Rattle.gr_world.specs.Courses.{after, does, for_each};
 ghost use Rattle.gr_world.specs.Tasks.{BelongsTo, doing_of};
 ghost use Rattle.gr_shard.specs.View.{Account};
 ghost use Rattle.gr_world.specs.Events.{Event};
@@ -13,6 +13,9 @@ ghost use Rattle.gr_world.specs.Records.{IsLeft};
 ghost use Rattle.gr_world.specs.Worlds.{CanPlay, IsAtWork, IsWorld, Notes, Plays, number_of};
 
 use crate::grid::Grid;
+use crate::site::Site;
+use crate::stage::Stage;
+use crate::step::Step;
 use crate::task::Task;
 use crate::tellings::Tellings;
 use gr_history::{Answer, Ask, Identity, Record};
@@ -32,23 +35,18 @@ pub struct World {
 }
 
 // The number of a client's step among those of all clients.
-fn number_of(client: u8, seq: u32) -> u64
-    ensures { result ≡ number_of client seq }
+fn number_of(step: Step) -> u64
+    ensures { result ≡ number_of step.client step.seq }
 {
-    u64::from(client) * 0x1_0000_0000 + u64::from(seq)
+    u64::from(step.client) * 0x1_0000_0000 + u64::from(step.seq)
 }
 
 // Notes what a step made, if it made anything.
-fn note(
-    table: &mut BTreeMap<u64, Change>,
-    client: u8,
-    seq: u32,
-    made: Option<Change>,
-) -> Result<(), Memory>
-    ensures { IfOk result (λ _. Notes client seq made table.old table.new) }
+fn note(table: &mut BTreeMap<u64, Change>, step: Step, made: Option<Change>) -> Result<(), Memory>
+    ensures { IfOk result (λ _. Notes step.client step.seq made table.old table.new) }
 {
     if let Some(change) = made {
-        table.insert(number_of(client, seq), change)?;
+        table.insert(number_of(step), change)?;
     }
     Ok(())
 }
@@ -93,162 +91,122 @@ impl World {
         })
     }
 
-    fn call(
-        &mut self,
-        alloc: Global,
-        script: &Script,
-        client: u8,
-        seq: u32,
-        ask: &Ask,
-    ) -> Result<(), Memory>
-        requires work { IsAtWork (heading_of script.now) self.old }
-        requires stated { IsStated client (heading_of script.now) }
+    fn call(&mut self, stage: Stage, step: Step, ask: &Ask) -> Result<(), Memory>
+        requires work { IsAtWork (heading_of stage.script.now) self.old }
+        requires stated { IsStated step.client (heading_of stage.script.now) }
         ensures { IfOk result
-            (λ _. Plays (heading_of script.now)
-            (after (heading_of script.now) (line.Step client seq (act.Call ask.now))) self.old self.new) }
+            (λ _. Plays (heading_of stage.entry.script.now)
+            (after (heading_of stage.entry.script.now) (line.Step step.client step.seq (act.Call ask.now))) self.old self.new) }
     {
-        let member = home(script, client);
-        let shard = ask.key().shard(script.shards);
-        let done = self.grid.call(alloc, member, shard, client, seq, ask)?;
-        note(&mut self.made, client, seq, done.made)?;
-        Ok(self.tellings.tell(client, Answer::Reply(done.reply))?)
+        let member = home(stage.script, step.client);
+        let shard = ask.key().shard(stage.script.shards);
+        let site = Site { member, shard };
+        let done = self.grid.call(stage.alloc, site, step, ask)?;
+        note(&mut self.made, step, done.made)?;
+        Ok(self.tellings.tell(step.client, Answer::Reply(done.reply))?)
     }
 
-    fn peek(&mut self, alloc: Global, script: &Script, client: u8, key: &Key) -> Result<(), Memory>
-        requires work { IsAtWork (heading_of script.now) self.old }
-        requires stated { IsStated client (heading_of script.now) }
+    fn peek(&mut self, stage: Stage, client: u8, key: &Key) -> Result<(), Memory>
+        requires work { IsAtWork (heading_of stage.script.now) self.old }
+        requires stated { IsStated client (heading_of stage.script.now) }
         ensures { IfOk result
             (λ _. (seq : ℕ)
-            → Plays (heading_of script.now)
-            (after (heading_of script.now) (line.Step client seq (act.Peek key.now))) self.old self.new) }
+            → Plays (heading_of stage.entry.script.now)
+            (after (heading_of stage.entry.script.now) (line.Step client seq (act.Peek key.now))) self.old self.new) }
     {
-        let member = home(script, client);
-        let shard = key.shard(script.shards);
-        let answer = seen(alloc, self.grid.cell(member, shard).shard(), key)?;
+        let member = home(stage.script, client);
+        let shard = key.shard(stage.script.shards);
+        let site = Site { member, shard };
+        let answer = seen(stage.alloc, self.grid.cell(site).shard(), key)?;
         Ok(self.tellings.tell(client, answer)?)
     }
 
-    fn step(
-        &mut self,
-        alloc: Global,
-        script: &Script,
-        client: u8,
-        seq: u32,
-        act: &Act,
-    ) -> Result<(), Memory>
-        requires work { IsAtWork (heading_of script.now) self.old }
-        requires stated { IsStated client (heading_of script.now) }
+    fn step(&mut self, stage: Stage, step: Step, act: &Act) -> Result<(), Memory>
+        requires work { IsAtWork (heading_of stage.script.now) self.old }
+        requires stated { IsStated step.client (heading_of stage.script.now) }
         ensures { IfOk result
-            (λ _. Plays (heading_of script.now) (after (heading_of script.now) (line.Step client seq act.now)) self.old self.new) }
+            (λ _. Plays (heading_of stage.entry.script.now)
+            (after (heading_of stage.entry.script.now) (line.Step step.client step.seq act.now)) self.old self.new) }
     {
         match act {
-            Act::Call(ask) => Ok(self.call(alloc, script, client, seq, ask)?),
-            Act::Query(ask) => Ok(self.query(alloc, script, client, seq, ask)?),
-            Act::Peek(key) => Ok(self.peek(alloc, script, client, key)?),
+            Act::Call(ask) => Ok(self.call(stage, step, ask)?),
+            Act::Query(ask) => Ok(self.query(stage, step, ask)?),
+            Act::Peek(key) => Ok(self.peek(stage, step.client, key)?),
         }
     }
 
-    fn deliver(
-        &mut self,
-        alloc: Global,
-        script: &Script,
-        to: u8,
-        client: u8,
-        seq: u32,
-    ) -> Result<(), Memory>
-        requires work { IsAtWork (heading_of script.now) self.old }
-        requires member { IsMember (heading_of script.now) to }
+    fn deliver(&mut self, stage: Stage, to: u8, client: u8, seq: u32) -> Result<(), Memory>
+        requires work { IsAtWork (heading_of stage.script.now) self.old }
+        requires member { IsMember (heading_of stage.script.now) to }
         ensures { IfOk result
-            (λ _. Plays (heading_of script.now) (after (heading_of script.now) (line.Deliver to client seq)) self.old self.new) }
+            (λ _. Plays (heading_of stage.entry.script.now)
+            (after (heading_of stage.entry.script.now) (line.Deliver to client seq)) self.old self.new) }
     {
-        if let Some(change) = self.made.get(&number_of(client, seq)) {
-            let shard = change.key.shard(script.shards);
-            self.grid.does(alloc, to, shard, Task::Take(change))?;
+        if let Some(change) = self.made.get(&number_of(Step { client, seq })) {
+            let shard = change.key.shard(stage.script.shards);
+            let site = Site { member: to, shard };
+            self.grid.does(stage.alloc, site, Task::Take(change))?;
         }
         Ok(())
     }
 
     // Does one thing at each of a member's shards.
-    fn at_each_shard(
-        &mut self,
-        alloc: Global,
-        script: &Script,
-        member: u8,
-        task: Task,
-    ) -> Result<(), Memory>
-        requires work { IsAtWork (heading_of script.now) self.old }
-        requires member { IsMember (heading_of script.now) member }
+    fn at_each_shard(&mut self, stage: Stage, member: u8, task: Task) -> Result<(), Memory>
+        requires work { IsAtWork (heading_of stage.script.now) self.old }
+        requires member { IsMember (heading_of stage.script.now) member }
         requires any { (account : Account) → BelongsTo account (doing_of task) }
-        ensures { IfOk result (λ _. Plays (heading_of script.now)
-            (for_each script.now.shards (λ shard. does (heading_of script.now) member shard (doing_of task.entry))) self.old self.new) }
+        ensures { IfOk result (λ _. Plays (heading_of stage.entry.script.now)
+            (for_each stage.entry.script.now.shards (λ shard. does (heading_of stage.entry.script.now) member shard (doing_of task.entry)))
+            self.old self.new) }
     {
-        for shard in 0..script.shards {
-            self.grid.does(alloc, member, shard, task)?;
+        for shard in 0..stage.script.shards {
+            let site = Site { member, shard };
+            self.grid.does(stage.alloc, site, task)?;
         }
         Ok(())
     }
 
-    fn hear(
-        &mut self,
-        alloc: Global,
-        script: &Script,
-        by: u8,
-        of: u8,
-        number: u32,
-    ) -> Result<(), Memory>
-        requires work { IsAtWork (heading_of script.now) self.old }
-        requires by { IsMember (heading_of script.now) by }
-        requires of { IsMember (heading_of script.now) of }
-        ensures { IfOk result (λ _. Plays (heading_of script.now) (after (heading_of script.now) (line.Hear by of number)) self.old self.new) }
+    // Hears the report of a number at each shard, where there is one.
+    fn hear(&mut self, stage: Stage, by: u8, of: u8, number: u32) -> Result<(), Memory>
+        requires work { IsAtWork (heading_of stage.script.now) self.old }
+        requires by { IsMember (heading_of stage.script.now) by }
+        requires of { IsMember (heading_of stage.script.now) of }
+        ensures { IfOk result
+            (λ _. Plays (heading_of stage.entry.script.now)
+            (after (heading_of stage.entry.script.now) (line.Hear by of number)) self.old self.new) }
     {
-        for shard in 0..script.shards {
-            self.hear_at(alloc, script, by, of, number, shard)?;
+        for shard in 0..stage.script.shards {
+            if let Some(report) = self.grid.cell(Site { member: of, shard }).reported(number) {
+                let report = report.copy(stage.alloc)?;
+                let site = Site { member: by, shard };
+                self.grid.does(stage.alloc, site, Task::Hear(&report))?;
+            }
         }
         Ok(())
-    }
-
-    // Hears one shard's report.
-    fn hear_at(
-        &mut self,
-        alloc: Global,
-        script: &Script,
-        by: u8,
-        of: u8,
-        number: u32,
-        shard: u8,
-    ) -> Result<(), Memory>
-        requires work { IsAtWork (heading_of script.now) self.old }
-        requires by { IsMember (heading_of script.now) by }
-        requires of { IsMember (heading_of script.now) of }
-        requires shard { shard < script.now.shards }
-        ensures { IfOk result (λ _. Plays (heading_of script.now) (hears_of (heading_of script.now) by of number shard) self.old self.new) }
-    {
-        let Some(report) = self.grid.cell(of, shard).reported(number) else {
-            return Ok(());
-        };
-        let report = report.copy(alloc)?;
-        Ok(self.grid.does(alloc, by, shard, Task::Hear(&report))?)
     }
 
     /// Does what a line names.
-    pub fn play(&mut self, alloc: Global, script: &Script, line: &Line) -> Result<(), Memory>
-        requires work { IsAtWork (heading_of script.now) self.old }
-        requires stated { CanPlay (heading_of script.now) line.now }
-        ensures { IfOk result (λ _. Plays (heading_of script.now) (after (heading_of script.now) line.now) self.old self.new) }
+    pub fn play(&mut self, stage: Stage, line: &Line) -> Result<(), Memory>
+        requires work { IsAtWork (heading_of stage.script.now) self.old }
+        requires stated { CanPlay (heading_of stage.script.now) line.now }
+        ensures { IfOk result
+            (λ _. Plays (heading_of stage.entry.script.now) (after (heading_of stage.entry.script.now) line.now) self.old self.new) }
     {
         match line {
-            Line::Step { client, seq, act } => Ok(self.step(alloc, script, *client, *seq, act)?),
-            Line::Deliver { to, client, seq } => {
-                Ok(self.deliver(alloc, script, *to, *client, *seq)?)
+            Line::Step { client, seq, act } => {
+                let step = Step {
+                    client: *client,
+                    seq: *seq,
+                };
+                Ok(self.step(stage, step, act)?)
             }
-            Line::Report { member } => {
-                Ok(self.at_each_shard(alloc, script, *member, Task::Report)?)
-            }
-            Line::Hear { by, of, number } => Ok(self.hear(alloc, script, *by, *of, *number)?),
+            Line::Deliver { to, client, seq } => Ok(self.deliver(stage, *to, *client, *seq)?),
+            Line::Report { member } => Ok(self.at_each_shard(stage, *member, Task::Report)?),
+            Line::Hear { by, of, number } => Ok(self.hear(stage, *by, *of, *number)?),
             Line::Sweep { member, moment } => {
-                Ok(self.at_each_shard(alloc, script, *member, Task::Sweep(*moment))?)
+                Ok(self.at_each_shard(stage, *member, Task::Sweep(*moment))?)
             }
-            Line::Join { member, from } => Ok(self.join(alloc, script, *member, *from)?),
+            Line::Join { member, from } => Ok(self.join(stage, *member, *from)?),
         }
     }
 

@@ -6,5 +6,5 @@ use Rattle.gr_world.proofs.world.World.at_each_shard.Given as goal
 
 abbrev pub invariant-loop-shard : goal.invariant-loop-shard
 invariant-loop-shard l =
-    Plays (heading_of l.fn.script) (for_each l.shard (λ shard. does (heading_of l.fn.script) l.fn.member shard (doing_of l.fn.task)))
-    l.fn.self l.self
+    let heading = heading_of l.fn.stage.script.now in
+    Plays heading (for_each l.shard (λ shard. does heading l.fn.member shard (doing_of l.fn.task))) l.fn.self l.self

@@ -1,4 +1,4 @@
-use Rattle.std.proofs.Common.{◌≡◌, ◌∙◌, ap, arith}
+use Rattle.std.proofs.Common.{◌∙◌, ap, arith}
 use Rattle.gr_value.specs.Shard.{shard_of}
 use Rattle.gr_history.specs.Asks.{key_of}
 use Rattle.gr_script.specs.Scripts.{heading_of}
@@ -7,33 +7,30 @@ use Rattle.gr_world.proofs.world.World.call.Goals as goal
 
 pub call-requires-clause-cell : goal.call-requires-clause-cell
 call-requires-clause-cell c =
-    let script = c.args.script.now in
-    let key = key_of c.args.ask.now in
-    let shard = c.shard-shard.result in
-    let at : shard ≡ shard_of key script.shards = c.shard-shard.ensures ∙ ap (λ k. shard_of k script.shards) c.key.ensures in
-    work_cell (heading_of script) c.args.self.now c.home-member.result shard c.requires.work c.home-member.ensures.member
-    (shard_within key shard script.shards script.ruled.heading.shards.0 at)
+    let script = c.args.stage.script.now in
+    let at = c.shard-shard.ensures ∙ ap (λ k. shard_of k script.shards) c.key.ensures in
+    work_cell (heading_of script) c.args.self.now c.home-member.result c.shard-shard.result c.requires.work c.home-member.ensures.member
+    (shard_within (key_of c.args.ask.now) c.shard-shard.result script.shards script.ruled.heading.shards.0 at)
 
 pub call-requires-clause-here : goal.call-requires-clause-here
 call-requires-clause-here c =
-    let script = c.args.script.now in
-    let key = key_of c.args.ask.now in
-    let shard = c.shard-shard.result in
-    let at : shard ≡ shard_of key script.shards = c.shard-shard.ensures ∙ ap (λ k. shard_of k script.shards) c.key.ensures in
-    work_shard (heading_of script) c.args.self.now c.home-member.result shard key c.requires.work c.home-member.ensures.member
-    (shard_within key shard script.shards script.ruled.heading.shards.0 at) at
+    let script = c.args.stage.script.now in
+    let at = c.shard-shard.ensures ∙ ap (λ k. shard_of k script.shards) c.key.ensures in
+    work_shard (heading_of script) c.args.self.now c.home-member.result c.shard-shard.result (key_of c.args.ask.now) c.requires.work
+    c.home-member.ensures.member
+    (shard_within (key_of c.args.ask.now) c.shard-shard.result script.shards script.ruled.heading.shards.0 at) at
 
 pub tell-requires-clause-stated : goal.tell-requires-clause-stated
 tell-requires-clause-stated c =
-    let long = work_clients (heading_of c.args.script.now) c.args.self.now c.requires.work in
+    let long = work_clients (heading_of c.args.stage.script.now) c.args.self.now c.requires.work in
     omega (arith, long, c.requires.stated.1)
 
 pub returns : goal.returns
 returns c =
-    let script = c.args.script.now in
-    let key = key_of c.args.ask.now in
-    let shard = c.shard-shard.result in
-    let at : shard ≡ shard_of key script.shards = c.shard-shard.ensures ∙ ap (λ k. shard_of k script.shards) c.key.ensures in
-    call_plays (heading_of script) c.args.self.now _ c.home-member.result shard c.args.client c.args.seq c.args.ask.now
+    let script = c.args.stage.script.now in
+    let at = c.shard-shard.ensures ∙ ap (λ k. shard_of k script.shards) c.key.ensures in
+    let step = c.args.step in
+    call_plays (heading_of script) c.args.self.now _ c.home-member.result c.shard-shard.result step.client step.seq c.args.ask.now
     c.in_ok-done.done c.home-member.ensures.member c.requires.stated c.home-member.ensures.home at
-    (shard_within key shard script.shards script.ruled.heading.shards.0 at) c.in_ok-done.ensures c.in_ok-note.ensures c.in_ok-tell.ensures
+    (shard_within (key_of c.args.ask.now) c.shard-shard.result script.shards script.ruled.heading.shards.0 at) c.in_ok-done.ensures
+    c.in_ok-note.ensures c.in_ok-tell.ensures

@@ -5,4 +5,5 @@ use Rattle.gr_world.proofs.world.World.hear.Given as goal
 
 abbrev pub invariant-loop-shard : goal.invariant-loop-shard
 invariant-loop-shard l =
-    Plays (heading_of l.fn.script) (for_each l.shard (hears_of (heading_of l.fn.script) l.fn.by l.fn.of l.fn.number)) l.fn.self l.self
+    let heading = heading_of l.fn.stage.script.now in
+    Plays heading (for_each l.shard (hears_of heading l.fn.by l.fn.of l.fn.number)) l.fn.self l.self

@@ -5,4 +5,5 @@ use Rattle.gr_world.proofs.world.World.join.Given as goal
 
 abbrev pub invariant-loop-shard : goal.invariant-loop-shard
 invariant-loop-shard l =
-    Plays (heading_of l.fn.script) (for_each l.shard (joins_at (heading_of l.fn.script) l.fn.joiner l.fn.provider)) l.fn.self l.self
+    let heading = heading_of l.fn.stage.script.now in
+    Plays heading (for_each l.shard (joins_at heading l.fn.member l.fn.provider)) l.fn.self l.self

@@ -1,21 +1,35 @@
-use Rattle.std.proofs.Common.{suc, ◌≡◌, ◌+◌, ◌==◌, subst, arith}
+use Rattle.std.proofs.Common.{suc, ◌≡◌, ◌+◌, ◌==◌, Bool, true, false, ℕ, List, subst, sym, arith}
+use Rattle.std.proofs.lemmas.Bool.Decides.{nat_tests}
 use Rattle.gr_script.specs.Scripts.{heading_of}
-use Rattle.gr_world.specs.Courses.{gives_unless, what_from}
+use Rattle.gr_world.specs.Courses.{gives, gives_unless, what_from}
+use Rattle.gr_world.specs.Events.{Event}
 use Rattle.gr_world.specs.Worlds.{Plays}
 use Rattle.gr_world.proofs.Worlds.{for_each_plays}
 use Rattle.gr_world.proofs.world.World.join_at.Goals as goal
+use Rattle.gr_world.proofs.world.World.join_at.Goals.{then-giver-site+in_ok-hand_over, else-giver-site}
 
 pub loop-below-preserved : goal.loop-below-preserved
 loop-below-preserved c =
-    let heading = heading_of c.args.script.now in
+    let heading = heading_of c.args.stage.script.now in
     let below = c.loop-below.below in
+    let now = c.loop-below.self in
+    let joiner = c.args.site.member in
+    let gift = λ (n : ℕ). what_from (n == c.args.provider) in
+    let given : Bool → ℕ → List Event → List Event = λ own n. gives_unless own heading joiner c.args.site.shard n (gift n) in
+    let act : ℕ → List Event → List Event = λ n. given (suc n == joiner) (suc n) in
     let e : below + 1 ≡ suc below = omega arith in
-    let step = subst
-    (λ what. Plays heading (gives_unless (below + 1 == c.args.joiner) heading c.args.joiner c.args.shard (below + 1) what) c.loop-below.self
-    c.hand_over_unless_own.new.self) c.what_from-what.ensures c.in_ok-hand_over_unless_own.ensures in
-    for_each_plays heading
-    (λ n. gives_unless (suc n == c.args.joiner) heading c.args.joiner c.args.shard (suc n) (what_from (suc n == c.args.provider))) below
-    c.args.self.now c.loop-below.self c.hand_over_unless_own.new.self c.loop-below.invariant
-    (subst
-    (λ n. Plays heading (gives_unless (n == c.args.joiner) heading c.args.joiner c.args.shard n (what_from (n == c.args.provider)))
-    c.loop-below.self c.hand_over_unless_own.new.self) e step)
+    let step : Plays heading (act below) now c.if-giver-site.self = elim c.if-giver-site.branch [
+      | then-giver-site+in_ok-hand_over w ↦
+          let new = w.hand_over.new.self in
+          let other : (suc below == joiner) ≡ false = grind (arith, nat_tests, w.if-giver-site) in
+          let one = subst (λ what. Plays heading (gives heading joiner c.args.site.shard (below + 1) what) now new) w.what_from.ensures
+          w.in_ok-hand_over.ensures in
+          subst (Plays heading (act below) now) (sym w.self-is)
+          (subst (λ own. Plays heading (given own (suc below)) now new) (sym other)
+          (subst (λ n. Plays heading (given false n) now new) e one))
+      | else-giver-site w ↦
+          let same : (suc below == joiner) ≡ true = grind (arith, nat_tests, w.if-giver-site) in
+          subst (Plays heading (act below) now) (sym w.self-is)
+          (subst (λ own. Plays heading (given own (suc below)) now now) (sym same) (λ events is. is))
+    ] in
+    for_each_plays heading act below c.args.self.now now c.if-giver-site.self c.loop-below.invariant step

@@ -6,7 +6,8 @@ use Rattle.gr_world.proofs.world.World.join_at.Given as goal
 
 abbrev pub invariant-loop-below : goal.invariant-loop-below
 invariant-loop-below l =
-    let heading = heading_of l.fn.script in
+    let heading = heading_of l.fn.stage.script.now in
+    let joiner = l.fn.site.member in
     Plays heading
-    (for_each l.below (λ n. gives_unless (suc n == l.fn.joiner) heading l.fn.joiner l.fn.shard (suc n) (what_from (suc n == l.fn.provider))))
+    (for_each l.below (λ n. gives_unless (suc n == joiner) heading joiner l.fn.site.shard (suc n) (what_from (suc n == l.fn.provider))))
     l.fn.self l.self

@@ -7,19 +7,19 @@ use Rattle.gr_world.proofs.world.World.peek.Goals as goal
 
 pub cell-requires : goal.cell-requires
 cell-requires c =
-    let script = c.args.script.now in
+    let script = c.args.stage.script.now in
     let shard = c.shard-shard.result in
     work_cell (heading_of script) c.args.self.now c.home-member.result shard c.requires.work c.home-member.ensures.member
     (shard_within c.args.key.now shard script.shards script.ruled.heading.shards.0 c.shard-shard.ensures)
 
 pub tell-requires-clause-stated : goal.tell-requires-clause-stated
 tell-requires-clause-stated c =
-    let long = work_clients (heading_of c.args.script.now) c.args.self.now c.requires.work in
+    let long = work_clients (heading_of c.args.stage.script.now) c.args.self.now c.requires.work in
     omega (arith, long, c.requires.stated.1)
 
 pub returns : goal.returns
 returns c seq =
-    let script = c.args.script.now in
+    let script = c.args.stage.script.now in
     let shard = c.shard-shard.result in
     peek_plays (heading_of script) c.args.self.now _ c.home-member.result shard c.args.client seq c.args.key.now
     c.in_ok-answer.answer c.home-member.ensures.member c.requires.stated c.home-member.ensures.home c.shard-shard.ensures

@@ -1,21 +1,55 @@
-use Rattle.std.proofs.Common.{arith, refl}
+use Rattle.std.proofs.Common.{◌≡◌, ◌+◌, arith, refl, subst, sym}
 use Rattle.gr_script.specs.Scripts.{heading_of}
 use Rattle.gr_world.specs.Courses.{asks_at_each}
-use Rattle.gr_world.proofs.Asked.{query_plays}
-use Rattle.gr_world.proofs.Worlds.{work_clients, work_on}
+use Rattle.gr_world.specs.Worlds.{AreAsked}
+use Rattle.gr_world.specs.declared.world.World.{World}
+use Rattle.gr_world.proofs.Asked.{asked_next, asked_none, query_plays}
+use Rattle.gr_world.proofs.Worlds.{work_cell, work_clients, work_on}
 use Rattle.gr_world.proofs.world.World.query.Goals as goal
+
+pub query-requires : goal.query-requires
+query-requires c =
+    let heading = heading_of c.args.stage.script.now in
+    let step = c.args.step in
+    work_cell heading c.loop-shard.self c.home-member.result c.loop-shard.shard
+    (work_on heading (asks_at_each heading step.client step.seq c.args.ask.now c.loop-shard.shard) c.args.self.now c.loop-shard.self
+    c.requires.work c.loop-shard.invariant.plays)
+    c.home-member.ensures.member c.loop-shard-test.true
+
+pub loop-shard-init : goal.loop-shard-init
+loop-shard-init c =
+    let step = c.args.step in
+    asked_none (heading_of c.args.stage.script.now) step.client step.seq c.args.ask.now _ c.args.self.now c.in_ok-replies.ensures
+
+pub loop-shard-preserved : goal.loop-shard-preserved
+loop-shard-preserved c =
+    let heading = heading_of c.args.stage.script.now in
+    let step = c.args.step in
+    let first = c.args.self.now in
+    let now = c.loop-shard.self in
+    let next : World = record { grid = c.query.new.self; tellings = now.tellings; made = now.made } in
+    subst
+    (λ replies. AreAsked heading step.client step.seq c.args.ask.now (c.loop-shard.shard + 1) replies first next)
+    (sym c.in_ok-push.ensures.ok)
+    (asked_next heading step.client step.seq c.args.ask.now c.loop-shard.shard c.loop-shard.replies _ first now next
+    c.home-member.result c.home-member.ensures.member c.loop-shard-test.true c.home-member.ensures.home c.loop-shard.invariant
+    c.in_ok-query.ensures refl refl)
 
 pub tell-requires-clause-stated : goal.tell-requires-clause-stated
 tell-requires-clause-stated c =
-    let script = c.args.script.now in
-    let heading = heading_of script in
-    let asked = c.in_ok-replies.ensures in
-    let long = work_clients heading c.query_each.new.self
-    (work_on heading (asks_at_each heading c.args.client c.args.seq c.args.ask.now script.shards) c.args.self.now
-    c.query_each.new.self c.requires.work asked.plays) in
+    let heading = heading_of c.args.stage.script.now in
+    let long = work_clients heading c.loop-shard.self
+    (work_on heading (asks_at_each heading c.args.step.client c.args.step.seq c.args.ask.now c.loop-shard.shard) c.args.self.now
+    c.loop-shard.self c.requires.work c.loop-shard.invariant.plays) in
     omega (arith, long, c.requires.stated.1)
 
 pub returns : goal.returns
 returns c =
-    query_plays (heading_of c.args.script.now) c.args.self.now c.query_each.new.self _ c.args.client c.args.seq c.args.ask.now
-    c.in_ok-replies.replies c.requires.stated c.in_ok-replies.ensures refl c.in_ok-tell.ensures refl
+    let heading = heading_of c.args.stage.script.now in
+    let step = c.args.step in
+    let whole : c.loop-shard.shard ≡ c.args.stage.script.now.shards =
+    omega (arith, c.loop-shard-test.false, c.loop-shard.auto.shard-end) in
+    let asked = subst (λ n. AreAsked heading step.client step.seq c.args.ask.now n c.loop-shard.replies c.args.self.now c.loop-shard.self)
+    whole c.loop-shard.invariant in
+    query_plays heading c.args.self.now c.loop-shard.self _ step.client step.seq c.args.ask.now c.loop-shard.replies c.requires.stated
+    asked refl c.in_ok-tell.ensures refl

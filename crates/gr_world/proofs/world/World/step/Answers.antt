@@ -7,6 +7,7 @@ use Rattle.gr_world.proofs.world.World.step.Goals as goal
 
 pub returns-in_ok-peek-in-Peek : goal.returns-in_ok-peek-in-Peek
 returns-in_ok-peek-in-Peek c =
-    let heading = heading_of c.args.script.now in
-    subst (λ act. Plays heading (after heading (Step c.args.client c.args.seq act)) c.args.self.now c.peek.new.self) (sym c.in-Peek.is)
-    (c.in_ok-peek-in-Peek.ensures c.args.seq)
+    let heading = heading_of c.args.stage.script.now in
+    let step = c.args.step in
+    subst (λ act. Plays heading (after heading (Step step.client step.seq act)) c.args.self.now c.peek.new.self) (sym c.in-Peek.is)
+    (c.in_ok-peek-in-Peek.ensures c.args.step.seq)

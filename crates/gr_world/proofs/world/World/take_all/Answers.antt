@@ -8,24 +8,28 @@ use Rattle.gr_world.proofs.world.World.take_all.Goals as goal
 
 pub does-requires-clause-cell : goal.does-requires-clause-cell
 does-requires-clause-cell c =
-    let heading = heading_of c.args.script.now in
-    work_cell heading c.loop-change.self c.args.member c.args.shard
-    (work_on heading (takes_all heading c.args.member c.args.shard (take c.loop-change.change-index c.args.changes.now)) c.args.self.now
+    let heading = heading_of c.args.stage.script.now in
+    let site = c.args.site in
+    work_cell heading c.loop-change.self site.member site.shard
+    (work_on heading (takes_all heading site.member site.shard (take c.loop-change.change-index c.args.changes.now)) c.args.self.now
     c.loop-change.self c.requires.work c.loop-change.invariant)
     c.requires.member c.requires.shard
 
 pub does-requires-clause-here : goal.does-requires-clause-here
 does-requires-clause-here c =
-    let heading = heading_of c.args.script.now in
-    item_here heading c.loop-change.self c.args.member c.args.shard c.args.changes.now c.loop-change.change-index c.change-item.result
-    (work_on heading (takes_all heading c.args.member c.args.shard (take c.loop-change.change-index c.args.changes.now)) c.args.self.now
+    let heading = heading_of c.args.stage.script.now in
+    let site = c.args.site in
+    item_here heading c.loop-change.self site.member site.shard c.args.changes.now c.loop-change.change-index c.change-item.result
+    (work_on heading (takes_all heading site.member site.shard (take c.loop-change.change-index c.args.changes.now)) c.args.self.now
     c.loop-change.self c.requires.work c.loop-change.invariant)
     c.requires.member c.requires.shard c.requires.here c.loop-change-test.true c.change-item.is
 
 pub loop-change-preserved : goal.loop-change-preserved
 loop-change-preserved c =
-    let heading = heading_of c.args.script.now in
-    takes_more_plays heading c.args.self.now c.loop-change.self _ c.args.member c.args.shard c.args.changes.now c.loop-change.change-index
+    let heading = heading_of c.args.stage.script.now in
+    let site = c.args.site in
+    let change = Take (record { ref_ptr = c.args.changes.ref_ptr; now = c.change-item.result }) in
+    takes_more_plays heading c.args.self.now c.loop-change.self _ site.member site.shard c.args.changes.now c.loop-change.change-index
     c.change-item.result c.loop-change-test.true c.change-item.is c.loop-change.invariant
-    (task_plays heading c.loop-change.self _ c.args.member c.args.shard (Take (record { ref_ptr = c.args.changes.ref_ptr; now = c.change-item.result })) _ c.requires.member c.requires.shard
+    (task_plays heading c.loop-change.self _ site.member site.shard change _ c.requires.member c.requires.shard
     c.in_ok-does.ensures refl refl)

@@ -6,5 +6,5 @@ use Rattle.gr_world.proofs.world.World.take_all.Given as goal
 
 abbrev pub invariant-loop-change : goal.invariant-loop-change
 invariant-loop-change l =
-    Plays (heading_of l.fn.script) (takes_all (heading_of l.fn.script) l.fn.member l.fn.shard (take l.change-index l.fn.changes)) l.fn.self
-    l.self
+    let heading = heading_of l.fn.stage.script.now in
+    Plays heading (takes_all heading l.fn.site.member l.fn.site.shard (take l.change-index l.fn.changes)) l.fn.self l.self

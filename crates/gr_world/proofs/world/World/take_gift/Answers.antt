@@ -5,32 +5,35 @@ use Rattle.gr_script.specs.Scripts.{heading_of}
 use Rattle.gr_shard.specs.Merges.{IsGiftFor, IsImageFor}
 use Rattle.gr_world.specs.Courses.{identity_at, takes_gift}
 use Rattle.gr_world.specs.Worlds.{Plays}
+use Rattle.gr_world.specs.declared.task.Task.TheVariants.{Merge}
 use Rattle.gr_world.specs.declared.world.World.{World}
-use Rattle.gr_world.proofs.Handing.{merge_plays, work_id}
-use Rattle.gr_world.proofs.Worlds.{work_cell}
+use Rattle.gr_world.proofs.Handing.{work_id}
+use Rattle.gr_world.proofs.Worlds.{task_plays, work_cell}
 use Rattle.gr_world.proofs.world.World.take_gift.Goals as goal
 
 pub does-requires-clause-cell : goal.does-requires-clause-cell
 does-requires-clause-cell c =
-    work_cell (heading_of c.args.script.now) c.args.self.now c.args.joiner c.args.shard c.requires.work c.requires.joiner c.requires.shard
+    work_cell (heading_of c.args.stage.script.now) c.args.self.now c.args.site.member c.args.site.shard c.requires.work c.requires.joiner
+    c.requires.shard
 
 pub does-requires-clause-here : goal.does-requires-clause-here
 does-requires-clause-here c =
-    let heading = heading_of c.args.script.now in
-    let id = work_id heading c.args.self.now c.args.joiner c.args.shard c.requires.work c.requires.joiner c.requires.shard in
-    let fits = subst (IsGiftFor (identity_at heading c.args.joiner c.args.shard)) c.in-Image.is c.requires.fits in
+    let heading = heading_of c.args.stage.script.now in
+    let id = work_id heading c.args.self.now c.args.site.member c.args.site.shard c.requires.work c.requires.joiner c.requires.shard in
+    let fits = subst (IsGiftFor (identity_at heading c.args.site.member c.args.site.shard)) c.in-Image.is c.requires.fits in
     subst (λ d. IsImageFor d c.in-Image.image) (sym id) fits.0
 
 pub take_all-requires-clause-here : goal.take_all-requires-clause-here
 take_all-requires-clause-here c =
-    let heading = heading_of c.args.script.now in
-    let fits = subst (IsGiftFor (identity_at heading c.args.joiner c.args.shard)) c.in-Own.is c.requires.fits in
-    subst (AllByRecursion (λ change. shard_of change.key heading.shards ≡ c.args.shard)) (sym c.as_slice.ensures) fits
+    let heading = heading_of c.args.stage.script.now in
+    let fits = subst (IsGiftFor (identity_at heading c.args.site.member c.args.site.shard)) c.in-Own.is c.requires.fits in
+    subst (AllByRecursion (λ change. shard_of change.key heading.shards ≡ c.args.site.shard)) (sym c.as_slice.ensures) fits
 
 pub returns-in_ok-does-in-Image : goal.returns-in_ok-does-in-Image
 returns-in_ok-does-in-Image c =
-    let heading = heading_of c.args.script.now in
+    let heading = heading_of c.args.stage.script.now in
     let new : World = record { grid = c.does.new.self; tellings = c.args.self.now.tellings; made = c.args.self.now.made } in
-    subst (λ gift. Plays heading (takes_gift heading c.args.joiner c.args.shard gift) c.args.self.now new) (sym c.in-Image.is)
-    (merge_plays heading c.args.self.now new c.args.joiner c.args.shard c.in-Image.image _ c.requires.joiner c.requires.shard
+    subst (λ gift. Plays heading (takes_gift heading c.args.site.member c.args.site.shard gift) c.args.self.now new) (sym c.in-Image.is)
+    (task_plays heading c.args.self.now new c.args.site.member c.args.site.shard
+    (Merge (record { ref_ptr = c.args.gift.ref_ptr; now = c.in-Image.image })) _ c.requires.joiner c.requires.shard
     c.in_ok-does-in-Image.ensures refl refl)
