@@ -1,4 +1,4 @@
-ghost use Rattle.std.specs.Prelude.{◌≡◌, ◌==◌, [], ◌∷◌, ◌++◌, length, reverse, slice_get, IfOk, IfNone, OnOk, OnErr, option_copied};
+ghost use Rattle.std.specs.Prelude.{◌≡◌, ◌==◌, [], ◌∷◌, ◌++◌, length, slice_get, IfOk, IfNone, OnOk, OnErr, option_copied};
 ghost use Rattle.std.specs.Option.{option_to_list};
 
 use crate::{Copied, Memory};
@@ -79,13 +79,6 @@ impl<T> ItemList<T> {
         ensures { result.now ≡ self.now }
     {
         self.entries.as_slice()
-    }
-
-    /// Puts the items the other way round.
-    pub fn reverse(&mut self)
-        ensures { self.new ≡ reverse self.old }
-    {
-        self.entries.reverse();
     }
 
     /// Takes the last item out.
