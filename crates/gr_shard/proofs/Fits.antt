@@ -1,5 +1,5 @@
 -- What a shard gives may be merged or taken in by a shard of the same number.
-use Rattle.std.proofs.Common.{◌≡◌, ◌⊎◌, ◌≤◌, ◌∙◌, sym, refl, subst, List, [], ◌∷◌, inl, inr, ⊎_elim}
+use Rattle.std.proofs.Common.{◌≡◌, ◌≤◌, ◌∙◌, sym, refl, subst, List, [], ◌∷◌, inl, inr, ⊎_elim}
 use Rattle.std.specs.List.{AllByRecursion}
 use Rattle.gr_value.specs.Shard.{shard_of}
 use Rattle.gr_stamp.specs.declared.change.Change.{Change}
