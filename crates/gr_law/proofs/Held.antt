@@ -148,6 +148,18 @@ all_given grid sound me (Imaged image ∷ past) own late =
     (giver_settled grid sound me image own.0.1 late.0, all_given grid sound me past own.1 late.1)
 all_given grid sound me (deed ∷ past) own late = all_given grid sound me past own.1 late.1
 
+-- Of a deed that isn't a merge nothing is to be shown here.
+apart_at : (grid : Grid) (all : List Change) (deed : Deed) → ((image : Image) → deed ≡ Imaged image → IsApart grid all (Imaged image))
+    → IsApart grid all deed
+apart_at grid all (Call client seq ask reply one to) h = tt
+apart_at grid all (Asked client seq ask reply) h = tt
+apart_at grid all (Taken c how) h = tt
+apart_at grid all (Gave to what) h = tt
+apart_at grid all (Imaged image) h = h image refl
+apart_at grid all (Reported report) h = tt
+apart_at grid all (Heard report) h = tt
+apart_at grid all (Swept moment named) h = tt
+
 -- The facts of law 5 order a history.
 apart_fewer : (grid : Grid) (few many : List Change) (past : List Deed) → ((change : Change) → Among change few → Among change many)
     → AreApart grid many past → AreApart grid few past
@@ -155,14 +167,8 @@ apart_fewer grid few many [] into h = tt
 apart_fewer grid few many (deed ∷ past) into h = (at_deed deed h.0, apart_fewer grid few many past into h.1)
   where
     at_deed : (d : Deed) → IsApart grid many d → IsApart grid few d
-    at_deed (Call client seq ask reply one to) h = tt
-    at_deed (Asked client seq ask reply) h = tt
-    at_deed (Taken c how) h = tt
-    at_deed (Gave to what) h = tt
-    at_deed (Imaged image) h = λ change tombstone a. h change tombstone (into change a)
-    at_deed (Reported report) h = tt
-    at_deed (Heard report) h = tt
-    at_deed (Swept moment named) h = tt
+    at_deed d h = apart_at grid few d
+        (λ image is change tombstone a. subst (IsApart grid many) is h change tombstone (into change a))
 
 -- What wasn't known beats what had expired at a giver.
 apart_gone : (grid : Grid) (all : List Change) (change : Change) → Among change all → (past : List Deed) → AreApart grid all past
@@ -316,17 +322,13 @@ all_apart grid whole me all made_ [] own = tt
 all_apart grid whole me all made_ (deed ∷ past) own = (at_deed deed own.0, all_apart grid whole me all made_ past own.1)
   where
     at_deed : (d : Deed) → IsGenuineDeed grid me d → IsApart grid all d
-    at_deed (Call client seq ask reply one to) own = tt
-    at_deed (Asked client seq ask reply) own = tt
-    at_deed (Taken c how) own = tt
-    at_deed (Gave to what) own = tt
-    at_deed (Imaged image) own = λ change tombstone a unknown t same.
-        ver-beats change.stamp tombstone.stamp
-        (late_greater grid whole image.from (giver_of grid image) (giver_older grid image) tombstone change t (made_ change a)
-        (sym (known_ids image.vector.ids (giver_of grid image) own.1.is_image.vector_is (id_of change)) ∙ unknown) (sym same))
-    at_deed (Reported report) own = tt
-    at_deed (Heard report) own = tt
-    at_deed (Swept moment named) own = tt
+    at_deed d own = apart_at grid all d (λ image is. at_image image (subst (IsGenuineDeed grid me) is own))
+      where
+        at_image : (image : Image) → IsGenuineDeed grid me (Imaged image) → IsApart grid all (Imaged image)
+        at_image image own change tombstone a unknown t same =
+            ver-beats change.stamp tombstone.stamp
+            (late_greater grid whole image.from (giver_of grid image) (giver_older grid image) tombstone change t (made_ change a)
+            (sym (known_ids image.vector.ids (giver_of grid image) own.1.is_image.vector_is (id_of change)) ∙ unknown) (sym same))
 
 changes_made : (grid : Grid) → IsSound grid → (me : ℕ) (past : List Deed) → Older past (grid.history me)
     → IsLawful (identity grid me) (grid.opening me) past → IsGenuine grid me past → (change : Change) → Among change (changes past)

@@ -1,7 +1,8 @@
 -- Lists of ids and of changes.
 use Rattle.std.proofs.Common.{zero, suc, ◌≡◌, ◌⊎◌, ℕ, ◌≤◌, ◌<◌, List, [], ◌∷◌, ◌++◌, Bool, true, false, ◌&&◌, ◌||◌, refl, sym, ap}
-use Rattle.std.proofs.Common.{◌∙◌, inl, inr, ⊎_elim, arith, bytes_eq, if◌then◌else◌}
+use Rattle.std.proofs.Common.{◌∙◌, inl, inr, ⊎_elim, arith, bytes_eq, if◌then◌else◌, reverse, subst}
 use Rattle.std.specs.Prelude.{filter}
+use Rattle.std.proofs.lemmas.Grind.{reverse_onto}
 use Rattle.std.proofs.lemmas.Slice.Eq.{bytes_eq-Decides}
 use Rattle.gr_stamp.specs.declared.change.Change.{Change}
 use Rattle.gr_vector.specs.Ids.{Id, has_id, is_same_id, covers}
@@ -38,6 +39,16 @@ pub among_either : {A : Type 0} → (x : A) (xs ys : List A) → Among x (xs ++ 
 among_either x [] ys h = inr h
 among_either x (first ∷ rest) ys (inl is) = inl (inl is)
 among_either x (first ∷ rest) ys (inr h) = ⊎_elim (λ a. inl (inr a)) (λ a. inr a) (among_either x rest ys h)
+
+pub among_reverse : {A : Type 0} → (x : A) (xs : List A) → Among x (reverse xs) → Among x xs
+among_reverse x [] a = a
+among_reverse x (first ∷ rest) a =
+    at (among_reverse x rest) (among_either x (reverse rest) (first ∷ []) (subst (Among x) (reverse_onto rest first []) a))
+  where
+    at : (Among x (reverse rest) → Among x rest) → Among x (reverse rest) ⊎ Among x (first ∷ []) → Among x (first ∷ rest)
+    at next (inl a) = inr (next a)
+    at next (inr (inl is)) = inl is
+    at next (inr (inr a)) = absurd a
 
 -- an element that a filter kept
 kept_at : {A : Type 0} → (p : A → Bool) (x first : A) (rest : List A) (b : Bool) → p first ≡ b

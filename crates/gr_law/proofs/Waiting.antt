@@ -141,17 +141,40 @@ fetched_within client name [] = omega arith
 fetched_within client name (deed ∷ past) = fetched_asked (asked_of client name deed) (length past) (fetched_upto client name past)
     (fetched_within client name past)
 
--- a deed that asks something of a query is an Asked deed, which turns nothing
+-- a deed that asks something of a query is an Asked deed,
+record IsAsked (client : ℕ) (name : List ℕ) (deed : Deed) (asking : Asking) : Type 0 where
+  seq : ℕ
+  deed_is : deed ≡ Asked client seq asking.ask asking.reply
+  named : name_of asking.ask ≡ name
+
+asked_is : (client : ℕ) (name : List ℕ) (deed : Deed) (asking : Asking) → asked_of client name deed ≡ Some asking
+    → IsAsked client name deed asking
+asked_is client name (Asked own seq ask reply) asking e = at_test (own == client && bytes_eq (name_of ask) name) refl e
+  where
+    at_test : (b : Bool) → (own == client && bytes_eq (name_of ask) name) ≡ b → (if b then Some (record { ask = ask; reply = reply })
+        else None) ≡ Some asking
+        → IsAsked client name (Asked own seq ask reply) asking
+    at_test true h is =
+        let one : own ≡ client = grind (arith, nat_tests) in
+        let two : bytes_eq (name_of ask) name ≡ true = grind arith in
+        let named : name_of ask ≡ name = (bytes_eq-Decides (name_of ask) name).0 two in
+        let asks : ask ≡ asking.ask = cc in
+        let replies : reply ≡ asking.reply = cc in
+        record { seq = seq; deed_is = cc; named = ap name_of (sym asks) ∙ named }
+    at_test false h is = absurd (cc)
+asked_is client name (Call own seq ask reply made to) asking e = absurd (cc)
+asked_is client name (Taken change verdict) asking e = absurd (cc)
+asked_is client name (Gave to what) asking e = absurd (cc)
+asked_is client name (Imaged image) asking e = absurd (cc)
+asked_is client name (Reported report) asking e = absurd (cc)
+asked_is client name (Heard report) asking e = absurd (cc)
+asked_is client name (Swept moment keys) asking e = absurd (cc)
+
+-- which turns nothing
 pub asked_same : (client : ℕ) (name : List ℕ) (deed : Deed) (past : List Deed) (asking : Asking) → asked_of client name deed ≡ Some asking
     → (key : List ℕ) → standing key (deed ∷ past) ≡ standing key past
-asked_same client name (Asked own seq ask reply) past asking e key = refl
-asked_same client name (Call own seq ask reply made to) past asking e key = absurd (cc)
-asked_same client name (Taken change verdict) past asking e key = absurd (cc)
-asked_same client name (Gave to what) past asking e key = absurd (cc)
-asked_same client name (Imaged image) past asking e key = absurd (cc)
-asked_same client name (Reported report) past asking e key = absurd (cc)
-asked_same client name (Heard report) past asking e key = absurd (cc)
-asked_same client name (Swept moment keys) past asking e key = absurd (cc)
+asked_same client name deed past asking e key =
+    subst (λ d. standing key (d ∷ past) ≡ standing key past) (sym (asked_is client name deed asking e).deed_is) refl
 
 filter_none : {A : Type 0} → (p : A → Bool) (xs : List A) → ((x : A) → p x ≡ false) → filter p xs ≡ []
 filter_none p [] none = refl
@@ -177,27 +200,7 @@ noted_none (Halted opening stop) deed past all same = refl
 pub asked_reply : (client : ℕ) (name : List ℕ) (deed : Deed) (past : List Deed) (asking : Asking) → asked_of client name deed ≡ Some
     asking
     → IsLawfulAsked deed past → asking.reply ≡ answer asking.ask past (state client name past) (waiting client name past)
-asked_reply client name (Asked own seq ask reply) past asking e law = at_test (own == client && bytes_eq (name_of ask) name) refl e
-  where
-    at_test : (b : Bool) → (own == client && bytes_eq (name_of ask) name) ≡ b → (if b then Some (record { ask = ask; reply = reply })
-        else None) ≡ Some asking
-        → asking.reply ≡ answer asking.ask past (state client name past) (waiting client name past)
-    at_test true h is =
-        let one : own ≡ client = grind (arith, nat_tests) in
-        let two : bytes_eq (name_of ask) name ≡ true = grind arith in
-        let named : name_of ask ≡ name = (bytes_eq-Decides (name_of ask) name).0 two in
-        let asks : ask ≡ asking.ask = cc in
-        let replies : reply ≡ asking.reply = cc in
-        let moved : reply ≡ answer ask past (state client name past) (waiting client name past) =
-        subst (λ c. reply ≡ answer ask past (state c name past) (waiting c name past)) one
-        (subst (λ n. reply ≡ answer ask past (state own n past) (waiting own n past)) named law) in
-        subst (λ r. r ≡ answer asking.ask past (state client name past) (waiting client name past)) replies
-        (subst (λ a. reply ≡ answer a past (state client name past) (waiting client name past)) asks moved)
-    at_test false h is = absurd (cc)
-asked_reply client name (Call own seq ask reply made to) past asking e law = absurd (cc)
-asked_reply client name (Taken change verdict) past asking e law = absurd (cc)
-asked_reply client name (Gave to what) past asking e law = absurd (cc)
-asked_reply client name (Imaged image) past asking e law = absurd (cc)
-asked_reply client name (Reported report) past asking e law = absurd (cc)
-asked_reply client name (Heard report) past asking e law = absurd (cc)
-asked_reply client name (Swept moment keys) past asking e law = absurd (cc)
+asked_reply client name deed past asking e law =
+    let is = asked_is client name deed asking e in
+    subst (λ n. asking.reply ≡ answer asking.ask past (state client n past) (waiting client n past)) is.named
+    (subst (λ d. IsLawfulAsked d past) is.deed_is law)

@@ -14,6 +14,7 @@ use Rattle.gr_shard.specs.Asking.{twice}
 use Rattle.gr_shard.specs.InStep.{rows_of_ask, reply_by, served}
 use Rattle.gr_shard.specs.View.{IsKept, Kept}
 use Rattle.gr_shard.proofs.Following.{served_in_step, served_reply}
+use Rattle.gr_shard.proofs.KeptOn.{kept_on}
 use Rattle.gr_shard.proofs.Slots.{stands_unchanged}
 
 -- The reply that is noted, and so the one that is told, is what the history gives,
@@ -30,19 +31,8 @@ pub kept_answered : (id : Identity) (opening : ℕ) (now : Kept) (past : List De
     → IsKept id opening now past → reply ≡ query_gives client ask past
     → IsKept id opening (record now { queries = served client ask now.queries }) (Asked client seq ask reply ∷ past)
 unfolding recipients
-kept_answered id opening now past client seq ask reply kept is = record {
-  place = kept.place;
-  lawful = (is, kept.lawful);
-  of_shard = kept.of_shard;
-  stands = stands_unchanged now.slots (Asked client seq ask reply) past (λ key. refl) kept.stands;
-  noted = kept.noted;
-  floored = kept.floored;
-  low = kept.low;
-  clocked = kept.clocked;
-  imaged = kept.imaged;
-  aimed = kept.aimed;
-  told = kept.told ∙ sym (heard_next (Asked client seq ask reply) past);
-  eight = kept.eight;
-  gifts = kept.gifts;
-  in_step = served_in_step client seq ask reply past now.queries kept.in_step is;
-}
+kept_answered id opening now past client seq ask reply kept is =
+    kept_on id opening now (Asked client seq ask reply) past kept refl is kept.of_shard
+    now.slots (stands_unchanged now.slots (Asked client seq ask reply) past (λ key. refl) kept.stands)
+    now.vector kept.noted now.heard (kept.told ∙ sym (heard_next (Asked client seq ask reply) past))
+    (served client ask now.queries) (served_in_step client seq ask reply past now.queries kept.in_step is)

@@ -1,7 +1,6 @@
 -- What a shard gives may be merged or taken in by a shard of the same number.
-use Rattle.std.proofs.Common.{◌≡◌, ◌⊎◌, ◌≤◌, ◌∙◌, sym, refl, subst, List, [], ◌∷◌, reverse, inl, inr, ⊎_elim}
+use Rattle.std.proofs.Common.{◌≡◌, ◌≤◌, ◌∙◌, sym, refl, subst, List, [], ◌∷◌, inl, inr, ⊎_elim}
 use Rattle.std.specs.List.{AllByRecursion}
-use Rattle.std.proofs.lemmas.Grind.{reverse_onto}
 use Rattle.gr_value.specs.Shard.{shard_of}
 use Rattle.gr_stamp.specs.declared.change.Change.{Change}
 use Rattle.gr_stamp.specs.declared.stamp.TheConstants.{LIMIT}
@@ -15,7 +14,7 @@ use Rattle.gr_history.specs.Made.{made, made_at}
 use Rattle.gr_history.specs.Standing.{came, changes}
 use Rattle.gr_law.specs.Grids.{Among}
 use Rattle.gr_law.proofs.Images.{lasting_came, row_stands}
-use Rattle.gr_law.proofs.Lists.{among_either, among_left, among_right}
+use Rattle.gr_law.proofs.Lists.{among_either, among_left, among_reverse, among_right}
 use Rattle.gr_law.proofs.Steps.{standing_best}
 use Rattle.gr_law.proofs.Winners.{all_among}
 use Rattle.gr_shard.specs.Merges.{IsImageFor}
@@ -25,16 +24,6 @@ use Rattle.gr_shard.proofs.Ordered.{standing_in_order}
 all_of : {A : Type 0} (P : A → Type 0) (xs : List A) → ((x : A) → Among x xs → P x) → AllByRecursion P xs
 all_of P [] each = tt
 all_of P (x ∷ xs) each = (each x (inl refl), all_of P xs (λ y a. each y (inr a)))
-
-pub among_reverse : {A : Type 0} → (x : A) (xs : List A) → Among x (reverse xs) → Among x xs
-among_reverse x [] a = a
-among_reverse x (first ∷ rest) a =
-    at (among_reverse x rest) (among_either x (reverse rest) (first ∷ []) (subst (Among x) (reverse_onto rest first []) a))
-  where
-    at : (Among x (reverse rest) → Among x rest) → Among x (reverse rest) ⊎ Among x (first ∷ []) → Among x (first ∷ rest)
-    at next (inl a) = inr (next a)
-    at next (inr (inl is)) = inl is
-    at next (inr (inr a)) = absurd a
 
 made_came_at : (deed : Deed) (past : List Deed) (change : Change) → Among change (made_at deed) → Among change (came deed past)
 made_came_at (Call client seq ask reply made to) past change a = a

@@ -34,6 +34,7 @@ use Rattle.gr_shard.specs.Entries.{with_change, with_made, applied}
 use Rattle.gr_shard.specs.View.{IsKept, Kept}
 use Rattle.gr_shard.proofs.Made.{IsMade, made_by_call}
 use Rattle.gr_shard.specs.Telling.{turned_by_change}
+use Rattle.gr_shard.proofs.KeptOn.{kept_on}
 use Rattle.gr_shard.proofs.Turning.{told_in_step, value-slot_at}
 use Rattle.gr_shard.proofs.Slots.{stands_unchanged, stands_with, stands_after, stands_still}
 
@@ -140,44 +141,25 @@ module _ (id : Identity) (opening : ℕ) (now : Kept) (past : List Deed) where
       })
       (Call client seq ask reply made to ∷ past)
   unfolding recipients
-  kept_called client seq ask reply None to kept here gives = record {
-    place = kept.place;
-    lawful = (gives, kept.lawful);
-    of_shard = kept.of_shard;
-    stands = slots_called id opening now past client seq ask reply None to kept gives;
-    noted = kept.noted;
-    floored = kept.floored;
-    low = kept.low;
-    clocked = kept.clocked;
-    imaged = kept.imaged;
-    aimed = kept.aimed;
-    told = kept.told ∙ sym (heard_next (Call client seq ask reply None to) past);
-    eight = kept.eight;
-    gifts = kept.gifts;
-    in_step = told_in_step (Call client seq ask reply None to) past [] now.queries (λ client name. refl)
-        (turned_unmade client seq ask reply to past) kept.in_step;
-  }
+  kept_called client seq ask reply None to kept here gives =
+      kept_on id opening now (Call client seq ask reply None to) past kept refl gives kept.of_shard
+      now.slots (slots_called id opening now past client seq ask reply None to kept gives)
+      now.vector kept.noted now.heard (kept.told ∙ sym (heard_next (Call client seq ask reply None to) past))
+      (noted [] now.queries)
+      (told_in_step (Call client seq ask reply None to) past [] now.queries (λ client name. refl)
+      (turned_unmade client seq ask reply to past) kept.in_step)
   kept_called client seq ask reply (Some change) to kept here gives =
       let is = made_by_call id opening past ask reply change to gives in
-      record {
-        place = kept.place;
-        lawful = (gives, kept.lawful);
-        of_shard = (ap (λ k. shard_of k id.shards) is.key_is ∙ here, kept.of_shard);
-        stands = slots_called id opening now past client seq ask reply (Some change) to kept gives;
-        noted = ap (with_id (id_of change)) kept.noted;
-        floored = kept.floored;
-        low = kept.low;
-        clocked = kept.clocked;
-        imaged = kept.imaged;
-        aimed = kept.aimed;
-        told = kept.told ∙ sym (heard_next (Call client seq ask reply (Some change) to) past);
-        eight = kept.eight;
-        gifts = kept.gifts;
-        in_step = told_in_step (Call client seq ask reply (Some change) to) past
-            (turned_by_change now.slots (Some change)) now.queries (λ client name. refl)
-            (turned_call id opening client seq ask reply change to past gives
-            ∙ turned_change change past now.slots kept.stands) kept.in_step;
-      }
+      kept_on id opening now (Call client seq ask reply (Some change) to) past kept refl gives
+      (ap (λ k. shard_of k id.shards) is.key_is ∙ here, kept.of_shard)
+      (with_change (Some change) now.clock now.slots)
+      (slots_called id opening now past client seq ask reply (Some change) to kept gives)
+      (with_id (id_of change) now.vector) (ap (with_id (id_of change)) kept.noted)
+      now.heard (kept.told ∙ sym (heard_next (Call client seq ask reply (Some change) to) past))
+      (noted (turned_by_change now.slots (Some change)) now.queries)
+      (told_in_step (Call client seq ask reply (Some change) to) past (turned_by_change now.slots (Some change)) now.queries
+      (λ client name. refl)
+      (turned_call id opening client seq ask reply change to past gives ∙ turned_change change past now.slots kept.stands) kept.in_step)
 
   -- Kept before a change is taken in, all is kept after it.
   pub kept_taken : (change : Change) (told : Verdict) → IsKept id opening now past → shard_of change.key id.shards ≡ id.shard
@@ -189,20 +171,11 @@ module _ (id : Identity) (opening : ℕ) (now : Kept) (past : List Deed) where
       })
       (Taken change told ∷ past)
   unfolding recipients
-  kept_taken change told kept here is = record {
-    place = kept.place;
-    lawful = (is, kept.lawful);
-    of_shard = of_shard_taken id past change told here kept.of_shard;
-    stands = slots_taken id opening now past change told kept is;
-    noted = ap (with_id (id_of change)) kept.noted;
-    floored = kept.floored;
-    low = kept.low;
-    clocked = kept.clocked;
-    imaged = kept.imaged;
-    aimed = kept.aimed;
-    told = kept.told ∙ sym (heard_next (Taken change told) past);
-    eight = kept.eight;
-    gifts = kept.gifts;
-    in_step = told_in_step (Taken change told) past (turned_by_change now.slots (applied told change)) now.queries
-        (λ client name. refl) (turned_taken change told past now.slots is kept.stands) kept.in_step;
-  }
+  kept_taken change told kept here is =
+      kept_on id opening now (Taken change told) past kept refl is (of_shard_taken id past change told here kept.of_shard)
+      (with_change (applied told change) now.clock now.slots) (slots_taken id opening now past change told kept is)
+      (with_id (id_of change) now.vector) (ap (with_id (id_of change)) kept.noted)
+      now.heard (kept.told ∙ sym (heard_next (Taken change told) past))
+      (noted (turned_by_change now.slots (applied told change)) now.queries)
+      (told_in_step (Taken change told) past (turned_by_change now.slots (applied told change)) now.queries
+      (λ client name. refl) (turned_taken change told past now.slots is kept.stands) kept.in_step)

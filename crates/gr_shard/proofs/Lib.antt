@@ -1,6 +1,7 @@
 pub mod Fits
 pub mod Gifts
 pub mod Kept
+pub mod KeptOn
 pub mod Left
 pub mod Made
 pub mod Merges

@@ -1,7 +1,7 @@
 -- A joiner is given one image, by a founder, and changes that were made.
-use Rattle.std.proofs.Common.{suc, ◌≡◌, ◌⊎◌, ℕ, ◌+◌, ◌≤◌, ◌<◌, List, [], ◌∷◌, Bool, true, false, ◌==◌, refl, sym, ap, ◌∙◌, subst}
+use Rattle.std.proofs.Common.{suc, ◌≡◌, ℕ, ◌+◌, ◌≤◌, ◌<◌, List, [], ◌∷◌, Bool, true, false, ◌==◌, refl, sym, ap, ◌∙◌, subst}
 use Rattle.std.proofs.Common.{inl, inr}
-use Rattle.std.proofs.Common.{arith, reverse, length, if◌then◌else◌}
+use Rattle.std.proofs.Common.{arith, length, if◌then◌else◌}
 use Rattle.std.specs.Prelude.{Option, Some, None, nat_le}
 use Rattle.std.proofs.lemmas.Bool.Decides.{nat_tests}
 use Rattle.gr_value.specs.Shard.{shard_of}
@@ -19,7 +19,7 @@ use Rattle.gr_history.specs.Gifts.{own_changes, IsImageOf}
 use Rattle.gr_history.specs.Lawful.{IsLawful}
 use Rattle.gr_law.specs.Grids.{Among, Older, at_place}
 use Rattle.gr_law.specs.Integrity.{giver_of, IsMade, HasNoImage, IsGift}
-use Rattle.gr_law.proofs.Lists.{among_either}
+use Rattle.gr_law.proofs.Lists.{among_reverse}
 use Rattle.gr_law.proofs.Made.{made_member}
 use Rattle.gr_script.specs.declared.line.Act.TheVariants as act
 use Rattle.gr_script.specs.declared.line.Line.{Line}
@@ -33,7 +33,6 @@ use Rattle.gr_world.specs.Doings.{Doing, Calls, Takes, Gives, Merges, Reports, H
 use Rattle.gr_world.specs.Named.{made_by, reports, numbered}
 use Rattle.gr_world.specs.Courses.{identity_at, does, for_each, delivers, hears, takes_all, gives_unless, what_from, after, course}
 use Rattle.gr_world.specs.Causes.{grid_at, IsCausal}
-use Rattle.std.proofs.lemmas.Grind.{reverse_onto}
 use Rattle.gr_world.proofs.Events.{equal_numbers, history_here, more_made, no_image, other_shard, Spares}
 use Rattle.gr_shard.proofs.Ordered.{standing_in_order}
 use Rattle.gr_world.proofs.Whole.{whole_course}
@@ -65,16 +64,6 @@ takes_joining heading joiner provider shard given (change ∷ rest) now is made_
       none = λ less. no_image heading joiner shard joiner shard (Takes change) now tt (h.none less);
       later = λ t less. no_image heading joiner t joiner shard (Takes change) now tt (h.later t less);
     })
-
-among_reverse : {A : Type 0} → (x : A) (xs : List A) → Among x (reverse xs) → Among x xs
-among_reverse x [] a = a
-among_reverse x (first ∷ rest) a =
-    at (among_reverse x rest) (among_either x (reverse rest) (first ∷ []) (subst (Among x) (reverse_onto rest first []) a))
-  where
-    at : (Among x (reverse rest) → Among x rest) → Among x (reverse rest) ⊎ Among x (first ∷ []) → Among x (first ∷ rest)
-    at next (inl a) = inr (next a)
-    at next (inr (inl is)) = inl is
-    at next (inr (inr a)) = absurd a
 
 -- the own changes of a member were made
 own_made : (heading : Heading) (giver shard : ℕ) (now : List Event) → IsCausal heading now → (change : Change)

@@ -1,4 +1,4 @@
-use Rattle.std.proofs.Common.{◌≡◌, ◌≤◌, ◌+◌, ◌*◌, ◌^◌, arith, ap, sym, ◌∙◌, lit<}
+use Rattle.std.proofs.Common.{◌≡◌, ◌≤◌, ◌<◌, ◌+◌, ◌*◌, ◌^◌, arith, ap, sym, ◌∙◌, lit<}
 use Rattle.gr_history.specs.Recipients.{member_bits}
 use Rattle.gr_shard.proofs.Made.{member_bits-set, member_bits-unset, power-one_more}
 use Rattle.std.proofs.Math.Nat.{pow-le-pow_right}
@@ -11,24 +11,21 @@ loop-below-preserved c =
     let now = c.loop-below.invariant in
     let twice : c.loop-below.bit * 2 ≡ 2 ^ (c.loop-below.below + 1) = omega (arith, now.bit, power-one_more c.loop-below.below) in
     let most : c.loop-below.bit * 2 ≤ 256 = rw twice (pow-le-pow_right (lit< tt) {i = c.loop-below.below + 1} {j = 8} (omega arith)) in
+    let to : (c.if-is_recipient.to < c.loop-below.bit * 2)
+    × (c.if-is_recipient.to ≡ member_bits (goes_to c.args.id c.args.given.now) (c.loop-below.below + 1)) =
     elim c.if-is_recipient.branch [
-      | then-is_recipient w ↦ record {
-        bit = twice;
-        least = omega arith;
-        most = most;
-        small = omega arith;
-        bits = w.to-is ∙ member_bits-set (goes_to c.args.id c.args.given.now) c.loop-below.below c.loop-below.to c.loop-below.bit
-            now.bits now.bit (sym w.if-is_recipient.ensures);
-      }
-      | else-is_recipient w ↦ record {
-        bit = twice;
-        least = omega arith;
-        most = most;
-        small = omega arith;
-        bits = w.to-is ∙ member_bits-unset (goes_to c.args.id c.args.given.now) c.loop-below.below c.loop-below.to c.loop-below.bit
-            now.bits now.bit (sym w.if-is_recipient.ensures);
-      }
-    ]
+      | then-is_recipient w ↦ (
+        omega arith,
+        w.to-is ∙ member_bits-set (goes_to c.args.id c.args.given.now) c.loop-below.below c.loop-below.to c.loop-below.bit
+            now.bits now.bit (sym w.if-is_recipient.ensures),
+      )
+      | else-is_recipient w ↦ (
+        omega arith,
+        w.to-is ∙ member_bits-unset (goes_to c.args.id c.args.given.now) c.loop-below.below c.loop-below.to c.loop-below.bit
+            now.bits now.bit (sym w.if-is_recipient.ensures),
+      )
+    ] in
+    record { bit = twice; least = omega arith; most = most; small = to.0; bits = to.1 }
 
 pub returns : goal.returns
 returns c =
