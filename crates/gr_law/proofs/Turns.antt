@@ -20,10 +20,8 @@ use Rattle.gr_vector.specs.Ids.{has_id}
 use Rattle.gr_history.specs.declared.image.What.{What}
 use Rattle.gr_vector.specs.declared.report.Report.{Report}
 use Rattle.gr_history.specs.declared.verdict.Verdict.TheVariants.{Applied, Discarded, Repeat}
-use Rattle.gr_history.specs.declared.query_ask.QueryAsk.{QueryAsk}
-use Rattle.gr_history.specs.declared.query_reply.QueryReply.{QueryReply}
 use Rattle.gr_history.specs.declared.deed.Deed.{Deed}
-use Rattle.gr_history.specs.declared.deed.Deed.TheVariants.{Call, Taken, Gave, Reported, Asked, Heard, Swept}
+use Rattle.gr_history.specs.declared.deed.Deed.TheVariants.{Call, Taken, Gave, Reported, Heard, Swept}
 use Rattle.gr_history.specs.Ids.{id_of, ids}
 use Rattle.gr_history.specs.Standing.{changes, names, lasting, standing, present}
 use Rattle.gr_history.specs.Stable.{is_due}
@@ -74,10 +72,6 @@ turned_reported report past = none (Reported report) past (λ key. refl)
 
 pub turned_heard : (report : Report) (past : List Deed) → turned (Heard report) past ≡ []
 turned_heard report past = none (Heard report) past (λ key. refl)
-
-pub turned_asked : (client seq : ℕ) (ask : QueryAsk) (reply : QueryReply) (past : List Deed) → turned (Asked client seq ask reply) past ≡
-    []
-turned_asked client seq ask reply past = none (Asked client seq ask reply) past (λ key. refl)
 
 -- One change that comes in turns its key where it wins.
 same_key : (key : List ℕ) → bytes_eq key key ≡ true
