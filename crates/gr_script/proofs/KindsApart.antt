@@ -1,5 +1,5 @@
 -- A line behind the heading is of none of the heading's kinds.
-use Rattle.std.proofs.Common.{◌≡◌, ◌∙◌, ◌≤◌, ◌<◌, ◌+◌, ℕ, false, sym, ap, eqb, nat_lt, if◌then◌else◌, arith}
+use Rattle.std.proofs.Common.{◌≡◌, ◌∙◌, ◌≤◌, ◌<◌, ◌+◌, ℕ, false, sym, ap, nat_lt, if◌then◌else◌, arith}
 use Rattle.std.proofs.Math.Nat.{le_trans, min-le_left, min-eq_right}
 use Rattle.std.proofs.lemmas.Bool.{ne_eqb}
 use Rattle.gr_script.specs.declared.forms.LineKind.{LineKind}

@@ -1,5 +1,5 @@
--- The numbers of lines that were read have room where a script keeps them.
-use Rattle.std.proofs.Common.{◌≡◌, ℕ, ◌≤◌, ◌<◌, ◌^◌, List, [], ◌∷◌, length, true, eqb, ◌&&◌, None, sym, subst, arith}
+-- Lines that were read can be kept as a script keeps them.
+use Rattle.std.proofs.Common.{◌≡◌, ℕ, ◌≤◌, ◌<◌, ◌^◌, List, ◌∷◌, length, true, eqb, ◌&&◌, None, Some, option_map, refl, sym, subst, arith}
 use Rattle.std.proofs.lemmas.List.Sums.{count_by-le-length}
 use Rattle.gr_script.specs.declared.forms.LineKind.{LineKind}
 use Rattle.gr_script.specs.declared.forms.LineKind.TheVariants as kind
@@ -7,10 +7,13 @@ use Rattle.gr_script.specs.declared.items.Item.{Item}
 use Rattle.gr_script.specs.declared.saying.Saying.{Saying}
 use Rattle.gr_script.specs.Forms.{rank, is_step, is_kind}
 use Rattle.gr_script.specs.Index.{most_lines}
-use Rattle.gr_script.specs.Narrow.{IsNarrowStep, IsNarrow, AreNarrow}
+use Rattle.gr_script.specs.Kept.{CanBeKept}
+use Rattle.gr_script.specs.Narrow.{IsNarrowStep, IsNarrow}
 use Rattle.gr_script.specs.Past.{number, members, steps, reports}
+use Rattle.gr_script.specs.Printed.{saying_in}
 use Rattle.gr_script.specs.Refusals.{tests, refusal}
 use Rattle.gr_script.specs.Rules.{IsWithin}
+use Rattle.gr_script.specs.Said.{line_of}
 use Rattle.gr_script.proofs.Follows.{Held, held_items, AllFollow}
 use Rattle.gr_script.proofs.Headed.{headed, whole}
 use Rattle.gr_script.proofs.Standing.{passed, not_missing}
@@ -67,18 +70,50 @@ narrow past kind.Join c none most le =
     (small past c.1.0.0 (most (omega arith)) c.1.0.1, small past c.1.1.0.0 (most (omega arith)) c.1.1.0.1)
 narrow past _ c none most le = tt
 
-pub narrowed : (past : List Saying) → AllFollow past → length past ≤ most_lines → AreNarrow past
-narrowed [] all le = tt
-narrowed (saying ∷ past) all le =
+said_back : (past : List Saying) (form : LineKind) (c : Held past form) → 8 ≤ rank form
+    → option_map saying_in (line_of past (record { kind = form; items = held_items past form c }))
+    ≡ Some (record { kind = form; items = held_items past form c })
+said_back past kind.Georep c late = absurd (omega arith)
+said_back past kind.Region c late = absurd (omega arith)
+said_back past kind.Members c late = absurd (omega arith)
+said_back past kind.Shards c late = absurd (omega arith)
+said_back past kind.Inbox c late = absurd (omega arith)
+said_back past kind.Trouble c late = absurd (omega arith)
+said_back past kind.Floor c late = absurd (omega arith)
+said_back past kind.Client c late = absurd (omega arith)
+said_back past kind.Get c late = refl
+said_back past kind.Put c late = refl
+said_back past kind.PutIfAbsent c late = refl
+said_back past kind.Replace c late = refl
+said_back past kind.ReplaceIf c late = refl
+said_back past kind.Destroy c late = refl
+said_back past kind.Remove c late = refl
+said_back past kind.Peek c late = refl
+said_back past kind.Open c late = refl
+said_back past kind.Stop c late = refl
+said_back past kind.Close c late = refl
+said_back past kind.Fetch c late = refl
+said_back past kind.Deliver c late = refl
+said_back past kind.Report c late = refl
+said_back past kind.Hear c late = refl
+said_back past kind.Sweep c late = refl
+said_back past kind.Join c late = refl
+
+pub can_be_kept : (past : List Saying) (saying : Saying) → AllFollow (saying ∷ past) → length past ≤ most_lines → CanBeKept past saying
+can_be_kept past saying all few =
     let f = all.0 in
-    let fewer : length past ≤ most_lines = omega (arith, le) in
     let held = headed past all.1 in
     let most = λ (late : 4 ≤ rank saying.kind).
-    (held.0.members_are (let at = whole past saying.kind late (f.order, f.due) in omega (arith, at))).1 in (
-      λ is. subst IsNarrowStep f.items_are (narrow_step past saying.kind f.held is),
-      subst (IsNarrow saying.kind) f.items_are
+    (held.0.members_are (let at = whole past saying.kind late (f.order, f.due) in omega (arith, at))).1 in
+    record {
+      order = f.order;
+      step = λ is. subst IsNarrowStep f.items_are (narrow_step past saying.kind f.held is);
+      other = subst (IsNarrow saying.kind) f.items_are
           (narrow past saying.kind f.held
           (subst (λ (is : List Item). refusal (tests past saying.kind is) ≡ None) (sym f.items_are) f.passes)
-          most fewer),
-      narrowed past all.1 fewer,
-    )
+          most few);
+      back = λ late. subst
+          (λ (is : List Item).
+          option_map saying_in (line_of past (record { kind = saying.kind; items = is })) ≡ Some (record { kind = saying.kind; items = is }))
+          f.items_are (said_back past saying.kind f.held late);
+    }

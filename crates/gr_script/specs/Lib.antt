@@ -5,6 +5,7 @@ pub mod Forms
 pub mod Halts
 pub mod Index
 pub mod Items
+pub mod Kept
 pub mod LineNumbers
 pub mod Narrow
 pub mod Numerals

@@ -1,10 +1,8 @@
 -- The numbers of a line have room where a script keeps them.
-use Rattle.std.specs.Prelude.{◌≡◌, ◌<◌, ◌^◌, List, [], ◌∷◌, true}
+use Rattle.std.specs.Prelude.{◌<◌, ◌^◌, List}
 use Rattle.gr_script.specs.declared.forms.LineKind.{LineKind}
 use Rattle.gr_script.specs.declared.forms.LineKind.TheVariants as kind
 use Rattle.gr_script.specs.declared.items.Item.{Item}
-use Rattle.gr_script.specs.declared.saying.Saying.{Saying}
-use Rattle.gr_script.specs.Forms.{is_step}
 use Rattle.gr_script.specs.Past.{number}
 
 abbrev pub IsNarrowStep : List Item → Type 0
@@ -17,8 +15,3 @@ IsNarrow kind.Hear items = (number 0 items < 2 ^ 8) × (number 1 items < 2 ^ 8) 
 IsNarrow kind.Sweep items = (number 0 items < 2 ^ 8) × (number 1 items < 2 ^ 64)
 IsNarrow kind.Join items = (number 0 items < 2 ^ 8) × (number 1 items < 2 ^ 8)
 IsNarrow _ items = Unit {0}
-
-abbrev pub AreNarrow : List Saying → Type 0
-AreNarrow [] = Unit {0}
-AreNarrow (saying ∷ past) =
-    (is_step saying.kind ≡ true → IsNarrowStep saying.items) × IsNarrow saying.kind saying.items × AreNarrow past

@@ -3,15 +3,19 @@ ghost use Rattle.gr_script.specs.Tallies.{count_in, CountsOne, CountsNone};
 ghost use Rattle.gr_script.specs.declared.forms.LineKind.TheVariants as kind;
 ghost use Rattle.gr_script.specs.Forms.{is_kind, is_step, rank};
 ghost use Rattle.gr_script.specs.Index.{most_lines, counted};
+ghost use Rattle.gr_script.specs.Kept.{CanBeKept};
+ghost use Rattle.gr_script.specs.Said.{lines_said};
 ghost use Rattle.gr_script.specs.declared.saying.Saying.{Saying};
 ghost use Rattle.gr_script.specs.Past.{stage, region, members, founders, clients, steps, reports, joins};
 ghost use Rattle.gr_script.specs.Past.{homes as homes_of, home, setting, sizes};
 
+use crate::LineList;
 use crate::forms::{LineKind, is_kind, is_step, rank};
 use crate::items::Setting;
 use crate::note::{counted, homes_with, is_query, next_rank, region_with, stated_with};
+use crate::said::line_of;
 use crate::saying::{Saying, number};
-use crate::tally::{count_in as count_of, count_up, counts_with};
+use crate::tally::{count_in as count_of, count_up};
 use gr_value::{ItemList, Key, Memory};
 use std::alloc::Global;
 use std::collections::BTreeMap;
@@ -43,11 +47,13 @@ pub(crate) struct Sizes {
     pub(crate) floor: u128,
 }
 
-/// What the earlier lines of a script say, which contracts see as these, the last one first. The
-/// rest is kept so that none of them is looked at again.
+/// What the earlier lines of a script say, which contracts see as these, the last one first. Those of
+/// the heading are kept as what they say, and those behind it as the lines that they are. The rest is
+/// kept so that none of them is looked at again.
 #[derive(Drop)]
 pub(crate) struct Past {
-    sayings: ItemList<Saying>,
+    heading: ItemList<Saying>,
+    lines: LineList,
     stage: u8,
     setting: Setting,
     founders: u128,
@@ -62,20 +68,20 @@ pub(crate) struct Past {
 /// What a script is made of, once all its lines are read.
 #[derive(Drop)]
 pub(crate) struct Told {
-    pub(crate) sayings: ItemList<Saying>,
     pub(crate) region: Option<Key>,
     pub(crate) members: u128,
     pub(crate) founders: u128,
     pub(crate) sizes: Sizes,
     pub(crate) homes: ItemList<u128>,
-    /// How many steps each client has.
-    pub(crate) steps: BTreeMap<u128, u32>,
+    pub(crate) lines: LineList,
 }
 
 impl Model for Past {
-    ghost use Rattle.std.specs.Prelude.{List, reverse};
+    ghost use Rattle.std.specs.Prelude.{◌≡◌, List, reverse};
     ghost use Rattle.gr_script.specs.declared.saying.Saying.{Saying};
     ghost use Rattle.gr_script.specs.Index.{IsIndex};
+    ghost use Rattle.gr_script.specs.Kept.{kept_sayings};
+    ghost use Rattle.gr_script.specs.Said.{lines_said};
     ghost use Rattle.std.specs.Coded.{codes};
     ghost use Rattle.gr_oql.specs.Code.{tree_code};
 
@@ -83,10 +89,11 @@ impl Model for Past {
 
     ghost coded = { Prim.hlevel (codes, tree_code) };
 
-    ghost view = { λ past. reverse past.sayings };
+    ghost view = { λ past. kept_sayings past.heading past.lines };
 
     ghost invariant = { λ past. IsIndex past.stage past.setting past.founders past.sizes past.homes past.steps past.reports
-        past.joins past.counted (reverse past.sayings) };
+        past.joins past.counted (kept_sayings past.heading past.lines)
+        × (past.lines ≡ reverse (lines_said (kept_sayings past.heading past.lines))) };
 }
 
 impl Past {
@@ -113,7 +120,8 @@ impl Past {
             floor: 0,
         };
         Ok(Past {
-            sayings: ItemList::new(alloc)?,
+            heading: ItemList::new(alloc)?,
+            lines: LineList::new(alloc)?,
             stage: 0,
             setting,
             founders: 0,
@@ -191,31 +199,30 @@ impl Past {
         self.counted
     }
 
-    /// The lines and what is kept of them, taken apart.
+    /// What is kept of the lines, taken apart.
     pub(crate) fn into_told(self) -> Told
-        ensures sayings { reverse result.sayings ≡ self }
         ensures region { result.region ≡ region self }
         ensures members { result.members ≡ members self }
         ensures founders { result.founders ≡ founders self }
         ensures sizes { result.sizes ≡ sizes self }
         ensures homes { result.homes ≡ homes_of self }
-        ensures steps { (client : ℕ) → count_in result.steps client ≡ steps client self }
+        ensures lines { result.lines ≡ reverse (lines_said self) }
     {
         let setting = self.setting;
         Told {
-            sayings: self.sayings,
             region: setting.region,
             members: setting.members,
             founders: self.founders,
             sizes: self.sizes,
             homes: self.homes,
-            steps: self.steps,
+            lines: self.lines,
         }
     }
 
     /// Puts one line more behind these. Where memory is refused, no line stands for sure.
     pub(crate) fn push(&mut self, alloc: Global, line: Saying) -> Result<(), Memory>
-        requires { length self.old < most_lines }
+        requires room { length self.old < most_lines }
+        requires kept { CanBeKept self.old line }
         ensures { OnOk result (self.new ≡ line ∷ self.old) }
     {
         if rank(line.kind) < LAST_RANK {
@@ -228,15 +235,17 @@ impl Past {
     }
 
     // One line more behind the heading.
-    fn push_behind(&mut self, line: Saying) -> Result<(), Memory>
+    fn push_behind(&mut self, saying: Saying) -> Result<(), Memory>
         requires room { length self.old < most_lines }
-        requires late { 8 ≤ rank line.kind }
-        ensures { OnOk result (self.new ≡ line ∷ self.old) }
+        requires kept { CanBeKept self.old saying }
+        requires late { 8 ≤ rank saying.kind }
+        ensures { OnOk result (self.new ≡ saying ∷ self.old) }
     {
-        let kind = line.kind;
-        let first = number(0, line.items.as_slice());
-        let counted = counted_with(&line, self.counted);
-        self.sayings.push(line)?;
+        let kind = saying.kind;
+        let first = number(0, saying.items.as_slice());
+        let counted = counted_with(&saying, self.counted);
+        let seq = count_of(&self.steps, first) + 1;
+        self.lines.push(line_of(seq, saying).unwrap())?;
         match count_line(
             kind,
             first,
@@ -250,39 +259,38 @@ impl Past {
                 Ok(())
             }
             Err(refused) => {
-                self.sayings.pop();
+                self.lines.pop();
                 Err(refused)
             }
         }
     }
 
-    /// These lines and one more.
+    // These lines of the heading and one more.
     fn with(self, alloc: Global, line: Saying) -> Result<Past, Memory>
-        requires { length self < most_lines }
+        requires room { length self < most_lines }
+        requires order { stage self ≤ rank line.kind }
+        requires early { rank line.kind < 8 }
         ensures { IfOk result (λ past. past ≡ line ∷ self) }
     {
         let kind = line.kind;
-        let first = number(0, line.items.as_slice());
         let homes = homes_with(&line, self.homes)?;
         let setting = setting_with(alloc, &line, self.setting, &homes)?;
         let founders = stated_with(LineKind::Members, 1, &line, self.founders);
         let sizes = sizes_with(&line, self.sizes);
-        let steps = counts_with(self.steps, is_step(kind), first)?;
-        let reports = counts_with(self.reports, is_kind(LineKind::Report, kind), first)?;
-        let joins = counts_with(self.joins, is_kind(LineKind::Join, kind), first)?;
         let counted = counted_with(&line, self.counted);
-        let mut sayings = self.sayings;
-        sayings.push(line)?;
+        let mut heading = self.heading;
+        heading.push(line)?;
         Ok(Past {
-            sayings,
+            heading,
+            lines: self.lines,
             stage: next_rank(kind),
             setting,
             founders,
             sizes,
             homes,
-            steps,
-            reports,
-            joins,
+            steps: self.steps,
+            reports: self.reports,
+            joins: self.joins,
             counted,
         })
     }

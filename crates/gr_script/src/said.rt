@@ -1,22 +1,17 @@
-ghost use Rattle.std.specs.Prelude.{◌≡◌, ◌+◌, ◌≤◌, ℕ, ◌<◌, ◌^◌, ◌++◌, List, reverse, true, IfOk};
-ghost use Rattle.std.specs.Option.{option_to_list};
+ghost use Rattle.std.specs.Prelude.{◌≡◌, ◌+◌, List, true};
 ghost use Rattle.gr_script.specs.declared.saying.Saying.{Saying as ASaying};
 ghost use Rattle.gr_script.specs.Forms.{is_step as is_step_kind};
-ghost use Rattle.gr_script.specs.Narrow.{IsNarrowStep, IsNarrow, AreNarrow};
+ghost use Rattle.gr_script.specs.Narrow.{IsNarrowStep, IsNarrow};
 ghost use Rattle.gr_script.specs.Past.{number as number_in, steps as steps_in};
-ghost use Rattle.gr_script.specs.Said.{act_said, step_said, other_said, line_of, lines_said};
-ghost use Rattle.gr_script.specs.Tallies.{count_in as counted_in};
+ghost use Rattle.gr_script.specs.Said.{act_said, step_said, other_said, line_of};
 
 use crate::forms::{LineKind, is_step};
 use crate::items::Item;
 use crate::parts::{Parts, parts_of};
 use crate::saying::{Saying, number};
-use crate::tally::{count_in, counts_without};
-use crate::{Act, Line, LineList};
+use crate::{Act, Line};
 use gr_history::{Ask, QueryAsk};
-use gr_value::{ItemList, Memory};
-use std::alloc::Global;
-use std::collections::BTreeMap;
+use gr_value::ItemList;
 
 // What a client does at a line of this kind.
 fn act_said(kind: LineKind, parts: Parts) -> Option<Act>
@@ -100,8 +95,8 @@ fn other_said(kind: LineKind, items: &[Item]) -> Option<Line>
     }
 }
 
-// The line that is said. Where it is a step, it has this number among its client's.
-fn line_of(seq: u32, saying: Saying) -> Option<Line>
+/// The line that is said. Where it is a step, it has this number among its client's.
+pub(crate) fn line_of(seq: u32, saying: Saying) -> Option<Line>
     requires step { is_step_kind saying.kind ≡ true → IsNarrowStep saying.items }
     requires other { IsNarrow saying.kind saying.items }
     ensures { (past : List ASaying) → (is_step_kind saying.kind ≡ true → seq ≡ steps_in (number_in 0 saying.items) past + 1)
@@ -112,51 +107,4 @@ fn line_of(seq: u32, saying: Saying) -> Option<Line>
     } else {
         other_said(saying.kind, saying.items.as_slice())
     }
-}
-
-fn with_line(lines: LineList, line: Option<Line>) -> Result<LineList, Memory>
-    ensures { IfOk result (λ more. more ≡ lines ++ option_to_list line) }
-{
-    let mut lines = lines;
-    if let Some(line) = line {
-        lines.push(line)?;
-    }
-    Ok(lines)
-}
-
-// The lines, the last one first. How many steps each client has is known.
-fn lines_back(
-    alloc: Global,
-    steps: BTreeMap<u128, u32>,
-    sayings: ItemList<Saying>,
-) -> Result<LineList, Memory>
-    requires counted { (client : ℕ) → counted_in steps client ≡ steps_in client (reverse sayings) }
-    requires narrow { AreNarrow (reverse sayings) }
-    ensures { IfOk result (λ lines. lines ≡ lines_said (reverse sayings)) }
-{
-    let mut lines = LineList::new(alloc)?;
-    let mut counts = steps;
-    let mut left = sayings;
-    while let Some(saying) = left.pop() {
-        let client = number(0, saying.items.as_slice());
-        let seq = count_in(&counts, client);
-        counts = counts_without(counts, is_step(saying.kind), client)?;
-        lines = with_line(lines, line_of(seq, saying))?;
-    }
-    Ok(lines)
-}
-
-/// The lines that are said, in order. How many steps each client has is known.
-pub(crate) fn lines_of(
-    alloc: Global,
-    steps: BTreeMap<u128, u32>,
-    sayings: ItemList<Saying>,
-) -> Result<LineList, Memory>
-    requires counted { (client : ℕ) → counted_in steps client ≡ steps_in client (reverse sayings) }
-    requires narrow { AreNarrow (reverse sayings) }
-    ensures { IfOk result (λ lines. lines ≡ reverse (lines_said (reverse sayings))) }
-{
-    let mut lines = lines_back(alloc, steps, sayings)?;
-    lines.reverse();
-    Ok(lines)
 }

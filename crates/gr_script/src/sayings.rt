@@ -1,7 +1,9 @@
-ghost use Rattle.std.specs.Prelude.{◌≡◌, ◌≤◌, ◌<◌, ◌+◌, [], length, OnOk};
+ghost use Rattle.std.specs.Prelude.{◌≡◌, ◌≤◌, ◌<◌, ◌+◌, ◌∷◌, [], length, Ok, OnOk};
+ghost use Rattle.gr_script.specs.declared.saying.Saying.{Saying};
 ghost use Rattle.gr_script.specs.Cuts.{line_count};
 ghost use Rattle.gr_script.specs.Halts.{Yields};
 ghost use Rattle.gr_script.specs.Index.{most_lines};
+ghost use Rattle.gr_script.specs.Kept.{CanBeKept};
 ghost use Rattle.gr_script.specs.Refusals.{past_with};
 ghost use Rattle.gr_script.specs.Sayings.{Gives, ended, end_of, sayings_from, sayings_of};
 ghost use Rattle.gr_script.specs.Texts.{lines_of};
@@ -24,7 +26,8 @@ const REQUIRED_LINES: u8 = 4;
 
 // Takes in one line more, which may be skipped.
 fn take_line(alloc: Global, runs: bool, past: &mut Past, line: &[u8]) -> Result<(), Halt>
-    requires { length past.old < most_lines }
+    requires room { length past.old < most_lines }
+    requires kept { (saying : Saying) → past_with runs past.old line.now ≡ Ok (saying ∷ past.old) → CanBeKept past.old saying }
     ensures exact { Yields (λ _. past.new) result (past_with runs past.old line.now) }
     ensures longer { OnOk result (length past.new ≤ length past.old + 1) }
 {

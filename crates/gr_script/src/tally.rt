@@ -14,24 +14,6 @@ pub(crate) fn count_in(counts: &BTreeMap<u128, u32>, number: u128) -> u32
     }
 }
 
-/// The counts with one more line of this number, where the test holds.
-pub(crate) fn counts_with(
-    counts: BTreeMap<u128, u32>,
-    test: bool,
-    number: u128,
-) -> Result<BTreeMap<u128, u32>, Memory>
-    requires { count_in counts number + 1 < 2 ^ 32 }
-    ensures { IfOk result (λ counts_with. (n : ℕ) → count_in counts_with n ≡ (if test && number == n then 1 else 0) + count_in counts n) }
-{
-    if !test {
-        return Ok(counts);
-    }
-    let mut counts = counts;
-    let count = count_in(&counts, number) + 1;
-    counts.insert(number, count)?;
-    Ok(counts)
-}
-
 /// Counts one more line of this number.
 pub(crate) fn count_up(counts: &mut BTreeMap<u128, u32>, number: u128) -> Result<(), Memory>
     requires { count_in counts.old number + 1 < 2 ^ 32 }
@@ -41,22 +23,4 @@ pub(crate) fn count_up(counts: &mut BTreeMap<u128, u32>, number: u128) -> Result
     let count = count_in(counts, number) + 1;
     counts.insert(number, count)?;
     Ok(())
-}
-
-/// The counts with one line of this number less, where the test holds.
-pub(crate) fn counts_without(
-    counts: BTreeMap<u128, u32>,
-    test: bool,
-    number: u128,
-) -> Result<BTreeMap<u128, u32>, Memory>
-    requires { test ≡ true → 1 ≤ count_in counts number }
-    ensures { IfOk result (λ fewer. (n : ℕ) → (if test && number == n then 1 else 0) + count_in fewer n ≡ count_in counts n) }
-{
-    if !test {
-        return Ok(counts);
-    }
-    let mut counts = counts;
-    let count = count_in(&counts, number) - 1;
-    counts.insert(number, count)?;
-    Ok(counts)
 }

@@ -1,12 +1,10 @@
 ghost use Rattle.std.specs.Prelude.{◌≡◌, reverse, IfOk, IsSome};
-ghost use Rattle.gr_script.specs.Narrow.{AreNarrow};
 ghost use Rattle.gr_script.specs.Past.{region};
 ghost use Rattle.gr_script.specs.Rules.{IsScript, AreWithin};
 ghost use Rattle.gr_script.specs.Said.{heading_said, lines_said, script_said};
 ghost use Rattle.gr_script.specs.Scripts.{heading_of};
 
 use crate::past::Past;
-use crate::said::lines_of;
 use crate::{MemberNumberList, Script};
 use gr_value::{ItemList, Memory};
 use std::alloc::Global;
@@ -25,14 +23,12 @@ fn clients_of(alloc: Global, homes: &ItemList<u128>) -> Result<MemberNumberList,
 /// The script that is said.
 pub(crate) fn script_of(alloc: Global, past: Past) -> Result<Script, Memory>
     requires ruled { IsScript (heading_said past) (reverse (lines_said past)) }
-    requires narrow { AreNarrow past }
     requires named { IsSome (region past) }
     ensures { IfOk result (λ script. (heading_of script, script.lines) ≡ script_said past) }
 {
     let told = past.into_told();
     let region = told.region.unwrap();
     let clients = clients_of(alloc, &told.homes)?;
-    let lines = lines_of(alloc, told.steps, told.sayings)?;
     Ok(Script {
         region,
         members: told.members as u8,
@@ -42,6 +38,6 @@ pub(crate) fn script_of(alloc: Global, past: Past) -> Result<Script, Memory>
         trouble: told.sizes.trouble as u32,
         floor: told.sizes.floor as u64,
         clients,
-        lines,
+        lines: told.lines,
     })
 }

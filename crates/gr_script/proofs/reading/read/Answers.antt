@@ -2,9 +2,8 @@ use Rattle.std.proofs.Common.{arith, sym, subst}
 use Rattle.std.proofs.lemmas.List.{reverse-reverse}
 use Rattle.gr_script.specs.Rules.{AllStand}
 use Rattle.gr_script.specs.Said.{heading_said, lines_said}
-use Rattle.gr_script.proofs.Follows.{all_follow, few_sayings}
+use Rattle.gr_script.proofs.Follows.{all_follow}
 use Rattle.gr_script.proofs.Headed.{headed, is_heading}
-use Rattle.gr_script.proofs.Narrowed.{narrowed}
 use Rattle.gr_script.proofs.Standing.{all_stand}
 use Rattle.gr_script.proofs.reading.read.Goals as goal
 
@@ -16,12 +15,6 @@ script_of-requires-clause-ruled c =
       heading = is_heading past all.0 all.1;
       lines_stand = subst (AllStand (heading_said past)) (sym (reverse-reverse (lines_said past))) (all_stand past all.0);
     }
-
-pub script_of-requires-clause-narrow : goal.script_of-requires-clause-narrow
-script_of-requires-clause-narrow c =
-    let past = c.in_ok-past.past in
-    narrowed past (all_follow c.is_run.result c.args.bytes.now past c.in_ok-past.ensures).0
-    (few_sayings c.is_run.result c.args.bytes.now past c.in_ok-past.ensures)
 
 pub script_of-requires-clause-named : goal.script_of-requires-clause-named
 script_of-requires-clause-named c =
