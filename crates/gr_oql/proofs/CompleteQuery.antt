@@ -6,7 +6,9 @@ use Rattle.gr_value.specs.declared.scalar.Scalar.{Scalar}
 use Rattle.gr_value.specs.declared.scalar.Scalar.TheVariants as scalar
 use Rattle.gr_lex.specs.declared.token.Symbol.{Symbol}
 use Rattle.gr_lex.specs.declared.token.Symbol.TheVariants as symbols
+use Rattle.gr_oql.specs.declared.keyword.Keyword.{Keyword}
 use Rattle.gr_oql.specs.declared.keyword.Keyword.TheVariants as word
+use Rattle.gr_oql.specs.Words.{keyword_eq}
 use Rattle.gr_oql.specs.declared.condition.Relation.{Relation}
 use Rattle.gr_oql.specs.declared.condition.Relation.TheVariants as relation
 use Rattle.gr_oql.specs.declared.condition.Operand.{Operand}
@@ -88,37 +90,21 @@ plain_name t more w is = record {
       name_no_symbol symbols.LeftBracket t w is;
 }
 
+plain_keyword : (k : Keyword) (ts left : List Terminal) → keyword_eq k word.IsDefined ≡ false → keyword_eq k word.IsUndefined ≡ false
+    → keyword_eq k word.Not ≡ false → Front (One (is_keyword k)) ts left → Plain ts
+plain_keyword k ts left defined undefined negation f =
+    let h = first_of (is_keyword k) ts left f in
+    subst Plain (sym h.2) (record {
+      no_defined = keyword_other k word.IsDefined h.0 defined h.1;
+      no_undefined = keyword_other k word.IsUndefined h.0 undefined h.1;
+      no_not = keyword_other k word.Not h.0 negation h.1;
+      no_bracket = keyword_no_symbol k symbols.LeftBracket h.0 h.1;
+    })
+
 plain_literal : (ts : List Terminal) (x : Scalar) (left : List Terminal) → Front (Literal x) ts left → Plain ts
-plain_literal ts scalar.Null left f =
-    let h = first_of (is_keyword word.Null) ts left f in
-    subst Plain (sym h.2) (record {
-      no_defined = keyword_other word.Null word.IsDefined h.0 refl h.1;
-      no_undefined =
-          keyword_other word.Null word.IsUndefined h.0 refl h.1;
-      no_not = keyword_other word.Null word.Not h.0 refl h.1;
-      no_bracket =
-          keyword_no_symbol word.Null symbols.LeftBracket h.0 h.1;
-    })
-plain_literal ts (scalar.Bool true) left f =
-    let h = first_of (is_keyword word.True) ts left f in
-    subst Plain (sym h.2) (record {
-      no_defined = keyword_other word.True word.IsDefined h.0 refl h.1;
-      no_undefined =
-          keyword_other word.True word.IsUndefined h.0 refl h.1;
-      no_not = keyword_other word.True word.Not h.0 refl h.1;
-      no_bracket =
-          keyword_no_symbol word.True symbols.LeftBracket h.0 h.1;
-    })
-plain_literal ts (scalar.Bool false) left f =
-    let h = first_of (is_keyword word.False) ts left f in
-    subst Plain (sym h.2) (record {
-      no_defined = keyword_other word.False word.IsDefined h.0 refl h.1;
-      no_undefined =
-          keyword_other word.False word.IsUndefined h.0 refl h.1;
-      no_not = keyword_other word.False word.Not h.0 refl h.1;
-      no_bracket =
-          keyword_no_symbol word.False symbols.LeftBracket h.0 h.1;
-    })
+plain_literal ts scalar.Null left f = plain_keyword word.Null ts left refl refl refl f
+plain_literal ts (scalar.Bool true) left f = plain_keyword word.True ts left refl refl refl f
+plain_literal ts (scalar.Bool false) left f = plain_keyword word.False ts left refl refl refl f
 plain_literal ts (scalar.Text text) left f =
     let h = has_of as_quoted text ts left f in
     subst Plain (sym (h.2 ∙ ap (λ (t : Terminal). t ∷ left) (quoted_is h.0 text h.1)))

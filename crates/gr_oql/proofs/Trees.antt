@@ -1,16 +1,13 @@
 -- Conditions beside their trees, and how their parts are read.
-use Rattle.std.proofs.Common.{◌≡◌, ℕ, zero, suc, List, [], ◌∷◌, ◌++◌, map, Ok, Option, false, Vec, Global, refl, ap, ◌∙◌, rules}
+use Rattle.std.proofs.Common.{◌≡◌, ℕ, zero, suc, List, [], ◌∷◌, ◌++◌, map, Option, false, Vec, Global, refl, ap, ◌∙◌, rules}
 use Rattle.std.proofs.lemmas.List.{map_push}
 use Rattle.gr_lex.specs.declared.token.Symbol.TheVariants as symbols
 use Rattle.gr_oql.specs.declared.condition.Condition.{Condition, Any, All, the_lemmas}
 use Rattle.gr_oql.specs.declared.keyword.Keyword.TheVariants as word
-use Rattle.gr_oql.specs.declared.halt.Halt.{Halt}
-use Rattle.gr_oql.specs.declared.halt.Halt.TheVariants as stops
 use Rattle.gr_oql.specs.Tree.{any, all, test}
 use Rattle.gr_oql.specs.View.{tree_of, in_order}
-use Rattle.gr_oql.specs.Reader.Gives.{Stops}
 use Rattle.gr_oql.specs.Terminals.{Terminal, begins, is_keyword, is_symbol}
-use Rattle.gr_oql.specs.Reader.Reading.{Reading, read_as, part_at, test_at}
+use Rattle.gr_oql.specs.Reader.Reading.{read_as, part_at, test_at}
 
 pub tree_of-All : (parts : Vec Condition Global) → tree_of (All parts) ≡ all (in_order (map tree_of parts.items))
 tree_of-All parts = search (rules, the_lemmas)

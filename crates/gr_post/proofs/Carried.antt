@@ -62,6 +62,7 @@ use Rattle.gr_post.specs.Lanes.{
 use Rattle.gr_post.specs.Couriers.{
   Line,
   line_of,
+  Carrying,
   carrying,
   Follows,
   HoldsBack,
@@ -90,6 +91,13 @@ follows_plan ways posted first number stage c k d lt =
     let here = below ways k lt in
     subst (λ (y : ℕ × Line). Follows (draws y.0 first k (reverse posted)) stage (y.1.pass.sent ++ y.1.waiting))
     (λ i. (sym (length-map ways line_of) i, sym (at_line ways k d here) i)) (c.follows k (way_of d) here)
+
+-- of a courier that callers see open
+pub was_open : (ways : List Way) (posted : List Posting) (first number : ℕ) (stage : Stage) (seen : Carrying)
+    → carrying ways posted first stage ≡ seen → seen.stage ≡ Open → IsCarried ways posted first number stage
+    → IsCarried ways posted first number Open
+was_open ways posted first number stage seen view_is open_ c =
+    subst (IsCarried ways posted first number) (ap (λ (k : Carrying). k.stage) view_is ∙ open_) c
 
 -- where f of each is g of each, f of all is g of all
 pub map_same : {A B : Type 0} (f g : A → B) (xs ys : List A) → length ys ≡ length xs

@@ -1,32 +1,6 @@
 -- What is held back, and the room for it.
-use Rattle.std.proofs.Common.{
-  ◌≡◌,
-  ◌+◌,
-  ◌-◌,
-  ◌≤◌,
-  ◌<◌,
-  ◌==◌,
-  ℕ,
-  true,
-  false,
-  List,
-  [],
-  ◌∷◌,
-  ◌++◌,
-  length,
-  Option,
-  Some,
-  None,
-  sym,
-  refl,
-  ap,
-  ◌∙◌,
-  append_assoc,
-  subst,
-  length-append,
-  arith,
-  if◌then◌else◌,
-}
+use Rattle.std.proofs.Common.{◌≡◌, ◌+◌, ◌-◌, ◌≤◌, ◌<◌, ◌==◌, ℕ, true, false, List, [], ◌∷◌, ◌++◌, length, Option, Some, None}
+use Rattle.std.proofs.Common.{sym, refl, ap, ◌∙◌, append_assoc, subst, length-append, arith, if◌then◌else◌}
 use Rattle.gr_post.specs.declared.fate.Held.{Held}
 use Rattle.gr_post.specs.declared.fate.Fate.{Fate}
 use Rattle.gr_post.specs.declared.fate.Fate.TheVariants.{Once, Twice, Hold, Last}

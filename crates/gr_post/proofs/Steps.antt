@@ -1,35 +1,6 @@
 -- Each step keeps what holds of an inbox.
-use Rattle.std.proofs.Common.{
-  ◌≡◌,
-  ◌≢◌,
-  ◌+◌,
-  ◌<◌,
-  ◌≤◌,
-  ℕ,
-  Bool,
-  true,
-  true≢false,
-  cond,
-  List,
-  [],
-  ◌∷◌,
-  ◌++◌,
-  length,
-  set,
-  Option,
-  Some,
-  None,
-  sym,
-  refl,
-  ap,
-  ◌∙◌,
-  subst,
-  ⊎_elim,
-  append_assoc,
-  arith,
-  length-append,
-  eq-eqb,
-}
+use Rattle.std.proofs.Common.{◌≡◌, ◌≢◌, ◌+◌, ◌<◌, ◌≤◌, ℕ, Bool, true, true≢false, cond, List, [], ◌∷◌, ◌++◌, length, set, Option, Some, None}
+use Rattle.std.proofs.Common.{sym, refl, ap, ◌∙◌, subst, ⊎_elim, append_assoc, arith, length-append, eq-eqb}
 use mathlib.Core.Option.{some, some-ne-none}
 use lib.ListN.{get_elem?}
 use Rattle.crossbeam_queue.specs.Fifo.{Pushes, Pops, Forks, Merges, Learns}
@@ -165,6 +136,19 @@ takes port v may x items views d at =
       ),
     )
 
+-- the same mails, where other passes have other seats
+reseated : (items : List Posted) (views after : List View) (d : Delivers items views) (seat : ℕ → Option ℕ)
+    → All (FitsSender seat d.sent) after → All (Taker d.reader seat d.sent d.taken) after → Delivers items after
+reseated items views after d seat senders taker = record {
+  reader = d.reader;
+  seat = seat;
+  sent = d.sent;
+  taken = d.taken;
+  whole = d.whole;
+  senders = senders;
+  taker = taker;
+}
+
 pub forks : (port : ℕ) (v : View) → v.takes ≡ true → Forks Delivers port v (enlisting v) (sender v.made)
 forks port v may items views d at =
     let l : View = enlisting v in
@@ -191,18 +175,12 @@ forks port v may items views d at =
           (omega arith, put_other d.seat v.made (Some (length vs)) m.from b ∙ g.1, g.2);
     })
     (λ j u other e t. absurd (other ((d.taker j u e t).place ∙ sym mine.place))) in
-    record {
-      reader = d.reader;
-      seat = seat;
-      sent = d.sent;
-      taken = d.taken;
-      whole = d.whole;
-      senders = λ j u e. ⊎_elim (λ x. old_f j u x)
-          (λ (x : (j ≡ length vs) × (r ≡ u)). subst (λ (y : ℕ × View). F y.0 y.1) (λ i. (sym x.0 i, x.1 i))
-          (λ _. (put_same d.seat v.made (Some (length vs)), sym free.1))) (at_end vs r u j e);
-      taker = λ j u e. ⊎_elim (λ x. old_g j u x)
-          (λ (x : (j ≡ length vs) × (r ≡ u)). λ t. absurd (true≢false (sym t ∙ ap (λ (y : View). y.takes) (sym x.1)))) (at_end vs r u j e);
-    }
+    reseated items views (vs ++ r ∷ []) d seat
+    (λ j u e. ⊎_elim (λ x. old_f j u x)
+    (λ (x : (j ≡ length vs) × (r ≡ u)). subst (λ (y : ℕ × View). F y.0 y.1) (λ i. (sym x.0 i, x.1 i))
+    (λ _. (put_same d.seat v.made (Some (length vs)), sym free.1))) (at_end vs r u j e))
+    (λ j u e. ⊎_elim (λ x. old_g j u x)
+    (λ (x : (j ≡ length vs) × (r ≡ u)). λ t. absurd (true≢false (sym t ∙ ap (λ (y : View). y.takes) (sym x.1)))) (at_end vs r u j e))
 
 pub merges : (port : ℕ) (v : View) (other : ℕ) (u : View) → v.takes ≡ true → u.sends ≡ true → Merges Delivers port v other u
     (meeting v u) spent
@@ -236,15 +214,9 @@ merges port v other u may sent items views d at two at' =
       fits = fits;
     })
     (λ j y apart e _ t. absurd (apart ((d.taker j y e t).place ∙ sym mine.place))) in
-    record {
-      reader = d.reader;
-      seat = seat;
-      sent = d.sent;
-      taken = d.taken;
-      whole = d.whole;
-      senders = all_set F vs other spent (λ s. absurd (true≢false (sym s))) (λ j y ne e. now_f j y e ne);
-      taker = all_set G vs other spent (λ t. absurd (true≢false (sym t))) (λ j y ne e. now_g j y e ne);
-    }
+    reseated items views (set vs other spent) d seat
+    (all_set F vs other spent (λ s. absurd (true≢false (sym s))) (λ j y ne e. now_f j y e ne))
+    (all_set G vs other spent (λ t. absurd (true≢false (sym t))) (λ j y ne e. now_g j y e ne))
 
 pub trails : (port : ℕ) (v : View) → v.sends ≡ true → Learns Delivers port v (Trails v)
 trails port v may items views d at =

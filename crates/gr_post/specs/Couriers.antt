@@ -109,6 +109,14 @@ pub record LineMoves (old new : Line) : Type 0 where
   pub pass : new.pass ≡ record old.pass { sent = old.pass.sent ++ gone; refused = new.pass.refused }
   pub rises : old.pass.refused ≤ new.pass.refused
 
+-- the first of what waited was sent on each line, by the plan, and nothing else is changed
+pub record IsPushed (old new : Carrying) : Type 0 where
+  pub same : new ≡ record old { lines = new.lines }
+  pub count : length new.lines ≡ length old.lines
+  pub tables : tables_of new ≡ tables_of old
+  pub moves : (k : ℕ) (d : Line) → k < length old.lines → LineMoves (slice_index_or old.lines k d) (slice_index_or new.lines k d)
+  pub plan : FollowsPlan new
+
 abbrev pub NothingWaits : List Line → Type 0
 NothingWaits lines = (k : ℕ) (d : Line) → k < length lines → (slice_index_or lines k d).waiting ≡ []
 

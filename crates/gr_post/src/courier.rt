@@ -1,8 +1,8 @@
-ghost use Rattle.std.specs.Prelude.{◌≡◌, ◌≤◌, ◌<◌, ◌^◌, ◌++◌, ◌∷◌, [], ℕ, true, false, length, slice_index_or, All, IfOk, OnOk, OnErr, map};
+ghost use Rattle.std.specs.Prelude.{◌≡◌, ◌≤◌, ◌<◌, ◌^◌, ◌++◌, ◌∷◌, [], true, false, length, All, IfOk, OnOk, OnErr, map};
 ghost use Rattle.gr_post.specs.declared.mail.Mail.TheVariants.{End};
 ghost use Rattle.gr_post.specs.declared.stage.Stage.TheVariants.{Open, Ended, Stopped};
 ghost use Rattle.gr_post.specs.Plan.{first_number};
-ghost use Rattle.gr_post.specs.Couriers.{Line, passes_of, tables_of, begun, posting, ended, stopped_line, AreOf, FollowsPlan, LineMoves, NothingWaits, IsRefused};
+ghost use Rattle.gr_post.specs.Couriers.{passes_of, begun, posting, ended, stopped_line, AreOf, FollowsPlan, IsPushed, NothingWaits, IsRefused};
 
 use crate::fate::first_number;
 use crate::inbox::InboxList;
@@ -89,12 +89,7 @@ impl Courier {
     /// Sends what can be sent without waiting for room in an inbox, and says whether nothing waits.
     pub fn push<R: Wait + Sync>(&mut self, rt: &R, inboxes: &InboxList) -> bool
         requires { AreOf inboxes.now self.old }
-        ensures same { self.new ≡ record self.old { lines = self.new.lines } }
-        ensures count { length self.new.lines ≡ length self.old.lines }
-        ensures tables { tables_of self.new ≡ tables_of self.old }
-        ensures moves { (k : ℕ) (d : Line) → k < length self.old.lines →
-            LineMoves (slice_index_or self.old.lines k d) (slice_index_or self.new.lines k d) }
-        ensures plan { FollowsPlan self.new }
+        ensures pushed { IsPushed self.old self.new }
         ensures all { result ≡ true → NothingWaits self.new.lines }
         ensures refused { result ≡ false → IsRefused self.old.lines self.new.lines }
     {
@@ -118,12 +113,7 @@ impl Courier {
     /// Sends until nothing waits, so it may wait for the takers.
     pub fn flush<R: Wait + Sync>(&mut self, rt: &R, inboxes: &InboxList)
         requires { AreOf inboxes.now self.old }
-        ensures same { self.new ≡ record self.old { lines = self.new.lines } }
-        ensures count { length self.new.lines ≡ length self.old.lines }
-        ensures tables { tables_of self.new ≡ tables_of self.old }
-        ensures moves { (k : ℕ) (d : Line) → k < length self.old.lines →
-            LineMoves (slice_index_or self.old.lines k d) (slice_index_or self.new.lines k d) }
-        ensures plan { FollowsPlan self.new }
+        ensures pushed { IsPushed self.old self.new }
         ensures all { NothingWaits self.new.lines }
     {
         for _ in rt.forever() {

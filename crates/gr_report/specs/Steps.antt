@@ -1,5 +1,6 @@
 -- How many steps of each kind a script has.
-use Rattle.std.specs.Prelude.{ℕ, List, ◌++◌, Bool, true, false, codes, decimal, count_by}
+use Rattle.std.specs.Prelude.{ℕ, List, ◌++◌, Bool, true, false, Option, Some, None, codes, decimal, count_by}
+use Rattle.gr_history.specs.declared.ask.Ask.{Ask}
 use Rattle.gr_history.specs.declared.ask.Ask.TheVariants as ask
 use Rattle.gr_script.specs.declared.line.Act.TheVariants as act
 use Rattle.gr_script.specs.declared.line.Line.{Line}
@@ -7,33 +8,38 @@ use Rattle.gr_script.specs.declared.line.Line.TheVariants as line
 use Rattle.gr_report.specs.declared.steps.StepCounts.{StepCounts}
 use Rattle.gr_report.specs.Regions.{counted}
 
-abbrev pub is_get : Line → Bool
-is_get (line.Step client seq (act.Call (ask.Get key))) = true
+-- what a line asks for, where it is a step that calls
+abbrev pub called : Line → Option Ask
+called (line.Step client seq (act.Call ask)) = Some ask
+called _ = None
+
+abbrev pub is_get : Option Ask → Bool
+is_get (Some (ask.Get key)) = true
 is_get _ = false
 
-abbrev pub is_put : Line → Bool
-is_put (line.Step client seq (act.Call (ask.Put key value))) = true
+abbrev pub is_put : Option Ask → Bool
+is_put (Some (ask.Put key value)) = true
 is_put _ = false
 
-abbrev pub is_put_if_absent : Line → Bool
-is_put_if_absent (line.Step client seq (act.Call (ask.PutIfAbsent key value))) = true
+abbrev pub is_put_if_absent : Option Ask → Bool
+is_put_if_absent (Some (ask.PutIfAbsent key value)) = true
 is_put_if_absent _ = false
 
-abbrev pub is_replace : Line → Bool
-is_replace (line.Step client seq (act.Call (ask.Replace key value))) = true
+abbrev pub is_replace : Option Ask → Bool
+is_replace (Some (ask.Replace key value)) = true
 is_replace _ = false
 
-abbrev pub is_destroy : Line → Bool
-is_destroy (line.Step client seq (act.Call (ask.Destroy key))) = true
+abbrev pub is_destroy : Option Ask → Bool
+is_destroy (Some (ask.Destroy key)) = true
 is_destroy _ = false
 
 abbrev pub step_counts : List Line → StepCounts
 step_counts lines = record {
-  gets = count_by is_get lines;
-  puts = count_by is_put lines;
-  puts_if_absent = count_by is_put_if_absent lines;
-  replaces = count_by is_replace lines;
-  destroys = count_by is_destroy lines;
+  gets = count_by (λ line. is_get (called line)) lines;
+  puts = count_by (λ line. is_put (called line)) lines;
+  puts_if_absent = count_by (λ line. is_put_if_absent (called line)) lines;
+  replaces = count_by (λ line. is_replace (called line)) lines;
+  destroys = count_by (λ line. is_destroy (called line)) lines;
 }
 
 -- the word of a kind, and how many there are

@@ -1,5 +1,5 @@
-ghost use Rattle.std.specs.Prelude.{◌≡◌, ◌++◌, OnOk};
-ghost use Rattle.gr_report.specs.Steps.{is_get, is_put, is_put_if_absent, is_replace, is_destroy, step_counts, count_text, steps_line};
+ghost use Rattle.std.specs.Prelude.{◌≡◌, ◌++◌, OnOk, option_copied};
+ghost use Rattle.gr_report.specs.Steps.{called, is_get, is_put, is_put_if_absent, is_replace, is_destroy, step_counts, count_text, steps_line};
 
 use crate::counts::sum;
 use crate::put::{put_counted, put_number, put_text};
@@ -17,65 +17,47 @@ pub struct StepCounts {
     pub destroys: u128,
 }
 
-// Of which kind a line is, where it is a step that calls.
-fn is_get(line: &Line) -> bool
-    ensures { result ≡ is_get line.now }
+// What a line asks for, where it is a step that calls.
+fn called(line: &Line) -> Option<&Ask>
+    ensures { option_copied result ≡ called line.now }
 {
-    matches!(
-        line,
+    match line {
         Line::Step {
-            act: Act::Call(Ask::Get { .. }),
+            act: Act::Call(ask),
             ..
-        }
-    )
+        } => Some(ask),
+        _ => None,
+    }
 }
 
-fn is_put(line: &Line) -> bool
-    ensures { result ≡ is_put line.now }
+fn is_get(ask: Option<&Ask>) -> bool
+    ensures { result ≡ is_get (option_copied ask.entry) }
 {
-    matches!(
-        line,
-        Line::Step {
-            act: Act::Call(Ask::Put { .. }),
-            ..
-        }
-    )
+    matches!(ask, Some(Ask::Get { .. }))
 }
 
-fn is_put_if_absent(line: &Line) -> bool
-    ensures { result ≡ is_put_if_absent line.now }
+fn is_put(ask: Option<&Ask>) -> bool
+    ensures { result ≡ is_put (option_copied ask.entry) }
 {
-    matches!(
-        line,
-        Line::Step {
-            act: Act::Call(Ask::PutIfAbsent { .. }),
-            ..
-        }
-    )
+    matches!(ask, Some(Ask::Put { .. }))
 }
 
-fn is_replace(line: &Line) -> bool
-    ensures { result ≡ is_replace line.now }
+fn is_put_if_absent(ask: Option<&Ask>) -> bool
+    ensures { result ≡ is_put_if_absent (option_copied ask.entry) }
 {
-    matches!(
-        line,
-        Line::Step {
-            act: Act::Call(Ask::Replace { .. }),
-            ..
-        }
-    )
+    matches!(ask, Some(Ask::PutIfAbsent { .. }))
 }
 
-fn is_destroy(line: &Line) -> bool
-    ensures { result ≡ is_destroy line.now }
+fn is_replace(ask: Option<&Ask>) -> bool
+    ensures { result ≡ is_replace (option_copied ask.entry) }
 {
-    matches!(
-        line,
-        Line::Step {
-            act: Act::Call(Ask::Destroy { .. }),
-            ..
-        }
-    )
+    matches!(ask, Some(Ask::Replace { .. }))
+}
+
+fn is_destroy(ask: Option<&Ask>) -> bool
+    ensures { result ≡ is_destroy (option_copied ask.entry) }
+{
+    matches!(ask, Some(Ask::Destroy { .. }))
 }
 
 /// Counts the steps of each kind.
@@ -90,11 +72,12 @@ pub fn count_steps(lines: &[Line]) -> StepCounts
         destroys: 0,
     };
     for line in lines {
-        counts.gets = sum(counts.gets, u64::from(is_get(line)));
-        counts.puts = sum(counts.puts, u64::from(is_put(line)));
-        counts.puts_if_absent = sum(counts.puts_if_absent, u64::from(is_put_if_absent(line)));
-        counts.replaces = sum(counts.replaces, u64::from(is_replace(line)));
-        counts.destroys = sum(counts.destroys, u64::from(is_destroy(line)));
+        let ask = called(line);
+        counts.gets = sum(counts.gets, u64::from(is_get(ask)));
+        counts.puts = sum(counts.puts, u64::from(is_put(ask)));
+        counts.puts_if_absent = sum(counts.puts_if_absent, u64::from(is_put_if_absent(ask)));
+        counts.replaces = sum(counts.replaces, u64::from(is_replace(ask)));
+        counts.destroys = sum(counts.destroys, u64::from(is_destroy(ask)));
     }
     counts
 }

@@ -2,6 +2,7 @@
 use Rattle.std.proofs.Common.{◌≡◌, ℕ, zero, suc, ◌+◌, ◌-◌, ◌<◌, ◌≤◌, List, [], ◌∷◌, ◌++◌, length, get_or, take, drop, set, ◌≢◌, Option}
 use Rattle.std.proofs.Common.{None, Some, Bool, true, false, not, ◌&&◌, ◌||◌, ◌==◌, ltb, leb, refl, sym, ◌∙◌, subst, ap, arith}
 use Rattle.std.proofs.Common.{if◌then◌else◌}
+use Rattle.std.proofs.Math.Bool.{or_assoc}
 use Rattle.std.proofs.lemmas.Bool.Decides.{nat_tests}
 use Rattle.gr_vector.specs.declared.gap.Gap.{Gap}
 use Rattle.std.proofs.lemmas.List.{get_or_default}
@@ -14,10 +15,7 @@ use Rattle.gr_vector.proofs.Apart.{apart_sooner, none_below, holds_is}
 pub missing_append : (q : ℕ) (xs ys : List Gap) → is_missing q (xs ++ ys) ≡ (is_missing q xs || is_missing q ys)
 missing_append q [] ys = refl
 missing_append q (gap ∷ xs) ys = ap (λ b. is_in q gap || b) (missing_append q xs ys)
-    ∙ regroup (is_in q gap) (is_missing q xs) (is_missing q ys)
-  where
-    regroup : (a b c : Bool) → (a || (b || c)) ≡ ((a || b) || c)
-    regroup a b c = grind arith
+    ∙ sym (or_assoc (is_in q gap) (is_missing q xs) (is_missing q ys))
 
 front_missing : (q v : ℕ) (gap : Gap) → is_missing q (front_of v gap) ≡ (leb gap.first q && ltb q v)
 front_missing q v gap = at_test (ltb gap.first v) refl
@@ -196,6 +194,10 @@ pub record IsAt (v place : ℕ) (gap : Gap) (gaps : List Gap) : Type 0 where
   pub is : gap ≡ get_or gaps place gap
   pub lt : place < length gaps
   pub has : is_in v (get_or gaps place gap) ≡ true
+
+pub is_at : (v place : ℕ) (gap : Gap) (gaps : List Gap) → gap ≡ get_or gaps place gap → place < length gaps
+    → HoldsAt (λ g. is_in v g ≡ true) gaps place → IsAt v place gap gaps
+is_at v place gap gaps is lt has = record { is = is; lt = lt; has = has gap }
 
 its_own : (v place : ℕ) (gap : Gap) (gaps : List Gap) → IsAt v place gap gaps → is_in v gap ≡ true
 its_own v place gap gaps at = subst (λ g. is_in v g ≡ true) (sym at.is) at.has

@@ -4,7 +4,10 @@ use Rattle.std.proofs.Common.{refl, sym, ◌∙◌, subst, arith, add-one}
 use Rattle.std.proofs.lemmas.Bool.{ltb-true, ltb-false}
 use Rattle.std.proofs.lemmas.Bool.Decides.{nat_tests}
 use Rattle.std.proofs.lemmas.List.{get_or_default}
-use Rattle.std.proofs.lemmas.List.Sorted.{IsNonDecreasingBy-from_all_adjacent, IsPartitionedBy-ltb}
+use Rattle.std.proofs.lemmas.List.Sorted.{IsNonDecreasingBy-from_all_adjacent, IsPartitionedBy-ltb, IsPartitionPoint-from_clause}
+use denote.Ref.{Bor}
+use denote.Param.Members.{Mut}
+use Rattle.std.specs.Fn.{Called, ComputesKey}
 use Rattle.std.specs.List.Sorted.{IsPartitionedBy, IsPartitionPoint}
 use Rattle.gr_vector.specs.declared.gap.Gap.{Gap}
 use Rattle.gr_vector.specs.declared.gap.TheConstants.{END}
@@ -18,7 +21,7 @@ rising low end (gap ∷ []) h k d lt = absurd (omega (arith, lt))
 rising low end (gap ∷ next ∷ rest) h zero d lt = omega (arith, h.2.0, h.2.1)
 rising low end (gap ∷ next ∷ rest) h (suc k) d lt = rising (gap.last + 2) end (next ∷ rest) h.2 k d (omega (arith, lt))
 
-pub are_parted : (v : ℕ) (gaps : List Gap) → AreGaps gaps → IsPartitionedBy (λ gap. ltb gap.last v) gaps
+are_parted : (v : ℕ) (gaps : List Gap) → AreGaps gaps → IsPartitionedBy (λ gap. ltb gap.last v) gaps
 are_parted v gaps h = IsPartitionedBy-ltb (λ gap. gap.last) gaps v
     (IsNonDecreasingBy-from_all_adjacent (λ gap. gap.last) gaps
     (λ k d lt. subst (λ z. (get_or gaps k d).last ≤ (get_or gaps z d).last) (sym (add-one k))
@@ -56,6 +59,14 @@ is_at v low end (suc place) (gap ∷ rest) d h before lt le =
 -- where the ranges that end below a number stop
 abbrev pub IsPoint : ℕ → List Gap → ℕ → Type 0
 IsPoint v gaps place = IsPartitionPoint (λ gap. ltb gap.last v ≡ true) (λ gap. ltb gap.last v ≡ false) gaps place
+
+-- from the clause of `partition_point`, where each call compares the end of a range
+pub is_point : {F : Type 0} {g : Mut F (Bor Gap × Unit {0}) Bool} {f : F} (v place : ℕ) (gaps : List Gap) → AreGaps gaps
+    → ((q : Gap → Bool) → ComputesKey g q f → IsPartitionedBy q gaps
+    → IsPartitionPoint (λ gap. q gap ≡ true) (λ gap. q gap ≡ false) gaps place)
+    → ((a : Bor Gap × Unit {0}) (r : Bool) (f' : F) → Called g f a r f' → (r ≡ ltb a.0.now.last v) × (f' ≡ f)) → IsPoint v gaps place
+is_point v place gaps h clause gives =
+    IsPartitionPoint-from_clause (λ gap. ltb gap.last v) gaps place clause (are_parted v gaps h) gives
 
 pub point_within : (v place : ℕ) (gaps : List Gap) → AreGaps gaps → v < END → IsPoint v gaps place → place ≤ length gaps
     → place < length gaps

@@ -1,6 +1,7 @@
 -- The ids of a vector: in order, and there exactly where the member's ranges lack them.
 use Rattle.std.proofs.Common.{◌≡◌, ℕ, zero, suc, ◌+◌, ◌-◌, ◌<◌, ◌≤◌, List, [], ◌∷◌, ◌++◌, Bool, true, false, not, ◌&&◌, ◌||◌, ◌==◌, ltb}
 use Rattle.std.proofs.Common.{leb, refl, sym, ◌∙◌, subst, ap, arith, if◌then◌else◌}
+use Rattle.std.proofs.Math.Bool.{or_assoc}
 use Rattle.std.proofs.lemmas.Bool.Decides.{nat_tests}
 use Rattle.gr_vector.specs.declared.gap.Gap.{Gap}
 use Rattle.gr_vector.specs.Gaps.{Missing, is_missing, greatest, holds}
@@ -12,10 +13,7 @@ use Rattle.gr_vector.proofs.Order.{has_with, has_united, with_sorted, united_sor
 has_append : (id : Id) (xs ys : List Id) → has_id id (xs ++ ys) ≡ (has_id id xs || has_id id ys)
 has_append id [] ys = refl
 has_append id (first ∷ xs) ys = ap (λ b. is_same_id first id || b) (has_append id xs ys)
-    ∙ regroup (is_same_id first id) (has_id id xs) (has_id id ys)
-  where
-    regroup : (a b c : Bool) → (a || (b || c)) ≡ ((a || b) || c)
-    regroup a b c = grind arith
+    ∙ sym (or_assoc (is_same_id first id) (has_id id xs) (has_id id ys))
 
 has_numbers : (id : Id) (member n : ℕ) (gaps : List Gap)
     → has_id id (ids_of member (numbers n gaps)) ≡ (member == id.member && (ltb 0 id.rv && (leb id.rv n && not (is_missing id.rv gaps))))

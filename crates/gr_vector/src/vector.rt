@@ -82,6 +82,16 @@ fn copy_each(alloc: Global, members: &[Missing]) -> Result<Vec<Missing>, Memory>
     Ok(copies)
 }
 
+// What is missing of a member's numbers.
+fn missing_of(members: &[Missing], member: u8) -> &Missing
+    requires eight { length members.now ≡ 8 }
+    requires a_member { 1 ≤ member }
+    requires of_eight { member ≤ 8 }
+    ensures { result.now ≡ slice_index_or members.now (member - 1) (record { gaps = []; spare = 0 }) }
+{
+    &members[usize::from(member) - 1]
+}
+
 impl Vector {
     pub fn new(alloc: Global) -> Result<Vector, Memory>
         ensures { IfOk result (λ vector. vector ≡ record { ids = []; spare = 0 }) }
@@ -99,7 +109,7 @@ impl Vector {
         requires in_range { rv < END }
         ensures { result ≡ has_id (record { member = member; rv = rv }) self.now.ids }
     {
-        self.members[usize::from(member) - 1].holds(rv)
+        missing_of(&self.members, member).holds(rv)
     }
 
     /// Whether all of the member's numbers from 1 to this one are held.
@@ -108,7 +118,7 @@ impl Vector {
         requires of_eight { member ≤ 8 }
         ensures { result ≡ covers member upto self.now.ids }
     {
-        self.members[usize::from(member) - 1].covers(upto)
+        missing_of(&self.members, member).covers(upto)
     }
 
     /// The greatest of the member's numbers that are held, or 0.
@@ -118,7 +128,7 @@ impl Vector {
         ensures top { result ≡ top member self.now.ids }
         ensures within { result < END }
     {
-        self.members[usize::from(member) - 1].top()
+        missing_of(&self.members, member).top()
     }
 
     /// How many ranges of missing numbers there are below the member's greatest.
@@ -127,7 +137,7 @@ impl Vector {
         requires of_eight { member ≤ 8 }
         ensures { result ≡ exceptions member self.now.ids }
     {
-        self.members[usize::from(member) - 1].exceptions()
+        missing_of(&self.members, member).exceptions()
     }
 
     /// Makes room for one id, whichever it is.

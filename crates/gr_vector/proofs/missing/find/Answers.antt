@@ -1,6 +1,5 @@
-use Rattle.std.proofs.Common.{rules, ◌-◌, length, arith, ltb}
-use Rattle.std.proofs.lemmas.List.Sorted.{IsPartitionPoint-from_clause}
-use Rattle.gr_vector.proofs.Places.{are_parted, IsPoint, point_within, point_in, point_out, last_in}
+use Rattle.std.proofs.Common.{rules, ◌-◌, length, arith}
+use Rattle.gr_vector.proofs.Places.{is_point, point_within, point_in, point_out, last_in}
 use Rattle.gr_vector.proofs.Apart.{not_empty}
 use Rattle.gr_vector.proofs.missing.find.Goals as goal
 
@@ -12,32 +11,28 @@ returns-then-gaps-last-clause-place c = λ d.
 
 pub bounds-gaps-place : goal.bounds-gaps-place
 bounds-gaps-place c =
-    let point : IsPoint c.args.number c.args.gaps.now c.partition_point-place.result =
-    IsPartitionPoint-from_clause (λ gap. ltb gap.last c.args.number) c.args.gaps.now c.partition_point-place.result
-    c.partition_point-place.ensures.partitioned (are_parted c.args.number c.args.gaps.now c.requires.gaps) (λ a r f k. search rules) in
+    let point = is_point c.args.number c.partition_point-place.result c.args.gaps.now c.requires.gaps
+    c.partition_point-place.ensures.partitioned (λ a r f k. search rules) in
     point_within c.args.number c.partition_point-place.result c.args.gaps.now c.requires.gaps c.requires.number point
     c.partition_point-place.ensures.bound
 
 pub returns-then-gaps-place-clause-within : goal.returns-then-gaps-place-clause-within
 returns-then-gaps-place-clause-within c =
-    let point : IsPoint c.args.number c.args.gaps.now c.partition_point-place.result =
-    IsPartitionPoint-from_clause (λ gap. ltb gap.last c.args.number) c.args.gaps.now c.partition_point-place.result
-    c.partition_point-place.ensures.partitioned (are_parted c.args.number c.args.gaps.now c.requires.gaps) (λ a r f k. search rules) in
+    let point = is_point c.args.number c.partition_point-place.result c.args.gaps.now c.requires.gaps
+    c.partition_point-place.ensures.partitioned (λ a r f k. search rules) in
     point_within c.args.number c.partition_point-place.result c.args.gaps.now c.requires.gaps c.requires.number point
     c.partition_point-place.ensures.bound
 
 pub returns-then-gaps-place-clause-place : goal.returns-then-gaps-place-clause-place
 returns-then-gaps-place-clause-place c = λ d.
-    let point : IsPoint c.args.number c.args.gaps.now c.partition_point-place.result =
-    IsPartitionPoint-from_clause (λ gap. ltb gap.last c.args.number) c.args.gaps.now c.partition_point-place.result
-    c.partition_point-place.ensures.partitioned (are_parted c.args.number c.args.gaps.now c.requires.gaps) (λ a r f k. search rules) in
+    let point = is_point c.args.number c.partition_point-place.result c.args.gaps.now c.requires.gaps
+    c.partition_point-place.ensures.partitioned (λ a r f k. search rules) in
     point_in c.args.number c.partition_point-place.result c.args.gaps.now d _ c.requires.gaps c.requires.number point
     c.partition_point-place.ensures.bound c.if-gaps-place.true
 
 pub returns-else-gaps-place-clause-place : goal.returns-else-gaps-place-clause-place
 returns-else-gaps-place-clause-place c =
-    let point : IsPoint c.args.number c.args.gaps.now c.partition_point-place.result =
-    IsPartitionPoint-from_clause (λ gap. ltb gap.last c.args.number) c.args.gaps.now c.partition_point-place.result
-    c.partition_point-place.ensures.partitioned (are_parted c.args.number c.args.gaps.now c.requires.gaps) (λ a r f k. search rules) in
+    let point = is_point c.args.number c.partition_point-place.result c.args.gaps.now c.requires.gaps
+    c.partition_point-place.ensures.partitioned (λ a r f k. search rules) in
     point_out c.args.number c.partition_point-place.result c.args.gaps.now _ c.requires.gaps c.requires.number point
     c.partition_point-place.ensures.bound c.if-gaps-place.false

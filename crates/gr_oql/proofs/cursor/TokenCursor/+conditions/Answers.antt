@@ -1,4 +1,3 @@
-use Rattle.std.proofs.Common.{map}
 use Rattle.std.proofs.lemmas.Result.{err_from_is_err_and}
 use Rattle.gr_oql.specs.Reader.Gives.{alias_of}
 use Rattle.gr_oql.specs.declared.keyword.Keyword.TheVariants as word

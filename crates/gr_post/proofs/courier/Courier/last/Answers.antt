@@ -1,7 +1,6 @@
-use Rattle.std.proofs.Common.{ap, subst, ◌∙◌}
-use Rattle.gr_post.specs.declared.stage.Stage.{Stage}
-use Rattle.gr_post.specs.Couriers.{Carrying, IsCarried, passes_of}
-use Rattle.gr_post.proofs.Carried.{follows_plan, ends, settled_passes, lines_same, on_err}
+use Rattle.std.proofs.Common.{ap, ◌∙◌}
+use Rattle.gr_post.specs.Couriers.{Carrying, passes_of}
+use Rattle.gr_post.proofs.Carried.{follows_plan, was_open, ends, settled_passes, lines_same, on_err}
 use Rattle.gr_post.proofs.courier.Courier.last.Goals as goal
 
 pub returns-in_err-prepare_last_each-clause-err : goal.returns-in_err-prepare_last_each-clause-err
@@ -14,9 +13,8 @@ returns-in_err-prepare_last_each-clause-err c =
 
 pub returns-clause-passes : goal.returns-clause-passes
 returns-clause-passes c =
-    let p = c.prepare_last_each in
-    let q = c.settle_each in
-    settled_passes c.self.inside.lanes.items p.new.lanes.items q.new.lanes.items p.ensures.count q.ensures.count p.ensures.same q.ensures.each
+    settled_passes c.self.inside.lanes.items c.prepare_last_each.new.lanes.items c.settle_each.new.lanes.items
+    c.prepare_last_each.ensures.count c.settle_each.ensures.count c.prepare_last_each.ensures.same c.settle_each.ensures.each
     ∙ ap passes_of c.self.view_is
 
 pub returns-clause-plan : goal.returns-clause-plan
@@ -24,8 +22,7 @@ returns-clause-plan c =
     let s = c.self.inside in
     let p = c.prepare_last_each in
     let q = c.settle_each in
-    let open_ = ap (λ (k : Carrying). k.stage) c.self.view_is ∙ c.requires.open in
-    let was = subst (λ (t : Stage). IsCarried s.lanes.items s.posted.items s.first s.number t) open_ c.self.invariant.0 in
+    let was = was_open s.lanes.items s.posted.items s.first s.number s.stage _ c.self.view_is c.requires.open c.self.invariant.0 in
     follows_plan q.new.lanes.items s.posted.items s.first s.number _
     (ends s.lanes.items p.new.lanes.items q.new.lanes.items s.posted.items s.first s.number was p.ensures.count q.ensures.count
     c.in_ok-prepare_last_each.ensures.ready q.ensures.each)

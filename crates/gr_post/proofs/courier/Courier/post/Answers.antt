@@ -2,8 +2,8 @@ use Rattle.std.proofs.Common.{ap, sym, subst, ◌∙◌, ◌++◌, ◌∷◌, []
 use Rattle.gr_post.specs.declared.mail.Posting.{Posting}
 use Rattle.gr_post.specs.declared.stage.Stage.{Stage}
 use Rattle.gr_post.specs.declared.stage.Stage.TheVariants.{Open}
-use Rattle.gr_post.specs.Couriers.{Carrying, carrying, IsCarried, FollowsPlan, passes_of}
-use Rattle.gr_post.proofs.Carried.{follows_plan, posts, settled_passes, lines_same, on_err}
+use Rattle.gr_post.specs.Couriers.{Carrying, carrying, FollowsPlan, passes_of}
+use Rattle.gr_post.proofs.Carried.{follows_plan, was_open, posts, settled_passes, lines_same, on_err}
 use Rattle.gr_post.proofs.courier.Courier.post.Goals as goal
 
 pub returns-in_err-after-clause-err : goal.returns-in_err-after-clause-err
@@ -16,9 +16,8 @@ returns-in_err-after-clause-err c =
 
 pub returns-clause-passes : goal.returns-clause-passes
 returns-clause-passes c =
-    let p = c.prepare_each in
-    let q = c.settle_each in
-    settled_passes c.self.inside.lanes.items p.new.lanes.items q.new.lanes.items p.ensures.count q.ensures.count p.ensures.same q.ensures.each
+    settled_passes c.self.inside.lanes.items c.prepare_each.new.lanes.items c.settle_each.new.lanes.items
+    c.prepare_each.ensures.count c.settle_each.ensures.count c.prepare_each.ensures.same c.settle_each.ensures.each
     ∙ ap passes_of c.self.view_is
 
 pub returns-clause-plan : goal.returns-clause-plan
@@ -30,7 +29,7 @@ returns-clause-plan c =
     let posted = c.push_reserved.new.self.items in
     let one : Posting = record { mail = c.args.mail.now; to = c.args.to } in
     let open_ = ap (λ (k : Carrying). k.stage) c.self.view_is ∙ c.requires.open in
-    let was = subst (λ (t : Stage). IsCarried s.lanes.items s.posted.items s.first s.number t) open_ c.self.invariant.0 in
+    let was = was_open s.lanes.items s.posted.items s.first s.number s.stage _ c.self.view_is c.requires.open c.self.invariant.0 in
     let more = c.push_reserved.ensures.items ∙ (λ i. c.reserve.ensures.items i ++ record { mail = c.in_ok-copy.ensures i; to = c.args.to } ∷ []) in
     subst (λ (t : Stage). FollowsPlan (carrying now posted s.first t)) (sym open_)
     (follows_plan now posted s.first c.in_ok-after.after Open
