@@ -12,11 +12,14 @@ pub fn put_text(out: &mut Vec<u8>, text: &str) -> Result<(), Memory>
     Ok(())
 }
 
-/// Puts a number last, in decimal digits.
+/// Puts a number last, in decimal digits. The digits of 64 bits are found faster than those of more.
 pub fn put_number(out: &mut Vec<u8>, number: u128) -> Result<(), Memory>
     ensures { OnOk result (out.new.items ≡ out.old.items ++ decimal number) }
 {
-    put_text(out, Buffer::new().format(number))
+    match u64::try_from(number) {
+        Ok(small) => put_text(out, Buffer::new().format(small)),
+        Err(_) => put_text(out, Buffer::new().format(number)),
+    }
 }
 
 /// Puts a word and a number behind it last.

@@ -28,9 +28,9 @@ impl<'a> Model for Cursor<'a> {
     ghost view = { λ cursor. cursor.rest.now };
 }
 
-// How many bytes stand for themselves in a quoted text, up to the first that doesn't.
+/// How many bytes stand for themselves in a quoted text, up to the first that doesn't.
 #[tactic(auto, using(crate::proofs::PlainBytes::plain_more))]
-fn plain_len(bytes: &[u8]) -> usize
+pub(crate) fn plain_len(bytes: &[u8]) -> usize
     ensures within { result ≤ length bytes.now }
     ensures plain { flat_map escaped (take result bytes.now) ≡ take result bytes.now }
 {

@@ -4,9 +4,13 @@ ghost use Rattle.gr_value.specs.ValueText.{escaped, quoted, scalar_text, field_t
 ghost use Rattle.gr_value.specs.Values.{IsValue};
 ghost use Rattle.gr_value.specs.declared.value.Field.{Field as AField};
 
+use crate::plain::plain_len;
 use crate::{Field, Memory, Scalar, Value};
 use itoa::Buffer;
 use std::alloc::Global;
+
+/// Most values have no longer text.
+const USUAL_BYTES: usize = 64;
 
 fn hex_digit(digit: u8) -> u8
     requires { digit < 16 }
@@ -47,13 +51,24 @@ fn put_escaped(byte: u8, out: &mut Vec<u8>) -> Result<(), Memory>
     Ok(())
 }
 
+fn put_escapes(text: &[u8], out: &mut Vec<u8>) -> Result<(), Memory>
+    ensures { OnOk result (out.new.items ≡ out.old.items ++ flat_map escaped text.now) }
+{
+    for byte in text {
+        put_escaped(*byte, out)?;
+    }
+    Ok(())
+}
+
+// The bytes in front that stand for themselves are put at once: few texts have others.
 fn put_quoted(text: &str, out: &mut Vec<u8>) -> Result<(), Memory>
     ensures { OnOk result (out.new.items ≡ out.old.items ++ quoted text.now) }
 {
+    let bytes = text.as_bytes();
+    let (plain, rest) = bytes.split_at(plain_len(bytes));
     out.push(b'"')?;
-    for byte in text.as_bytes() {
-        put_escaped(*byte, out)?;
-    }
+    out.extend_from_slice(plain)?;
+    put_escapes(rest, out)?;
     out.push(b'"')?;
     Ok(())
 }
@@ -113,7 +128,7 @@ impl Value {
         ensures ok { OnOk result (out.new.items ≡ out.old.items ++ value_text self.now) }
         ensures err { OnErr result (out.new.items ≡ out.old.items) }
     {
-        let mut text = Vec::new(alloc);
+        let mut text = Vec::with_capacity(alloc, USUAL_BYTES)?;
         put_fields(self.fields(), &mut text)?;
         out.extend_from_slice(&text)?;
         Ok(())
