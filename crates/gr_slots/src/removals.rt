@@ -75,16 +75,24 @@ pub fn take(removals: &mut BTreeSet<(u64, Key)>, at: Option<u64>, key: Key)
     }
 }
 
-/// Sets what stands at the key, among the slots alone.
-pub fn insert(entries: &mut BTreeMap<Key, Slot>, key: Key, slot: Slot) -> Result<(), Memory>
-    ensures ok { OnOk result (entries.new.entries ≡ with_slot key slot entries.old.entries) }
-    ensures set { OnOk result ((q : List ℕ) → get (slice_cmp nat_cmp) entries.new q
+/// Sets what stands at the key, among the slots alone, and tells when what stood there came in, where
+/// it was a removal. Only a key that had no slot can be refused memory.
+pub fn insert(
+    entries: &mut BTreeMap<Key, Slot>,
+    key: Key,
+    slot: Slot,
+) -> (Option<u64>, Result<(), Memory>)
+    ensures before { result.0 ≡ removed_at (get (slice_cmp nat_cmp) entries.old key) }
+    ensures ok { OnOk result.1 (entries.new.entries ≡ with_slot key slot entries.old.entries) }
+    ensures set { OnOk result.1 ((q : List ℕ) → get (slice_cmp nat_cmp) entries.new q
         ≡ cond (is_at (slice_cmp nat_cmp key) q) (Some slot) (get (slice_cmp nat_cmp) entries.old q)) }
-    ensures err { OnErr result (entries.new.entries ≡ entries.old.entries) }
+    ensures err { OnErr result.1 (entries.new.entries ≡ entries.old.entries) }
     ensures ordered { IsOrdered (slice_cmp nat_cmp) entries.new }
 {
-    entries.insert(key, slot)?;
-    Ok(())
+    match entries.insert(key, slot) {
+        Ok(before) => (removed_at(before.as_ref()), Ok(())),
+        Err(_) => (None, Err(Memory)),
+    }
 }
 
 /// The keys of the removals that have timed out, which come first.

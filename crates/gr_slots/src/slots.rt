@@ -61,11 +61,10 @@ impl Slots {
         ensures ok { OnOk result (self.new ≡ with_slot key slot self.old) }
         ensures err { OnErr result (self.new ≡ self.old) }
     {
-        let before = removed_at(self.entries.get(&key));
         let after = removed_at(Some(&slot));
         let again = key.copy(self.alloc)?;
         add(self.alloc, &mut self.removals, after, &key)?;
-        let set = insert(&mut self.entries, key, slot);
+        let (before, set) = insert(&mut self.entries, key, slot);
         take(
             &mut self.removals,
             stale_of(before, after, set.is_ok()),
