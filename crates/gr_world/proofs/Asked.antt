@@ -15,7 +15,7 @@ use Rattle.gr_world.specs.Events.{Event, Gathered, history}
 use Rattle.gr_world.specs.Worlds.{AreAsked, HasMade, IsDone, IsWorld, Plays, told_also}
 use Rattle.gr_world.proofs.Asking.{not_yet}
 use Rattle.gr_world.proofs.Lists.{numbers_more}
-use Rattle.gr_world.proofs.Worlds.{done_left, for_each_plays, quiet_plays, tellings_next}
+use Rattle.gr_world.proofs.Worlds.{done_left, for_each_plays, kept_made, quiet_plays, tellings_next}
 
 pub asked_none : (heading : Heading) (client seq : ℕ) (ask : QueryAsk) (replies : List QueryReply) (world : World) → replies ≡ []
     → AreAsked heading client seq ask 0 replies world world
@@ -68,6 +68,7 @@ query_plays heading old mid new client seq ask replies stated asked grid_same te
       grid_is = grid_same ∙ left.grid_is;
       tellings_are = tells ∙ ap (λ lists. told_also lists client (answer.Asked replies)) left.tellings_are
           ∙ tellings_next heading now (Gathered client seq replies) client seq _ stated (λ c. refl);
-      made_are = subst (HasMade told) (sym made_same) left.made_are;
+      made_are = subst (HasMade heading told) (sym made_same)
+          (kept_made heading (Gathered client seq replies) now mid.made (λ c number. refl) left.made_are);
     } in
     subst (λ all. IsWorld heading (Gathered client seq all ∷ now) new) (asked.replies_are events world) here

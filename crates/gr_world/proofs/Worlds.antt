@@ -1,7 +1,7 @@
 -- One event more leaves one deed and one answer more.
-use Rattle.std.proofs.Common.{◌≡◌, ◌∙◌, ap, sym, subst, refl, ℕ, ◌+◌, ◌-◌, ◌≤◌, ◌<◌, List, [], ◌∷◌, ◌++◌, length, reverse, map}
+use Rattle.std.proofs.Common.{◌≡◌, ◌∙◌, ap, sym, subst, refl, ℕ, zero, suc, ◌+◌, ◌-◌, ◌≤◌, ◌<◌, List, [], ◌∷◌, ◌++◌, length, reverse, map}
 use Rattle.std.proofs.Common.{Bool, true, false, ◌&&◌, ◌==◌, add-one, arith, get_or, set, if◌then◌else◌}
-use Rattle.std.specs.Prelude.{Option, Some, None}
+use Rattle.std.specs.Prelude.{Option, Some, None, option_and_then, option_map, slice_get}
 use Rattle.std.proofs.lemmas.Bool.Decides.{nat_tests}
 use Rattle.std.proofs.lemmas.Grind.{reverse_onto}
 use Rattle.std.proofs.lemmas.List.{reverse-reverse, length-reverse}
@@ -19,24 +19,25 @@ use Rattle.gr_script.specs.declared.line.Act.TheVariants as act
 use Rattle.gr_script.specs.declared.line.Line.TheVariants.{Step, Deliver}
 use Rattle.gr_script.specs.Rules.{Heading, IsMember, IsStated, home_of}
 use Rattle.gr_world.specs.declared.world.World.{World}
-use Rattle.gr_world.specs.Events.{Event, Did, Peeked, put_if, history}
+use Rattle.gr_world.specs.Events.{Event, Did, Peeked, Gathered, put_if, history}
 use Rattle.gr_world.specs.Clients.{Numbered, add_some, told, told_by, told_by_deed}
 use Rattle.gr_world.specs.Numbered.{numbers_from}
 use Rattle.gr_world.specs.Records.{answers}
 use Rattle.gr_world.specs.Doings.{Doing, Calls, Takes, call_with, deed_of}
-use Rattle.gr_world.specs.Named.{made_by, made_by_deed, numbered, or_else, reports}
+use Rattle.gr_world.specs.Named.{made_by, made_by_deed, made_in, numbered, or_else, reports}
 use Rattle.gr_world.specs.Tasks.{doing_of}
 use Rattle.gr_world.specs.declared.task.Task.{Task}
 use Rattle.gr_world.specs.declared.task.Task.TheVariants as task
 use Rattle.gr_world.specs.Courses.{identity_at, does, delivers, for_each, hears, hears_of, after}
-use Rattle.gr_world.specs.Worlds.{HasMade, IsAtWork, IsCell, IsDone, IsWorld, Notes, Plays, account_at, account_in, account_left, deed_at}
-use Rattle.gr_world.specs.Worlds.{grid_left, grid_with, longer, no_account, number_of, row_with, tellings_left, told_also}
+use Rattle.gr_world.specs.declared.place.Place.{Place}
+use Rattle.gr_world.specs.Worlds.{HasMade, IsAtWork, IsCell, IsDone, IsFound, IsWorld, Notes, Plays, StandsAt, account_at, account_in}
+use Rattle.gr_world.specs.Worlds.{account_left, deed_at, grid_left, grid_with, longer, no_account, number_of, row_with, tellings_left, told_also}
 use Rattle.std.specs.Ordering.{nat_cmp}
-use Rattle.std.specs.BTreeMap.{get}
+use Rattle.std.specs.BTreeMap.{BTreeMap, get}
 use Rattle.gr_stamp.specs.declared.change.Change.{Change}
 use Rattle.gr_history.specs.declared.identity.Identity.{Identity}
 use Rattle.gr_vector.specs.declared.report.Report.{Report}
-use Rattle.gr_world.proofs.Events.{history_here, same_number}
+use Rattle.gr_world.proofs.Events.{at_put, history_here, same_number}
 use Rattle.gr_world.proofs.Lists.{numbers_get, numbers_length, numbers_same, numbers_set}
 
 -- the accounts of a member's shards
@@ -174,32 +175,111 @@ done_left heading events old new member shard doing deed is within same done =
           ∙ grid_next heading events member shard _ is within,
     )
 
--- A call adds its deed and tells its reply, and what it made is noted.
-pub call_plays : (heading : Heading) (old new : World) (member shard client seq : ℕ) (ask : Ask) (done : Done)
+-- ---- where what was made stands
+
+kept_get : {A : Type 0} (xs : List A) (y x : A) (k : ℕ) → slice_get xs k ≡ Some x → slice_get (xs ++ y ∷ []) k ≡ Some x
+kept_get [] y x k h = absurd cc
+kept_get (z ∷ xs) y x zero h = h
+kept_get (z ∷ xs) y x (suc k) h = kept_get xs y x k h
+
+last_get : {A : Type 0} (xs : List A) (y : A) → slice_get (xs ++ y ∷ []) (length xs) ≡ Some y
+last_get [] y = refl
+last_get (x ∷ xs) y = last_get xs y
+
+-- What was found is found after one event more.
+kept_found : (heading : Heading) (event : Event) (events : List Event) (found : Option Place) (made : Option Change)
+    → IsFound heading events found made → IsFound heading (event ∷ events) found made
+kept_found heading event events None made is = is
+kept_found heading event events (Some place) made is = record {
+  member = is.member;
+  shard = is.shard;
+  deed = is.deed;
+  found = still event;
+  made_is = is.made_is;
+}
+  where
+    still : (one : Event)
+        → slice_get (reverse (history place.site.member place.site.shard (one ∷ events))) place.at ≡ Some is.deed
+    still (Did m s deed) =
+        let past = history place.site.member place.site.shard events in
+        at_put (λ deeds. slice_get (reverse deeds) place.at ≡ Some is.deed) (place.site.shard == s && place.site.member == m) deed past
+        is.found
+        (λ h. ap (λ deeds. slice_get deeds place.at) (reverse_onto past deed []) ∙ kept_get (reverse past) deed is.deed place.at h)
+    still (Peeked client number key value at) = is.found
+    still (Gathered client number replies) = is.found
+
+-- An event that makes nothing leaves the table right.
+pub kept_made : (heading : Heading) (event : Event) (events : List Event) (table : BTreeMap ℕ Place)
+    → ((client number : ℕ) → made_by client number events ≡ made_by client number (event ∷ events))
+    → HasMade heading events table → HasMade heading (event ∷ events) table
+kept_made heading event events table same has client number low =
+    subst (IsFound heading (event ∷ events) (get nat_cmp table (number_of client number))) (same client number)
+    (kept_found heading event events _ _ (has client number low))
+
+-- What a call made stands behind all that stood in its history.
+made_last : (heading : Heading) (events : List Event) (place : Place) (deed : Deed)
+    → IsMember heading place.site.member → place.site.shard < heading.shards
+    → place.at ≡ length (history place.site.member place.site.shard events)
+    → StandsAt heading (Did place.site.member place.site.shard deed ∷ events) place (made_in deed)
+made_last heading events place deed is within at_end =
+    let past = history place.site.member place.site.shard events in
+    record {
+      member = is;
+      shard = within;
+      deed = deed;
+      found =
+          ap (λ deeds. slice_get (reverse deeds) place.at) (history_here place.site.member place.site.shard deed events)
+          ∙ ap (λ deeds. slice_get deeds place.at) (reverse_onto past deed [])
+          ∙ ap (slice_get (reverse past ++ deed ∷ [])) (at_end ∙ sym (length-reverse past))
+          ∙ last_get (reverse past) deed;
+      made_is = refl;
+    }
+
+-- A call adds its deed and tells its reply, and where what it made stands is noted.
+pub call_plays : (heading : Heading) (old new : World) (member shard at client seq : ℕ) (ask : Ask) (done : Done)
     → IsMember heading member → IsStated client heading
     → member ≡ home_of heading client → shard ≡ shard_of (key_of ask) heading.shards → shard < heading.shards
     → IsDone old.grid new.grid member shard (Calls client seq ask) (call_with client seq ask done)
-    → Notes client seq done.made old.made new.made
+    → at ≡ length (account_at old.grid member shard).deeds
+    → Notes client seq (option_map (λ _. record { site = record { member = member; shard = shard }; at = at }) done.made) old.made new.made
     → new.tellings ≡ told_also old.tellings client (answer.Reply done.reply)
     → Plays heading (after heading (Step client seq (act.Call ask))) old new
-call_plays heading old new member shard client seq ask done is stated at_home at_shard within called notes tells events world =
+call_plays heading old new member shard at client seq ask done is stated at_home at_shard within called behind notes tells events world =
     let doing = Calls client seq ask in
-    let made =
-    done_left heading events old.grid new.grid member shard doing (call_with client seq ask done) is within world.grid_is called in
-    let did : List Event = Did member shard (call_with client seq ask done) ∷ events in
-    let same : did ≡ does heading member shard doing events = ap (λ deed. Did member shard deed ∷ events) made.0 in
+    let past = history member shard events in
+    let made = done_left heading events old.grid new.grid member shard doing deed is within world.grid_is called in
+    let did : List Event = Did member shard deed ∷ events in
+    let same : did ≡ does heading member shard doing events = ap (λ one. Did member shard one ∷ events) made.0 in
     let tellings : new.tellings ≡ tellings_left heading did =
     tells ∙ ap (λ lists. told_also lists client (answer.Reply done.reply)) world.tellings_are
-    ∙ tellings_next heading events (Did member shard (call_with client seq ask done)) client seq _ stated (λ c. refl) in
+    ∙ tellings_next heading events (Did member shard deed) client seq _ stated (λ c. refl) in
+    let at_end : at ≡ length past =
+    behind ∙ ap (λ grid. length (account_at grid member shard).deeds) world.grid_is
+    ∙ ap (λ account. length account.deeds) (cell_left heading events member shard is within) ∙ length-reverse past in
     let here : IsWorld heading (does heading member shard doing events) new = record {
       grid_is = made.1;
       tellings_are = tellings ∙ ap (tellings_left heading) same;
-      made_are = subst (λ all. HasMade all new.made) same
-          (λ own number low. notes own number low
-          ∙ ap (or_else (if client == own && seq == number then done.made else None)) (world.made_are own number low));
+      made_are = subst (λ all. HasMade heading all new.made) same
+          (λ own number low. subst (λ found. IsFound heading did found (made_by own number did)) (sym (notes own number low))
+          (noted at_end (client == own && seq == number) done.made _ _ refl (world.made_are own number low)));
     } in
     subst (λ s. IsWorld heading (does heading (home_of heading client) s doing events) new) at_shard
     (subst (λ m. IsWorld heading (does heading m shard doing events) new) at_home here)
+  where
+    place : Place
+    place = record { site = record { member = member; shard = shard }; at = at }
+
+    deed : Deed
+    deed = call_with client seq ask done
+
+    noted : place.at ≡ length (history member shard events) → (b : Bool) (o : Option Change) (found : Option Place) (before : Option Change)
+        → done.made ≡ o → IsFound heading events found before
+        → IsFound heading (Did member shard deed ∷ events) (or_else (if b then option_map (λ _. place) o else None) found)
+        (or_else (if b then o else None) before)
+    noted at_end true (Some change) found before made_is had =
+        subst (StandsAt heading (Did member shard deed ∷ events) place) made_is (made_last heading events place deed is within at_end)
+    noted at_end true None found before made_is had = kept_found heading (Did member shard deed) events found before had
+    noted at_end false o found before made_is had = kept_found heading (Did member shard deed) events found before had
 
 -- A deed that makes nothing, and tells no client anything.
 pub record IsQuiet (deed : Deed) : Type 0 where
@@ -240,9 +320,9 @@ quiet_plays heading old new member shard doing deed is_quiet is within did tells
     record {
       grid_is = done.1;
       tellings_are = tells ∙ world.tellings_are ∙ untold_left heading events member shard added quiet;
-      made_are =
-          λ client number low. ap (λ table. get nat_cmp table (number_of client number)) made_same ∙ world.made_are client number low
-          ∙ ap (λ o. or_else o (made_by client number events)) (sym (quiet.unmade client number));
+      made_are = subst (HasMade heading (Did member shard added ∷ events)) (sym made_same)
+          (kept_made heading (Did member shard added) events old.made
+          (λ client number. ap (λ o. or_else o (made_by client number events)) (sym (quiet.unmade client number))) world.made_are);
     }
 
 -- A task adds its deed.
@@ -251,14 +331,45 @@ pub task_plays : (heading : Heading) (old new : World) (member shard : ℕ) (tas
 task_plays heading old new member shard task_ deed =
     quiet_plays heading old new member shard (doing_of task_) deed (λ id opening past. quiet_task id opening past task_)
 
+-- what a step made, by each course that left the world
+abbrev pub IsChangeOf : Heading → World → ℕ → ℕ → Option Change → Type 0
+IsChangeOf heading world client seq made = (events : List Event) → IsWorld heading events world → made ≡ made_by client seq events
+
+-- What stands at the place that the table has is what the step made.
+pub found_change : (heading : Heading) (world : World) (client seq : ℕ) (place : Place) → seq < 2 ^ 32
+    → get nat_cmp world.made (number_of client seq) ≡ Some place
+    → IsChangeOf heading world client seq
+    (option_and_then made_in (slice_get (account_at world.grid place.site.member place.site.shard).deeds place.at))
+found_change heading world client seq place low is_found events is =
+    let stands : StandsAt heading events place (made_by client seq events) =
+    subst (λ found. IsFound heading events found (made_by client seq events)) is_found (is.made_are client seq low) in
+    ap (λ grid. option_and_then made_in (slice_get (account_at grid place.site.member place.site.shard).deeds place.at)) is.grid_is
+    ∙ ap (λ account. option_and_then made_in (slice_get account.deeds place.at))
+    (cell_left heading events place.site.member place.site.shard stands.member stands.shard)
+    ∙ ap (option_and_then made_in) stands.found ∙ stands.made_is
+
+pub found_cell : (heading : Heading) (world : World) (client seq : ℕ) (place : Place) → seq < 2 ^ 32
+    → get nat_cmp world.made (number_of client seq) ≡ Some place → IsAtWork heading world
+    → IsCell world.grid place.site.member place.site.shard
+found_cell heading world client seq place low is_found (events, is) =
+    let stands : StandsAt heading events place (made_by client seq events) =
+    subst (λ found. IsFound heading events found (made_by client seq events)) is_found (is.made_are client seq low) in
+    subst (λ grid. IsCell grid place.site.member place.site.shard) (sym is.grid_is)
+    (is_cell heading events place.site.member place.site.shard stands.member stands.shard)
+
+pub found_nothing : (heading : Heading) (world : World) (client seq : ℕ) → seq < 2 ^ 32
+    → get nat_cmp world.made (number_of client seq) ≡ None → IsChangeOf heading world client seq None
+found_nothing heading world client seq low is_found events is =
+    sym (subst (λ found. IsFound heading events found (made_by client seq events)) is_found (is.made_are client seq low))
+
 -- What was made is taken in, in the shard of its key.
-pub deliver_plays : (heading : Heading) (old new : World) (to client seq shard : ℕ) (change : Change) → seq < 2 ^ 32
-    → get nat_cmp old.made (number_of client seq) ≡ Some change
+pub deliver_plays : (heading : Heading) (old new : World) (to client seq shard : ℕ) (change : Change)
+    → IsChangeOf heading old client seq (Some change)
     → shard ≡ shard_of change.key heading.shards
     → Plays heading (does heading to shard (Takes change)) old new
     → Plays heading (after heading (Deliver to client seq)) old new
-deliver_plays heading old new to client seq shard change low found at_shard plays events world =
-    subst (λ o. IsWorld heading (delivers heading to o events) new) (sym found ∙ world.made_are client seq low)
+deliver_plays heading old new to client seq shard change is_made at_shard plays events world =
+    subst (λ o. IsWorld heading (delivers heading to o events) new) (is_made events world)
     (subst (λ s. IsWorld heading (does heading to s (Takes change) events) new) at_shard (plays events world))
 
 -- The report of the number is heard, where there is one.
@@ -277,11 +388,10 @@ hear_plays heading old new by of number shard found is within is_found plays eve
     subst (λ o. IsWorld heading (hears heading by shard o events) new) here (plays events world)
 
 -- A step that made nothing delivers nothing.
-pub nothing_plays : (heading : Heading) (world : World) (to client seq : ℕ) → seq < 2 ^ 32
-    → get nat_cmp world.made (number_of client seq) ≡ None
+pub nothing_plays : (heading : Heading) (world : World) (to client seq : ℕ) → IsChangeOf heading world client seq None
     → Plays heading (after heading (Deliver to client seq)) world world
-nothing_plays heading world to client seq low found events is =
-    subst (λ o. IsWorld heading (delivers heading to o events) world) (sym found ∙ is.made_are client seq low) is
+nothing_plays heading world to client seq is_made events is =
+    subst (λ o. IsWorld heading (delivers heading to o events) world) (is_made events is) is
 
 -- A peek tells what is present.
 pub peek_plays : (heading : Heading) (old new : World) (member shard client seq : ℕ) (key : List ℕ) (seen : Answer)
@@ -308,7 +418,8 @@ peek_plays heading old new member shard client seq key seen is stated at_home at
     let here : IsWorld heading (looked member shard) new = record {
       grid_is = grid_is ∙ world.grid_is;
       tellings_are = tellings;
-      made_are = subst (HasMade (looked member shard)) (sym made_is) world.made_are;
+      made_are = subst (HasMade heading (looked member shard)) (sym made_is)
+          (kept_made heading (Peeked client seq key (present key past) (length past)) events old.made (λ c number. refl) world.made_are);
     } in
     subst (λ s. IsWorld heading (looked (home_of heading client) s) new) at_shard
     (subst (λ m. IsWorld heading (looked m shard) new) at_home here)

@@ -1,6 +1,6 @@
--- The shards of all members, what each client was told, and what each step made, as a course leaves them.
+-- The shards of all members, what each client was told, and where what each step made stands, as a course leaves them.
 use Rattle.std.specs.Prelude.{◌≡◌, ℕ, ◌+◌, ◌-◌, ◌*◌, ◌^◌, ◌≤◌, ◌<◌, ◌&&◌, ◌==◌, List, [], ◌∷◌, ◌++◌, length, reverse, get_or, set}
-use Rattle.std.specs.Prelude.{slice_index, Option, None, if◌then◌else◌}
+use Rattle.std.specs.Prelude.{slice_get, slice_index, Option, None, Some, if◌then◌else◌}
 use Rattle.std.specs.Ordering.{nat_cmp}
 use Rattle.std.specs.BTreeMap.{BTreeMap, get}
 use Rattle.gr_stamp.specs.declared.change.Change.{Change}
@@ -20,10 +20,11 @@ use Rattle.gr_script.specs.declared.line.Line.TheVariants as line
 use Rattle.gr_script.specs.Rules.{Heading, IsMember, IsStated, home_of}
 use Rattle.gr_world.specs.Events.{Event, history}
 use Rattle.gr_world.specs.Doings.{Doing, deed_of}
-use Rattle.gr_world.specs.Named.{made_by, or_else}
+use Rattle.gr_world.specs.Named.{made_by, made_in, or_else}
 use Rattle.gr_world.specs.Courses.{asks_at_each, identity_at}
 use Rattle.gr_world.specs.Records.{answers}
 use Rattle.gr_world.specs.Numbered.{numbers_from, PairsFrom}
+use Rattle.gr_world.specs.declared.place.Place.{Place}
 use Rattle.gr_world.specs.declared.world.World.{World}
 
 -- (what a read gives where there is nothing)
@@ -95,20 +96,33 @@ tellings_left heading events = numbers_from 1 (length heading.clients) (λ clien
 abbrev pub number_of : ℕ → ℕ → ℕ
 number_of client seq = client * 2 ^ 32 + seq
 
--- The table has what each step made.
-abbrev pub HasMade : List Event → BTreeMap ℕ Change → Type 0
-HasMade events made = (client seq : ℕ) → seq < 2 ^ 32 → get nat_cmp made (number_of client seq) ≡ made_by client seq events
+-- At the place stands a deed that made this.
+pub record StandsAt (heading : Heading) (events : List Event) (place : Place) (made : Option Change) : Type 0 where
+  pub member : IsMember heading place.site.member
+  pub shard : place.site.shard < heading.shards
+  pub deed : Deed
+  pub found : slice_get (reverse (history place.site.member place.site.shard events)) place.at ≡ Some deed
+  pub made_is : made_in deed ≡ made
 
--- The table has what this step made too.
-abbrev pub Notes : ℕ → ℕ → Option Change → BTreeMap ℕ Change → BTreeMap ℕ Change → Type 0
-Notes client seq made old new = (own number : ℕ) → number < 2 ^ 32
+abbrev pub IsFound : Heading → List Event → Option Place → Option Change → Type 0
+IsFound heading events None made = made ≡ None
+IsFound heading events (Some place) made = StandsAt heading events place made
+
+-- The table has the place of what each step made.
+abbrev pub HasMade : Heading → List Event → BTreeMap ℕ Place → Type 0
+HasMade heading events table = (client seq : ℕ) → seq < 2 ^ 32
+    → IsFound heading events (get nat_cmp table (number_of client seq)) (made_by client seq events)
+
+-- The table has the place of what this step made too, if it made anything.
+abbrev pub Notes : ℕ → ℕ → Option Place → BTreeMap ℕ Place → BTreeMap ℕ Place → Type 0
+Notes client seq place old new = (own number : ℕ) → number < 2 ^ 32
     → get nat_cmp new (number_of own number)
-    ≡ or_else (if client == own && seq == number then made else None) (get nat_cmp old (number_of own number))
+    ≡ or_else (if client == own && seq == number then place else None) (get nat_cmp old (number_of own number))
 
 pub record IsWorld (heading : Heading) (events : List Event) (world : World) : Type 0 where
   pub grid_is : world.grid ≡ grid_left heading events
   pub tellings_are : world.tellings ≡ tellings_left heading events
-  pub made_are : HasMade events world.made
+  pub made_are : HasMade heading events world.made
 
 -- a client is told one answer more
 abbrev pub told_also : List (List Answer) → ℕ → Answer → List (List Answer)

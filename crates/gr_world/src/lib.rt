@@ -5,6 +5,7 @@ mod cell;
 mod grid;
 mod joining;
 mod laws;
+mod place;
 mod querying;
 mod replaying;
 mod row;

@@ -1,4 +1,4 @@
-ghost use Rattle.std.specs.Prelude.{◌≡◌, ℕ, List, [], length, reverse, IfOk};
+ghost use Rattle.std.specs.Prelude.{◌≡◌, ℕ, List, [], length, reverse, IfOk, option_and_then, option_map, slice_get};
 ghost use Rattle.gr_script.specs.declared.line.Act.TheVariants as act;
 ghost use Rattle.gr_script.specs.declared.line.Line.TheVariants as line;
 ghost use Rattle.gr_script.specs.Rules.{IsMember, IsStated, home_of};
@@ -9,16 +9,18 @@ ghost use Rattle.gr_world.specs.Courses.{after, does, for_each};
 ghost use Rattle.gr_world.specs.Tasks.{BelongsTo, doing_of};
 ghost use Rattle.gr_shard.specs.View.{Account};
 ghost use Rattle.gr_world.specs.Events.{Event};
+ghost use Rattle.gr_world.specs.Named.{made_by, made_in};
 ghost use Rattle.gr_world.specs.Records.{IsLeft};
 ghost use Rattle.gr_world.specs.Worlds.{CanPlay, IsAtWork, IsWorld, Notes, Plays, number_of};
 
 use crate::grid::Grid;
+use crate::place::Place;
 use crate::site::Site;
 use crate::stage::Stage;
 use crate::step::Step;
 use crate::task::Task;
 use crate::tellings::Tellings;
-use gr_history::{Answer, Ask, Identity, Record};
+use gr_history::{Answer, Ask, Deed, Done, History, Identity, Record};
 use gr_script::{Act, Line, Script};
 use gr_shard::Shard;
 use gr_stamp::Change;
@@ -26,12 +28,12 @@ use gr_value::{Copied, Key, Memory};
 use std::alloc::Global;
 use std::collections::BTreeMap;
 
-/// All members' shards, what each client was told, and what each step made.
+/// All members' shards, what each client was told, and where what each step made stands.
 #[derive(Drop)]
 pub struct World {
     pub grid: Grid,
     pub tellings: Tellings,
-    pub made: BTreeMap<u64, Change>,
+    pub made: BTreeMap<u64, Place>,
 }
 
 // The number of a client's step among those of all clients.
@@ -41,14 +43,29 @@ fn number_of(step: Step) -> u64
     u64::from(step.client) * 0x1_0000_0000 + u64::from(step.seq)
 }
 
-// Notes what a step made, if it made anything.
-fn note(table: &mut BTreeMap<u64, Change>, step: Step, made: Option<Change>) -> Result<(), Memory>
-    ensures { IfOk result (λ _. Notes step.client step.seq made table.old table.new) }
+// Notes where what a step made stands, if it made anything.
+fn note(
+    table: &mut BTreeMap<u64, Place>,
+    step: Step,
+    place: Place,
+    done: &Done,
+) -> Result<(), Memory>
+    ensures { IfOk result (λ _. Notes step.client step.seq (option_map (λ _. place) done.now.made) table.old table.new) }
 {
-    if let Some(change) = made {
-        table.insert(number_of(step), change)?;
+    if done.made.is_some() {
+        table.insert(number_of(step), place)?;
     }
     Ok(())
+}
+
+// What the deed at a place made.
+fn made_at(alloc: Global, history: &History, at: u64) -> Result<Option<Change>, Memory>
+    ensures { IfOk result (λ made. made ≡ option_and_then made_in (slice_get history.now.deeds at)) }
+{
+    match history.get(at) {
+        Some(Deed::Call { made, .. }) => made.copy(alloc),
+        _ => Ok(None),
+    }
 }
 
 /// The member that a client is at.
@@ -101,8 +118,9 @@ impl World {
         let member = home(stage.script, step.client);
         let shard = ask.key().shard(stage.script.shards);
         let site = Site { member, shard };
+        let at = self.grid.cell(site).shard().history().len();
         let done = self.grid.call(stage.alloc, site, step, ask)?;
-        note(&mut self.made, step, done.made)?;
+        note(&mut self.made, step, Place { site, at }, &done)?;
         Ok(self.tellings.tell(step.client, Answer::Reply(done.reply))?)
     }
 
@@ -135,6 +153,19 @@ impl World {
         }
     }
 
+    // What a step made, if it made anything.
+    fn change_of(&self, stage: Stage, client: u8, seq: u32) -> Result<Option<Change>, Memory>
+        requires work { IsAtWork (heading_of stage.script.now) self.now }
+        ensures { IfOk result (λ made. (events : List Event)
+            → IsWorld (heading_of stage.entry.script.now) events self.now → made ≡ made_by client seq events) }
+    {
+        let Some(place) = self.made.get(&number_of(Step { client, seq })) else {
+            return Ok(None);
+        };
+        let shard = self.grid.cell(place.site).shard();
+        Ok(made_at(stage.alloc, shard.history(), place.at)?)
+    }
+
     fn deliver(&mut self, stage: Stage, to: u8, client: u8, seq: u32) -> Result<(), Memory>
         requires work { IsAtWork (heading_of stage.script.now) self.old }
         requires member { IsMember (heading_of stage.script.now) to }
@@ -142,10 +173,10 @@ impl World {
             (λ _. Plays (heading_of stage.entry.script.now)
             (after (heading_of stage.entry.script.now) (line.Deliver to client seq)) self.old self.new) }
     {
-        if let Some(change) = self.made.get(&number_of(Step { client, seq })) {
+        if let Some(change) = self.change_of(stage, client, seq)? {
             let shard = change.key.shard(stage.script.shards);
             let site = Site { member: to, shard };
-            self.grid.does(stage.alloc, site, Task::Take(change))?;
+            self.grid.does(stage.alloc, site, Task::Take(&change))?;
         }
         Ok(())
     }

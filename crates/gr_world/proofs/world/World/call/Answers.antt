@@ -1,9 +1,16 @@
-use Rattle.std.proofs.Common.{◌∙◌, ap, arith}
+use Rattle.std.proofs.Common.{◌∙◌, ap, arith, length}
 use Rattle.gr_value.specs.Shard.{shard_of}
 use Rattle.gr_history.specs.Asks.{key_of}
 use Rattle.gr_script.specs.Scripts.{heading_of}
 use Rattle.gr_world.proofs.Worlds.{call_plays, shard_within, work_cell, work_clients, work_shard}
 use Rattle.gr_world.proofs.world.World.call.Goals as goal
+
+pub cell-requires : goal.cell-requires
+cell-requires c =
+    let script = c.args.stage.script.now in
+    let at = c.shard-shard.ensures ∙ ap (λ k. shard_of k script.shards) c.key.ensures in
+    work_cell (heading_of script) c.args.self.now c.home-member.result c.shard-shard.result c.requires.work c.home-member.ensures.member
+    (shard_within (key_of c.args.ask.now) c.shard-shard.result script.shards script.ruled.heading.shards.0 at)
 
 pub call-requires-clause-cell : goal.call-requires-clause-cell
 call-requires-clause-cell c =
@@ -30,7 +37,8 @@ returns c =
     let script = c.args.stage.script.now in
     let at = c.shard-shard.ensures ∙ ap (λ k. shard_of k script.shards) c.key.ensures in
     let step = c.args.step in
-    call_plays (heading_of script) c.args.self.now _ c.home-member.result c.shard-shard.result step.client step.seq c.args.ask.now
+    call_plays (heading_of script) c.args.self.now _ c.home-member.result c.shard-shard.result c.len-at.result step.client step.seq c.args.ask.now
     c.in_ok-done.done c.home-member.ensures.member c.requires.stated c.home-member.ensures.home at
     (shard_within (key_of c.args.ask.now) c.shard-shard.result script.shards script.ruled.heading.shards.0 at) c.in_ok-done.ensures
+    (c.len-at.ensures ∙ ap (λ deeds. length deeds) c.history.ensures.deeds ∙ ap (λ account. length account.deeds) (c.shard.ensures ∙ c.cell.ensures))
     c.in_ok-note.ensures c.in_ok-tell.ensures

@@ -1,7 +1,7 @@
 use Rattle.std.proofs.Common.{suc, ◌≡◌, ◌+◌, ◌==◌, Bool, true, false, ℕ, List, subst, sym, arith}
 use Rattle.std.proofs.lemmas.Bool.Decides.{nat_tests}
 use Rattle.gr_script.specs.Scripts.{heading_of}
-use Rattle.gr_world.specs.Courses.{gives, gives_unless, what_from}
+use Rattle.gr_world.specs.Courses.{for_each, gives, gives_unless, what_from}
 use Rattle.gr_world.specs.Events.{Event}
 use Rattle.gr_world.specs.Worlds.{Plays}
 use Rattle.gr_world.proofs.Worlds.{for_each_plays}
@@ -33,3 +33,11 @@ loop-below-preserved c =
           (subst (λ own. Plays heading (given own (suc below)) now now) (sym same) (λ events is. is))
     ] in
     for_each_plays heading act below c.args.self.now now c.if-giver-site.self c.loop-below.invariant step
+
+pub returns : goal.returns
+returns c =
+    let heading = heading_of c.args.stage.script.now in
+    let whole : c.loop-below.below ≡ c.args.stage.script.now.members =
+    omega (arith, c.loop-below-test.false, c.loop-below.auto.below-end) in
+    subst (λ n. Plays heading (for_each n (λ k. gives_unless (suc k == c.args.site.member) heading c.args.site.member c.args.site.shard (suc k)
+    (what_from (suc k == c.args.provider)))) c.args.self.now c.loop-below.self) whole c.loop-below.invariant
