@@ -6,25 +6,29 @@ use std::marker::Model;
 /// The greatest version of an entry and the greatest region version, 2^48 - 1.
 pub const LIMIT: u64 = 281474976710655;
 
+/// How many members' numbers have room beside a version.
+const MEMBERS: u64 = 16;
+
 /// The version stamp of a change: the entry's version, the member that made the change, and that
 /// member's region version. The member and the region version name the change.
 #[derive(Clone, Copy)]
 pub struct Stamp {
-    ver: u64,
-    member: u8,
+    // The version and, in the last four bits, the member: in this order stamps are compared.
+    head: u64,
     rv: u64,
 }
 
 impl Model for Stamp {
+    ghost use Rattle.std.specs.Prelude.{◌+◌, ◌*◌, ◌/◌, ◌%◌};
     ghost use Rattle.gr_stamp.specs.Version.{Version, IsInRange};
 
     ghost Value = { Version };
 
-    ghost view = { λ stamp. record { ver = stamp.ver; member = stamp.member; rv = stamp.rv } };
+    ghost view = { λ stamp. record { ver = stamp.head / 16; member = stamp.head % 16; rv = stamp.rv } };
 
-    ghost invariant = { λ stamp. IsInRange stamp.ver stamp.member stamp.rv };
+    ghost invariant = { λ stamp. IsInRange (stamp.head / 16) (stamp.head % 16) stamp.rv };
 
-    ghost inverse = { λ version. record { ver = version.ver; member = version.member; rv = version.rv } };
+    ghost inverse = { λ version. record { head = version.ver * 16 + version.member; rv = version.rv } };
 }
 
 impl Stamp {
@@ -34,7 +38,8 @@ impl Stamp {
     {
         let versions = 1..=LIMIT;
         if versions.contains(&ver) && (1..=8).contains(&member) && versions.contains(&rv) {
-            Some(Stamp { ver, member, rv })
+            let head = ver * MEMBERS + u64::from(member);
+            Some(Stamp { head, rv })
         } else {
             None
         }
@@ -44,14 +49,14 @@ impl Stamp {
         ensures ver { result ≡ self.now.ver }
         ensures range { IsInRange self.now.ver self.now.member self.now.rv }
     {
-        self.ver
+        self.head / MEMBERS
     }
 
     pub fn member(&self) -> u8
         ensures member { result ≡ self.now.member }
         ensures range { IsInRange self.now.ver self.now.member self.now.rv }
     {
-        self.member
+        (self.head % MEMBERS) as u8
     }
 
     pub fn rv(&self) -> u64
@@ -65,7 +70,7 @@ impl Stamp {
     pub fn beats(&self, other: &Stamp) -> bool
         ensures { result ≡ beats self.now other.now }
     {
-        (self.ver, self.member, self.rv) > (other.ver, other.member, other.rv)
+        (self.head, self.rv) > (other.head, other.rv)
     }
 }
 
