@@ -4,7 +4,7 @@ ghost use Rattle.gr_top.specs.Outcomes.{Answers, Explains, IsPrinted, IsReplayOf
 ghost use Rattle.gr_top.specs.Words.{mode_of};
 ghost use Rattle.gr_top.specs.declared.words.Mode.TheVariants as mode;
 
-use crate::giving::{Given, script_from};
+use crate::giving::script_from;
 use crate::words::{Mode, mode_of};
 use crate::{Cause, Outcome};
 use gr_history::Record;
@@ -30,11 +30,11 @@ fn check<S: Source, K: Sink>(alloc: Global, source: &mut S, sink: &mut K) -> Cau
         (stream (S.left source.old) (S.left source.new) (S.faults source.old) (S.faults source.new))
         (stream (K.held sink.old) (K.held sink.new) (K.faults sink.old) (K.faults sink.new)) None result }
 {
-    let given = match script_from(alloc, source) {
-        Ok(given) => given,
+    let script = match script_from(alloc, source) {
+        Ok(script) => script,
         Err(cause) => return cause,
     };
-    match print(alloc, &given.script) {
+    match print(alloc, &script) {
         Ok(text) => hand_out(sink, text.as_slice()),
         Err(Memory) => Cause::Memory,
     }
@@ -46,8 +46,8 @@ fn record_from<S: Source>(alloc: Global, source: &mut S) -> Result<Record, Cause
         → MatchResult result (IsReplayOf (stream (S.left source.old) (S.left source.new) (S.faults source.old) (S.faults source.new)))
         (Stops (mode.Replay histories) (stream (S.left source.old) (S.left source.new) (S.faults source.old) (S.faults source.new))) }
 {
-    let given = script_from(alloc, source)?;
-    match replay(alloc, &given.script) {
+    let script = script_from(alloc, source)?;
+    match replay(alloc, &script) {
         Ok(record_of) => Ok(record_of),
         Err(Memory) => Err(Cause::Memory),
     }

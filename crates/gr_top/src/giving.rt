@@ -1,4 +1,4 @@
-ghost use Rattle.std.specs.Prelude.{◌≡◌, MatchResult};
+ghost use Rattle.std.specs.Prelude.{◌≡◌, ℕ, List, MatchResult};
 ghost use Rattle.gr_top.specs.Outcomes.{IsGiven, IsWhole, Stops, stream};
 ghost use Rattle.gr_top.specs.declared.words.Mode.{Mode as AMode};
 
@@ -9,13 +9,6 @@ use std::alloc::Global;
 
 /// The most bytes of a script.
 const MOST_BYTES: u64 = 8_388_608;
-
-/// A script, and the text that it was read from.
-#[derive(Drop)]
-pub(crate) struct Given {
-    pub(crate) text: Vec<u8>,
-    pub(crate) script: Script,
-}
 
 // All that the source has.
 fn text_from<S: Source>(alloc: Global, source: &mut S) -> Result<Vec<u8>, Cause>
@@ -34,15 +27,15 @@ fn text_from<S: Source>(alloc: Global, source: &mut S) -> Result<Vec<u8>, Cause>
     }
 }
 
-/// The script that the source has.
-pub(crate) fn script_from<S: Source>(alloc: Global, source: &mut S) -> Result<Given, Cause>
+/// The script that the source has. Its text isn't kept.
+pub(crate) fn script_from<S: Source>(alloc: Global, source: &mut S) -> Result<Script, Cause>
     ensures { (m : AMode) → MatchResult result
-        (λ given. IsGiven (stream (S.left source.old) (S.left source.new) (S.faults source.old) (S.faults source.new)) given.text.items given.script)
+        (λ script. (text : List ℕ) × IsGiven (stream (S.left source.old) (S.left source.new) (S.faults source.old) (S.faults source.new)) text script)
         (Stops m (stream (S.left source.old) (S.left source.new) (S.faults source.old) (S.faults source.new))) }
 {
     let text = text_from(alloc, source)?;
     match read(alloc, text.as_slice(), Form::Replay) {
-        Ok(script) => Ok(Given { text, script }),
+        Ok(script) => Ok(script),
         Err(ScriptEnd::TooManyLines(lines)) => Err(Cause::TooLarge {
             bytes: text.len() as u64,
             lines,

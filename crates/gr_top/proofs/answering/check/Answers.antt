@@ -9,13 +9,15 @@ returns-in-Ok-print g c =
     written_explains mode.Check _ _ None c.as_slice.result.now c.hand_out.result (
       refl,
       record {
-        text = c.in-Ok.given.text.items;
-        script = c.in-Ok.given.script;
-        given = given;
+        text = given.0;
+        script = c.in-Ok.script;
+        given = given.1;
         printed_is = c.as_slice.ensures.value ∙ c.in-Ok-print.ensures.text;
       },
     )
     c.hand_out.ensures
 
 pub returns : goal.returns
-returns g c = (refl, within _ c.in-Ok.given.text.items (c.in-Ok.ensures mode.Check).whole, record { bytes = refl; faults = refl })
+returns g c =
+    let given = c.in-Ok.ensures mode.Check in
+    (refl, within _ given.0 given.1.whole, record { bytes = refl; faults = refl })

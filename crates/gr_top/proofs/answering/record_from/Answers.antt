@@ -4,9 +4,9 @@ use Rattle.gr_top.proofs.answering.record_from.Goals as goal
 
 pub returns-in-Ok : goal.returns-in-Ok
 returns-in-Ok g c histories = record {
-  text = c.in_ok-given.given.text.items;
-  script = c.in_ok-given.given.script;
-  given = c.in_ok-given.ensures (mode.Replay histories);
+  text = (c.in_ok-script.ensures (mode.Replay histories)).0;
+  script = c.in_ok-script.script;
+  given = (c.in_ok-script.ensures (mode.Replay histories)).1;
   replayed = c.in-Ok.ensures.replayed;
   laws = c.in-Ok.ensures.laws;
   served = c.in-Ok.ensures.served;
@@ -14,4 +14,5 @@ returns-in-Ok g c histories = record {
 
 pub returns : goal.returns
 returns g c histories sink untouched =
-    (tt, within _ c.in_ok-given.given.text.items (c.in_ok-given.ensures (mode.Replay histories)).whole, untouched)
+    let given = c.in_ok-script.ensures (mode.Replay histories) in
+    (tt, within _ given.0 given.1.whole, untouched)

@@ -6,11 +6,14 @@ use Rattle.gr_top.proofs.Endings.{keeps_none, within}
 use Rattle.gr_top.proofs.giving.script_from.Goals as goal
 
 pub returns-in-Ok : goal.returns-in-Ok
-returns-in-Ok g c m = record {
-  whole = c.in_ok-text.ensures m;
-  read = subst (λ (text : List ℕ). script_of false text ≡ Ok (heading_of c.in-Ok.script, c.in-Ok.script.lines))
-      c.as_slice.ensures.value c.in-Ok.ensures.exact;
-}
+returns-in-Ok g c m = (
+  c.in_ok-text.text.items,
+  record {
+    whole = c.in_ok-text.ensures m;
+    read = subst (λ (text : List ℕ). script_of false text ≡ Ok (heading_of c.in-Ok.script, c.in-Ok.script.lines))
+        c.as_slice.ensures.value c.in-Ok.ensures.exact;
+  },
+)
 
 pub returns-in-Err-TooManyLines : goal.returns-in-Err-TooManyLines
 returns-in-Err-TooManyLines g c m sink untouched = (
