@@ -1,6 +1,6 @@
 -- The fields of members, read one after another.
 use Rattle.std.proofs.Common.{◌≡◌, ◌∙◌, ap, subst, ℕ, ◌+◌, arith, List, [], ◌∷◌, ◌++◌, length, map, Result, Ok, Err, String, Global}
-use Rattle.std.proofs.Common.{string_bytes, string_cmp, nat_cmp, Less, refl, sym, append_assoc, append-nil}
+use Rattle.std.proofs.Common.{string_bytes, string_cmp, nat_cmp, Less, refl, sym, append_assoc, append-nil, ◌⊎◌, inl, inr}
 use Rattle.std.specs.Cmp.Lexicographic.{slice_cmp}
 use Rattle.std.specs.List.{AllByRecursion}
 use Rattle.std.specs.List.Sorted.{IsStrictlySortedBy}
@@ -8,9 +8,10 @@ use Rattle.std.specs.Map.{keys_of}
 use Rattle.serde_json.specs.View.{view, members_view}
 use Rattle.serde_json.specs.declared.value.Value.{Value as Json}
 use Rattle.gr_value.specs.declared.fault.ValueFault.{ValueFault}
+use Rattle.gr_value.specs.declared.fault.ValueFault.TheVariants.{Memory}
 use Rattle.gr_value.specs.declared.scalar.Scalar.{Scalar}
 use Rattle.gr_value.specs.declared.value.Field.{Field}
-use Rattle.gr_value.specs.ValueReading.{scalar_at, with_field, fields_from}
+use Rattle.gr_value.specs.ValueReading.{scalar_at, with_field, fields_from, RefusedAs}
 use Rattle.gr_value.specs.Values.{IsField, HasAscendingNames}
 
 abbrev pub Entry : Type 0
@@ -73,12 +74,14 @@ read_more entries done place entry left field h named is ok =
       count = omega (arith, h.count);
     }
 
--- the next member is at fault
+-- the next member is at fault, or there was no memory for its scalar
 pub read_fault : (entries : List Entry) (done : List Field) (place : ℕ) (entry : Entry) (left : List Entry) (fault : ValueFault)
     → HasRead entries done place (entry ∷ left)
-    → scalar_at place (view entry.1) ≡ Err fault → fields_from 0 (members_view entries) ≡ Err fault
-read_fault entries done place entry left fault h is =
-    h.read ∙ ap (λ found. before done (with_field (string_bytes entry.0) found (fields_from (place + 1) (members_view left)))) is
+    → (fault ≡ Memory) ⊎ (scalar_at place (view entry.1) ≡ Err fault) → RefusedAs fault (fields_from 0 (members_view entries))
+read_fault entries done place entry left fault h (inl memory) = inl memory
+read_fault entries done place entry left fault h (inr is) =
+    inr (h.read
+    ∙ ap (λ found. before done (with_field (string_bytes entry.0) found (fields_from (place + 1) (members_view left)))) is)
 
 keys_below : (key : String Global) (entries : List Entry) → AllByRecursion (λ other. string_cmp key other ≡ Less) (keys_of entries)
     → AllByRecursion (λ other. slice_cmp nat_cmp (string_bytes key) other ≡ Less) (entry_names entries)

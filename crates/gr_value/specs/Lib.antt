@@ -1,7 +1,8 @@
 pub mod Fields
+pub mod Held
+pub mod Kept
 pub mod KeyBytes
 pub mod KeyFront
-pub mod KeyHeld
 pub mod Sameness
 pub mod Scalars
 pub mod Shard

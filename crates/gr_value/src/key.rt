@@ -5,7 +5,7 @@ ghost use Rattle.std.specs.Ordering.{nat_cmp};
 ghost use Rattle.gr_value.specs.KeyFront.{front_of};
 ghost use Rattle.gr_value.specs.Shard.{shard_of};
 
-use crate::near::{Near, front_of};
+use crate::near::{Held, Near, front_of};
 use crate::{Copied, ItemList, KeyFault, Memory};
 use std::alloc::Global;
 use std::cmp::Ordering;
@@ -15,18 +15,11 @@ use std::sync::Arc;
 /// The most bytes of a key.
 const MOST_BYTES: usize = 255;
 
-// Where the bytes of a key stand.
-#[derive(Drop)]
-enum Held {
-    Near(Near),
-    Far(Arc<Vec<u8>>),
-}
-
 /// A key: 1 to 255 bytes, each from 0x21 to 0x7E. Contracts see it as its bytes. Up to 14 bytes stand
 /// in the key itself, and of more the copies share one place.
 #[derive(Drop)]
 pub struct Key {
-    held: Held,
+    held: Held<Vec<u8>>,
 }
 
 pub type KeyList = ItemList<Key>;
@@ -34,13 +27,13 @@ pub type KeyList = ItemList<Key>;
 impl Model for Key {
     ghost use Rattle.std.specs.Prelude.{List, ℕ};
     ghost use Rattle.gr_value.specs.KeyBytes.{IsKey};
-    ghost use Rattle.gr_value.specs.KeyHeld.{held_bytes, IsHeld};
+    ghost use Rattle.gr_value.specs.Held.{held_bytes, IsHeld};
 
     ghost Value = { List ℕ };
 
-    ghost view = { λ key. held_bytes key.held };
+    ghost view = { λ key. held_bytes (λ far. far.items) key.held };
 
-    ghost invariant = { λ key. IsKey (held_bytes key.held) × IsHeld key.held };
+    ghost invariant = { λ key. IsKey (held_bytes (λ far. far.items) key.held) × IsHeld (λ far. far.items) key.held };
 }
 
 fn is_key_byte(byte: u8) -> bool

@@ -3,6 +3,7 @@
 
 mod copied;
 mod fault;
+mod fields;
 mod key;
 mod list;
 mod memory;

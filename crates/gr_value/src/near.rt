@@ -2,6 +2,7 @@ ghost use Rattle.std.specs.Prelude.{◌≡◌, ◌<◌, ◌≤◌, drop, length,
 ghost use Rattle.gr_value.specs.KeyFront.{front_of};
 
 use std::marker::Model;
+use std::sync::Arc;
 
 /// The most bytes that stand in the value itself.
 const ROOM: usize = 14;
@@ -73,6 +74,13 @@ impl Near {
             all: self.all,
         }
     }
+}
+
+/// Where bytes stand: in the value itself, or far in a place that the copies share.
+#[derive(Drop)]
+pub enum Held<T> {
+    Near(Near),
+    Far(Arc<T>),
 }
 
 /// The first eight bytes as a number, the first one counting most.

@@ -9,6 +9,7 @@ ghost use Rattle.std.specs.Str.{is_utf8};
 ghost use Rattle.gr_value.specs.ValueText.{escaped, quoted, scalar_text, field_text, value_text};
 ghost use Rattle.gr_value.specs.Values.{IsScalar, IsField, HasAscendingNames};
 
+use crate::fields::Fields;
 use crate::{Field, Memory, Scalar, Text};
 use itoa::Buffer;
 use std::alloc::Global;
@@ -155,17 +156,14 @@ impl<'a> Cursor<'a> {
         Ok(Some(Field { name, scalar }))
     }
 
-    // Takes fields with commas between them, one at least.
-    fn take_fields(&mut self, alloc: Global) -> Result<Option<Vec<Field>>, Memory>
+    // Takes what follows the first of several fields.
+    fn take_further(&mut self, alloc: Global, first: Field) -> Result<Option<Fields>, Memory>
+        requires { IsField first }
         ensures { IfOk result (λ found. IfSome found (λ fields.
-            (self.old ≡ join_by field_text (codes ",") fields.items ++ self.new)
-            × AllByRecursion IsField fields.items)) }
+            (field_text first ++ self.old ≡ join_by field_text (codes ",") fields ++ self.new)
+            × AllByRecursion IsField fields)) }
     {
-        let further = further_fields(self.rest);
-        let Some(first) = self.take_field(alloc)? else {
-            return Ok(None);
-        };
-        let mut fields = Vec::with_capacity(alloc, 1 + further)?;
+        let mut fields = Vec::with_capacity(alloc, 1 + further_fields(self.rest))?;
         fields.push(first)?;
         'fields: while self.take(b",") {
             let Some(field) = self.take_field(alloc)? else {
@@ -173,13 +171,29 @@ impl<'a> Cursor<'a> {
             };
             fields.push(field)?;
         }
-        Ok(Some(fields))
+        Ok(Some(Fields::of_vec(fields)))
+    }
+
+    // Takes fields with commas between them, one at least.
+    fn take_fields(&mut self, alloc: Global) -> Result<Option<Fields>, Memory>
+        ensures { IfOk result (λ found. IfSome found (λ fields.
+            (self.old ≡ join_by field_text (codes ",") fields ++ self.new)
+            × AllByRecursion IsField fields)) }
+    {
+        let Some(first) = self.take_field(alloc)? else {
+            return Ok(None);
+        };
+        if self.rest.starts_with(b",") {
+            self.take_further(alloc, first)
+        } else {
+            Ok(Some(Fields::one(first)))
+        }
     }
 
     // The fields of all that is left, unless that is another text than the value prints.
-    fn take_value(&mut self, alloc: Global) -> Result<Option<Vec<Field>>, Memory>
+    fn take_value(&mut self, alloc: Global) -> Result<Option<Fields>, Memory>
         ensures { IfOk result (λ found. IfSome found (λ fields.
-            (self.old ≡ value_text fields.items) × AllByRecursion IsField fields.items)) }
+            (self.old ≡ value_text fields) × AllByRecursion IsField fields)) }
     {
         if !self.take(b"{") {
             return Ok(None);
@@ -199,7 +213,8 @@ fn names_ascend(fields: &[Field]) -> bool
     ensures { IsTrue result → HasAscendingNames fields.now }
 {
     for place in 1..fields.len() {
-        if fields[place - 1].name.as_str() >= fields[place].name.as_str() {
+        let (before, next) = (&fields[place - 1].name, &fields[place].name);
+        if before.bytes().cmp(next.bytes()).is_ge() {
             return false;
         }
     }
@@ -207,22 +222,22 @@ fn names_ascend(fields: &[Field]) -> bool
 }
 
 /// The fields of the value that prints these very bytes, if they are found in one plain pass.
-pub(crate) fn fields_by_text(alloc: Global, bytes: &[u8]) -> Result<Option<Vec<Field>>, Memory>
+pub(crate) fn fields_by_text(alloc: Global, bytes: &[u8]) -> Result<Option<Fields>, Memory>
     ensures text { IfOk result (λ found. IfSome found (λ fields.
-        bytes.now ≡ value_text fields.items)) }
+        bytes.now ≡ value_text fields)) }
     ensures ascending { IfOk result (λ found. IfSome found (λ fields.
-        HasAscendingNames fields.items)) }
+        HasAscendingNames fields)) }
     ensures readable { IfOk result (λ found. IfSome found (λ fields.
-        AllByRecursion IsField fields.items)) }
+        AllByRecursion IsField fields)) }
 {
     if bytes == b"{}".as_slice() {
-        return Ok(Some(Vec::new(alloc)));
+        return Ok(Some(Fields::none(alloc)));
     }
     let mut cursor = Cursor { rest: bytes };
     let Some(fields) = cursor.take_value(alloc)? else {
         return Ok(None);
     };
-    if names_ascend(&fields) {
+    if names_ascend(fields.as_slice()) {
         Ok(Some(fields))
     } else {
         Ok(None)

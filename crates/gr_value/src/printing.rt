@@ -61,11 +61,10 @@ fn put_escapes(text: &[u8], out: &mut Vec<u8>) -> Result<(), Memory>
 }
 
 // The bytes in front that stand for themselves are put at once: few texts have others.
-fn put_quoted(text: &str, out: &mut Vec<u8>) -> Result<(), Memory>
+fn put_quoted(text: &[u8], out: &mut Vec<u8>) -> Result<(), Memory>
     ensures { OnOk result (out.new.items ≡ out.old.items ++ quoted text.now) }
 {
-    let bytes = text.as_bytes();
-    let (plain, rest) = bytes.split_at(plain_len(bytes));
+    let (plain, rest) = text.split_at(plain_len(text));
     out.push(b'"')?;
     out.extend_from_slice(plain)?;
     put_escapes(rest, out)?;
@@ -84,7 +83,7 @@ fn put_scalar(scalar: &Scalar, out: &mut Vec<u8>) -> Result<(), Memory>
             let mut digits = Buffer::new();
             out.extend_from_slice(digits.format(*number).as_bytes())?;
         }
-        Scalar::Text(text) => put_quoted(text.as_str(), out)?,
+        Scalar::Text(text) => put_quoted(text.bytes(), out)?,
     }
     Ok(())
 }
@@ -92,7 +91,7 @@ fn put_scalar(scalar: &Scalar, out: &mut Vec<u8>) -> Result<(), Memory>
 fn put_field(field: &Field, out: &mut Vec<u8>) -> Result<(), Memory>
     ensures { OnOk result (out.new.items ≡ out.old.items ++ field_text field.now) }
 {
-    put_quoted(field.name.as_str(), out)?;
+    put_quoted(field.name.bytes(), out)?;
     out.push(b':')?;
     put_scalar(&field.scalar, out)?;
     Ok(())

@@ -1,14 +1,16 @@
-ghost use Rattle.std.specs.Prelude.{◌≡◌, ◌<◌, ◌≤◌, ◌^◌, List, length, IfOk, MatchResult, Ok, Some};
+ghost use Rattle.std.specs.Prelude.{◌≡◌, ◌<◌, ◌≤◌, ◌^◌, ◌⊎◌, List, length, IfOk, MatchResult, Ok, Err, Some};
 ghost use Rattle.std.specs.BTreeMap.{btree_map_len};
 ghost use Rattle.std.specs.List.{AllByRecursion};
 ghost use Rattle.gr_value.specs.ValueReading.{scalar_at, fields_from, value_of, read_value, RefusedAs};
 ghost use Rattle.gr_value.specs.ValueText.{value_text};
 ghost use Rattle.gr_value.specs.Values.{HasAscendingNames, IsField, IsScalar, IsValue};
+ghost use Rattle.gr_value.specs.declared.fault.ValueFault.TheVariants.{Memory as NoMemory};
 ghost use Rattle.gr_value.specs.declared.value.Field.{Field as AField};
 ghost use Rattle.serde_json.specs.Data.{Members, object};
 ghost use Rattle.serde_json.specs.Events.{members_len};
 ghost use Rattle.serde_json.specs.View.{view, members_view};
 
+use crate::fields::Fields;
 use crate::plain::fields_by_text;
 use crate::{Field, ItemList, Scalar, Text, Value, ValueFault};
 use serde_json::Map;
@@ -17,8 +19,9 @@ use std::alloc::Global;
 /// The most bytes of the text of a value.
 const MOST_BYTES: usize = 1024;
 
-fn scalar_at(place: u32, json: serde_json::Value) -> Result<Scalar, ValueFault>
-    ensures value { result ≡ scalar_at place (view json) }
+fn scalar_at(alloc: Global, place: u32, json: serde_json::Value) -> Result<Scalar, ValueFault>
+    ensures value { MatchResult result (λ scalar. scalar_at place (view json) ≡ Ok scalar)
+        (λ fault. (fault ≡ NoMemory) ⊎ (scalar_at place (view json) ≡ Err fault)) }
     ensures scalar { IfOk result IsScalar }
 {
     match json {
@@ -28,43 +31,38 @@ fn scalar_at(place: u32, json: serde_json::Value) -> Result<Scalar, ValueFault>
             Some(whole) => Ok(Scalar::Int(whole)),
             None => Err(ValueFault::NotWhole(place)),
         },
-        serde_json::Value::String(text) => Ok(Scalar::Text(Text::of_string(text))),
+        serde_json::Value::String(text) => { Ok(Scalar::Text(Text::of_string(alloc, text)?)) }
         serde_json::Value::Array(_) | serde_json::Value::Object(_) => Err(ValueFault::Nested(
             place,
         )),
     }
 }
 
-fn fields_of(
-    alloc: Global,
-    members: Map<String, serde_json::Value>,
-) -> Result<Vec<Field>, ValueFault>
+fn fields_of(alloc: Global, members: Map<String, serde_json::Value>) -> Result<Fields, ValueFault>
     requires few { btree_map_len members < 2 ^ 32 }
     ensures value { MatchResult result
-        (λ fields. fields_from 0 (members_view members.entries) ≡ Ok fields.items)
+        (λ fields. fields_from 0 (members_view members.entries) ≡ Ok fields)
         (λ fault. RefusedAs fault (fields_from 0 (members_view members.entries))) }
-    ensures readable { IfOk result (λ fields. AllByRecursion IsField fields.items) }
-    ensures ascending { IfOk result (λ fields. HasAscendingNames fields.items) }
+    ensures readable { IfOk result (λ fields. AllByRecursion IsField fields) }
+    ensures ascending { IfOk result (λ fields. HasAscendingNames fields) }
 {
     let mut fields = ItemList::with_room(alloc, members.len())?;
     let mut place = 0;
     for (name, json) in members {
-        let scalar = scalar_at(place, json)?;
-        fields.push(Field {
-            name: Text::of_string(name),
-            scalar,
-        })?;
+        let scalar = scalar_at(alloc, place, json)?;
+        let name = Text::of_string(alloc, name)?;
+        fields.push(Field { name, scalar })?;
         place += 1;
     }
-    Ok(fields.into_vec())
+    Ok(Fields::of_vec(fields.into_vec()))
 }
 
-fn fields_of_json(alloc: Global, json: serde_json::Value) -> Result<Vec<Field>, ValueFault>
+fn fields_of_json(alloc: Global, json: serde_json::Value) -> Result<Fields, ValueFault>
     requires few { (found : Members) → view json ≡ object found → members_len found < 2 ^ 32 }
-    ensures value { MatchResult result (λ fields. value_of (Some (view json)) ≡ Ok fields.items)
+    ensures value { MatchResult result (λ fields. value_of (Some (view json)) ≡ Ok fields)
         (λ fault. RefusedAs fault (value_of (Some (view json)))) }
-    ensures readable { IfOk result (λ fields. AllByRecursion IsField fields.items) }
-    ensures ascending { IfOk result (λ fields. HasAscendingNames fields.items) }
+    ensures readable { IfOk result (λ fields. AllByRecursion IsField fields) }
+    ensures ascending { IfOk result (λ fields. HasAscendingNames fields) }
 {
     match json {
         serde_json::Value::Object(members) => fields_of(alloc, members),
@@ -72,12 +70,12 @@ fn fields_of_json(alloc: Global, json: serde_json::Value) -> Result<Vec<Field>, 
     }
 }
 
-fn fields_by_json(alloc: Global, bytes: &[u8]) -> Result<Vec<Field>, ValueFault>
+fn fields_by_json(alloc: Global, bytes: &[u8]) -> Result<Fields, ValueFault>
     requires { length bytes.now ≤ 1024 }
-    ensures value { MatchResult result (λ fields. read_value bytes.now ≡ Ok fields.items)
+    ensures value { MatchResult result (λ fields. read_value bytes.now ≡ Ok fields)
         (λ fault. RefusedAs fault (read_value bytes.now)) }
-    ensures kept { IfOk result (λ fields. IsValue fields.items) }
-    ensures shorter { IfOk result (λ fields. length (value_text fields.items) ≤ length bytes.now) }
+    ensures kept { IfOk result (λ fields. IsValue fields) }
+    ensures shorter { IfOk result (λ fields. length (value_text fields) ≤ length bytes.now) }
 {
     match serde_json::Value::from_slice(alloc, bytes) {
         Ok(json) => Ok(fields_of_json(alloc, json)?),
@@ -90,12 +88,12 @@ fn fields_by_json(alloc: Global, bytes: &[u8]) -> Result<Vec<Field>, ValueFault>
 }
 
 // Most texts are what their value prints, and need no JSON reader.
-fn fields_of_bytes(alloc: Global, bytes: &[u8]) -> Result<Vec<Field>, ValueFault>
+fn fields_of_bytes(alloc: Global, bytes: &[u8]) -> Result<Fields, ValueFault>
     requires { length bytes.now ≤ 1024 }
-    ensures value { MatchResult result (λ fields. read_value bytes.now ≡ Ok fields.items)
+    ensures value { MatchResult result (λ fields. read_value bytes.now ≡ Ok fields)
         (λ fault. RefusedAs fault (read_value bytes.now)) }
-    ensures kept { IfOk result (λ fields. IsValue fields.items) }
-    ensures shorter { IfOk result (λ fields. length (value_text fields.items) ≤ length bytes.now) }
+    ensures kept { IfOk result (λ fields. IsValue fields) }
+    ensures shorter { IfOk result (λ fields. length (value_text fields) ≤ length bytes.now) }
 {
     match fields_by_text(alloc, bytes)? {
         Some(fields) => Ok(fields),

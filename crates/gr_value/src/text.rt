@@ -1,22 +1,29 @@
 ghost use Rattle.std.specs.Prelude.{◌≡◌, IsTrue, IfOk, string_bytes};
 ghost use Rattle.std.specs.Str.{is_utf8};
 
+use crate::near::{Held, Near};
 use crate::{Copied, Memory};
 use std::alloc::Global;
 use std::marker::Model;
+use std::sync::Arc;
 
-/// A text, which contracts see as its bytes.
+/// A text, which contracts see as its bytes. Up to 14 bytes stand in the text itself, and of more
+/// the copies share one place.
 #[derive(Drop)]
 pub struct Text {
-    text: String,
+    held: Held<String>,
 }
 
 impl Model for Text {
-    ghost use Rattle.std.specs.Prelude.{List, ℕ, string_bytes};
+    ghost use Rattle.std.specs.Prelude.{IsTrue, List, ℕ, string_bytes};
+    ghost use Rattle.std.specs.Str.{is_utf8};
+    ghost use Rattle.gr_value.specs.Held.{held_bytes};
 
     ghost Value = { List ℕ };
 
-    ghost view = { λ text. string_bytes text.text };
+    ghost view = { λ text. held_bytes string_bytes text.held };
+
+    ghost invariant = { λ text. IsTrue (is_utf8 (held_bytes string_bytes text.held)) };
 }
 
 impl Text {
@@ -24,21 +31,53 @@ impl Text {
         ensures text { IfOk result (λ made. made ≡ text.now) }
         ensures utf8 { IfOk result (λ made. IsTrue (is_utf8 made)) }
     {
-        let text = String::from_str(alloc, text)?;
-        Ok(Text { text })
+        match Near::of_bytes(text.as_bytes()) {
+            Some(near) => Ok(Text {
+                held: Held::Near(near),
+            }),
+            None => Text::far(alloc, String::from_str(alloc, text)?),
+        }
     }
 
-    pub(crate) fn of_string(text: String) -> Text
-        ensures text { result ≡ string_bytes text }
-        ensures utf8 { IsTrue (is_utf8 result) }
+    pub(crate) fn of_string(alloc: Global, text: String) -> Result<Text, Memory>
+        ensures text { IfOk result (λ made. made ≡ string_bytes text) }
+        ensures utf8 { IfOk result (λ made. IsTrue (is_utf8 made)) }
     {
-        Text { text }
+        match Near::of_bytes(text.as_bytes()) {
+            Some(near) => Ok(Text {
+                held: Held::Near(near),
+            }),
+            None => Text::far(alloc, text),
+        }
+    }
+
+    fn far(alloc: Global, text: String) -> Result<Text, Memory>
+        ensures text { IfOk result (λ made. made ≡ string_bytes text) }
+        ensures utf8 { IfOk result (λ made. IsTrue (is_utf8 made)) }
+    {
+        let shared = Arc::new(alloc, text)?;
+        Ok(Text {
+            held: Held::Far(shared),
+        })
+    }
+
+    // Without a look at whether the bytes are UTF-8, which `as_str` takes at those that stand near.
+    pub(crate) fn bytes(&self) -> &[u8]
+        ensures { result.now ≡ self.now }
+    {
+        match &self.held {
+            Held::Near(near) => near.as_slice(),
+            Held::Far(shared) => shared.as_bytes(),
+        }
     }
 
     pub fn as_str(&self) -> &str
         ensures { result.now ≡ self.now }
     {
-        self.text.as_str()
+        match &self.held {
+            Held::Near(near) => str::from_utf8(near.as_slice()).unwrap(),
+            Held::Far(shared) => shared.as_str(),
+        }
     }
 }
 
@@ -52,7 +91,7 @@ impl PartialEq for Text {
     ghost laws = { Prim.search (comparing, rules) };
 
     fn eq(&self, other: &Text) -> bool {
-        self.as_str() == other.as_str()
+        self.bytes() == other.bytes()
     }
 }
 
@@ -64,7 +103,11 @@ impl Eq for Text {
 }
 
 impl Copied for Text {
-    fn copy(&self, alloc: Global) -> Result<Text, Memory> {
-        Text::new(alloc, self.as_str())
+    fn copy(&self, _alloc: Global) -> Result<Text, Memory> {
+        let held = match &self.held {
+            Held::Near(near) => Held::Near(near.copy()),
+            Held::Far(shared) => Held::Far(Arc::try_clone(shared)?),
+        };
+        Ok(Text { held })
     }
 }

@@ -2,6 +2,7 @@ ghost use Rattle.std.specs.Prelude.{◌≡◌, ◌↔◌, IsTrue, IfOk, option_c
 ghost use Rattle.gr_value.specs.Fields.{field_of, value_eq};
 ghost use Rattle.gr_value.specs.Values.{IsValue};
 
+use crate::fields::Fields;
 use crate::{Copied, Memory, Scalar, Text};
 use std::alloc::Global;
 use std::marker::Model;
@@ -13,6 +14,8 @@ pub struct Field {
     pub name: Text,
     pub scalar: Scalar,
 }
+
+const _: () = prove!(size_of::<Field>() == 40);
 
 impl PartialEq for Field {
     ghost use Rattle.gr_value.specs.Fields.{field_eq};
@@ -38,7 +41,7 @@ impl Eq for Field {
 /// fields. Copies share them.
 #[derive(Drop)]
 pub struct Value {
-    shared: Arc<Vec<Field>>,
+    shared: Arc<Fields>,
 }
 
 impl Model for Value {
@@ -49,15 +52,15 @@ impl Model for Value {
 
     ghost use Rattle.gr_value.specs.Values.{IsValue};
 
-    ghost view = { λ value. value.shared.value.items };
+    ghost view = { λ value. value.shared.value };
 
-    ghost invariant = { λ value. IsValue value.shared.value.items };
+    ghost invariant = { λ value. IsValue value.shared.value };
 }
 
 impl Value {
-    pub(crate) fn of_fields(alloc: Global, fields: Vec<Field>) -> Result<Value, Memory>
-        requires { IsValue fields.items }
-        ensures { IfOk result (λ value. value ≡ fields.items) }
+    pub(crate) fn of_fields(alloc: Global, fields: Fields) -> Result<Value, Memory>
+        requires { IsValue fields }
+        ensures { IfOk result (λ value. value ≡ fields) }
     {
         let shared = Arc::new(alloc, fields)?;
         Ok(Value { shared })
@@ -77,7 +80,7 @@ impl Value {
         let field = self
             .fields()
             .iter()
-            .find(|field| field.name.as_str() == name)?;
+            .find(|field| field.name.bytes() == name.as_bytes())?;
         Some(&field.scalar)
     }
 

@@ -1,4 +1,4 @@
-use Rattle.std.proofs.Common.{[], ◌∷◌, arith, sym, inr}
+use Rattle.std.proofs.Common.{[], ◌∷◌, arith}
 use Rattle.std.proofs.lemmas.Result.{err_from_is_err_and}
 use Rattle.gr_value.proofs.FieldsRead.{HasRead, read_none, read_more, read_fault, read_all}
 use Rattle.gr_value.proofs.reading.fields_of.Goals as goal
@@ -25,8 +25,8 @@ loop-name-preserved c = record {
       ((c.in-Some.name, c.in-Some.json) ∷ c.next.new.self) =
       rw c.in-Some.ensures.steps at c.loop-name.invariant.so_far in
       rw c.in_ok-push.ensures.ok (read_more _ _ _ (c.in-Some.name, c.in-Some.json) _
-      (record { name = c.of_string.result; scalar = c.in_ok-scalar.scalar }) so_far c.of_string.ensures.text
-      (sym c.in_ok-scalar.ensures.value) (c.of_string.ensures.utf8, c.in_ok-scalar.ensures.scalar));
+      (record { name = c.in_ok-name.name; scalar = c.in_ok-scalar.scalar }) so_far c.in_ok-name.ensures.text
+      c.in_ok-scalar.ensures.value (c.in_ok-name.ensures.utf8, c.in_ok-scalar.ensures.scalar));
 }
 
 pub returns-in_err-scalar : goal.returns-in_err-scalar
@@ -35,7 +35,7 @@ returns-in_err-scalar c =
     rw c.in-Some.ensures.steps at c.loop-name.invariant.so_far in
     let p = err_from_is_err_and c.from_residual-in_err-scalar.result c.from_residual-in_err-scalar.ensures.1 in
     rw (p.1, p.2) (record {
-      value = inr (read_fault _ _ _ _ _ _ so_far (sym c.in_err-scalar.ensures.value));
+      value = read_fault _ _ _ _ _ _ so_far c.in_err-scalar.ensures.value;
       readable = tt;
       ascending =
           tt;
@@ -46,4 +46,4 @@ returns c =
     let so_far : HasRead c.args.members.entries c.loop-name.fields c.loop-name.place [] =
     rw c.in-None.ensures.steps.0 at c.loop-name.invariant.so_far in
     let all = read_all _ _ _ so_far c.len.ensures.ordered in
-    rw c.into_vec.ensures (record { value = all.value; readable = all.readable; ascending = all.ascending })
+    rw (c.of_vec.ensures, c.into_vec.ensures) (record { value = all.value; readable = all.readable; ascending = all.ascending })

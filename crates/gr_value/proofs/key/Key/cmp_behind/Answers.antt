@@ -1,15 +1,15 @@
 use Rattle.std.proofs.Common.{◌≡◌, ◌∙◌, ◌≤◌, sym, subst, nat_cmp, ap, length, drop, List, ℕ}
 use Rattle.gr_value.specs.KeyBytes.{IsKey}
 use Rattle.gr_value.specs.KeyFront.{front_of}
-use Rattle.gr_value.specs.KeyHeld.{held_bytes}
+use Rattle.gr_value.specs.Held.{held_bytes}
 use Rattle.gr_value.proofs.KeyFronts.{backs_order}
 use Rattle.gr_value.proofs.Keys.{key_bytes}
 use Rattle.gr_value.proofs.key.Key.cmp_behind.Goals as goal
 
 pub returns-in-Near-Near : goal.returns-in-Near-Near
 returns-in-Near-Near c =
-    let one : c.in-Near-Near.one ≡ c.args.self.now = sym (ap held_bytes c.in-Near-Near.is-0) ∙ c.self.view_is in
-    let two : c.in-Near-Near.two ≡ c.args.other.now = sym (ap held_bytes c.in-Near-Near.is-1) ∙ c.other.view_is in
+    let one : c.in-Near-Near.one ≡ c.args.self.now = sym (ap (held_bytes (λ far. far.items)) c.in-Near-Near.is-0) ∙ c.self.view_is in
+    let two : c.in-Near-Near.two ≡ c.args.other.now = sym (ap (held_bytes (λ far. far.items)) c.in-Near-Near.is-1) ∙ c.other.view_is in
     let few : List ℕ → Type 0 = λ bytes. length bytes ≤ 14 in
     c.cmp.ensures
     ∙ (λ i. nat_cmp (c.back.ensures.back i) (c.back-in-Near-Near.ensures.back i))

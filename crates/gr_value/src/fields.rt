@@ -1,0 +1,69 @@
+ghost use Rattle.std.specs.Prelude.{◌≡◌, [], ◌∷◌};
+
+use crate::Field;
+use std::alloc::Global;
+use std::marker::Model;
+
+// Most values have one field, which needs no block of a `Vec`.
+#[derive(Drop)]
+enum Kept {
+    One([Field; 1]),
+    Many(Vec<Field>),
+}
+
+/// The fields of a value, which contracts see as their list.
+#[derive(Drop)]
+pub struct Fields {
+    kept: Kept,
+}
+
+impl Model for Fields {
+    ghost use Rattle.std.specs.Prelude.{List};
+    ghost use Rattle.gr_value.specs.declared.value.Field.{Field};
+
+    ghost Value = { List Field };
+
+    ghost use Rattle.gr_value.specs.Kept.{kept_fields};
+
+    ghost view = { λ fields. kept_fields fields.kept };
+}
+
+impl Fields {
+    pub fn none(alloc: Global) -> Fields
+        ensures { result ≡ [] }
+    {
+        Fields {
+            kept: Kept::Many(Vec::new(alloc)),
+        }
+    }
+
+    pub fn one(field: Field) -> Fields
+        ensures { result ≡ field ∷ [] }
+    {
+        Fields {
+            kept: Kept::One([field]),
+        }
+    }
+
+    pub fn of_vec(mut fields: Vec<Field>) -> Fields
+        ensures { result ≡ fields.items }
+    {
+        if fields.len() == 1
+            && let Some(only) = fields.pop()
+        {
+            return Fields::one(only);
+        }
+        Fields {
+            kept: Kept::Many(fields),
+        }
+    }
+
+    pub fn as_slice(&self) -> &[Field]
+        ensures { result.now ≡ self.now }
+    {
+        match &self.kept {
+            Kept::One(only) => only,
+            Kept::Many(many) => many.as_slice(),
+        }
+    }
+}
