@@ -5,7 +5,7 @@ use Rattle.std.specs.Prelude.{Option, Some, None, option_and_then, option_map, s
 use Rattle.std.proofs.lemmas.Bool.Decides.{nat_tests}
 use Rattle.std.proofs.lemmas.Grind.{reverse_onto}
 use Rattle.std.proofs.lemmas.List.{reverse-reverse, length-reverse}
-use Rattle.std.specs.Prelude.{◌%◌, ◌^◌}
+use Rattle.std.specs.Prelude.{◌%◌}
 use Rattle.gr_value.specs.Shard.{key_hash, shard_of}
 use Rattle.gr_history.specs.declared.ask.Ask.{Ask}
 use Rattle.gr_history.specs.declared.deed.Deed.{Deed}
@@ -21,6 +21,7 @@ use Rattle.gr_script.specs.Rules.{Heading, IsMember, IsStated, home_of}
 use Rattle.gr_world.specs.declared.world.World.{World}
 use Rattle.gr_world.specs.Events.{Event, Did, Peeked, Gathered, put_if, history}
 use Rattle.gr_world.specs.Clients.{Numbered, add_some, told, told_by, told_by_deed}
+use Rattle.gr_world.specs.Noted.{Notes, place_of}
 use Rattle.gr_world.specs.Numbered.{numbers_from}
 use Rattle.gr_world.specs.Records.{answers}
 use Rattle.gr_world.specs.Doings.{Doing, Calls, Takes, call_with, deed_of}
@@ -30,10 +31,8 @@ use Rattle.gr_world.specs.declared.task.Task.{Task}
 use Rattle.gr_world.specs.declared.task.Task.TheVariants as task
 use Rattle.gr_world.specs.Courses.{identity_at, does, delivers, for_each, hears, hears_of, after}
 use Rattle.gr_world.specs.declared.place.Place.{Place}
-use Rattle.gr_world.specs.Worlds.{HasMade, IsAtWork, IsCell, IsDone, IsFound, IsWorld, Notes, Plays, StandsAt, account_at, account_in}
-use Rattle.gr_world.specs.Worlds.{account_left, deed_at, grid_left, grid_with, longer, no_account, number_of, row_with, tellings_left, told_also}
-use Rattle.std.specs.Ordering.{nat_cmp}
-use Rattle.std.specs.BTreeMap.{BTreeMap, get}
+use Rattle.gr_world.specs.Worlds.{HasMade, IsAtWork, IsCell, IsDone, IsFound, IsWorld, Plays, StandsAt, account_at, account_in}
+use Rattle.gr_world.specs.Worlds.{account_left, deed_at, grid_left, grid_with, longer, no_account, row_with, tellings_left, told_also}
 use Rattle.gr_stamp.specs.declared.change.Change.{Change}
 use Rattle.gr_history.specs.declared.identity.Identity.{Identity}
 use Rattle.gr_vector.specs.declared.report.Report.{Report}
@@ -209,12 +208,12 @@ kept_found heading event events (Some place) made is = record {
     still (Gathered client number replies) = is.found
 
 -- An event that makes nothing leaves the table right.
-pub kept_made : (heading : Heading) (event : Event) (events : List Event) (table : BTreeMap ℕ Place)
+pub kept_made : (heading : Heading) (event : Event) (events : List Event) (table : List (List (Option Place)))
     → ((client number : ℕ) → made_by client number events ≡ made_by client number (event ∷ events))
     → HasMade heading events table → HasMade heading (event ∷ events) table
-kept_made heading event events table same has client number low =
-    subst (IsFound heading (event ∷ events) (get nat_cmp table (number_of client number))) (same client number)
-    (kept_found heading event events _ _ (has client number low))
+kept_made heading event events table same has client number =
+    subst (IsFound heading (event ∷ events) (place_of table client number)) (same client number)
+    (kept_found heading event events _ _ (has client number))
 
 -- What a call made stands behind all that stood in its history.
 made_last : (heading : Heading) (events : List Event) (place : Place) (deed : Deed)
@@ -260,8 +259,8 @@ call_plays heading old new member shard at client seq ask done is stated at_home
       grid_is = made.1;
       tellings_are = tellings ∙ ap (tellings_left heading) same;
       made_are = subst (λ all. HasMade heading all new.made) same
-          (λ own number low. subst (λ found. IsFound heading did found (made_by own number did)) (sym (notes own number low))
-          (noted at_end (client == own && seq == number) done.made _ _ refl (world.made_are own number low)));
+          (λ own number. subst (λ found. IsFound heading did found (made_by own number did)) (sym (notes own number))
+          (noted at_end (client == own && seq == number) done.made _ _ refl (world.made_are own number)));
     } in
     subst (λ s. IsWorld heading (does heading (home_of heading client) s doing events) new) at_shard
     (subst (λ m. IsWorld heading (does heading m shard doing events) new) at_home here)
@@ -336,31 +335,31 @@ abbrev pub IsChangeOf : Heading → World → ℕ → ℕ → Option Change → 
 IsChangeOf heading world client seq made = (events : List Event) → IsWorld heading events world → made ≡ made_by client seq events
 
 -- What stands at the place that the table has is what the step made.
-pub found_change : (heading : Heading) (world : World) (client seq : ℕ) (place : Place) → seq < 2 ^ 32
-    → get nat_cmp world.made (number_of client seq) ≡ Some place
+pub found_change : (heading : Heading) (world : World) (client seq : ℕ) (place : Place)
+    → place_of world.made client seq ≡ Some place
     → IsChangeOf heading world client seq
     (option_and_then made_in (slice_get (account_at world.grid place.site.member place.site.shard).deeds place.at))
-found_change heading world client seq place low is_found events is =
+found_change heading world client seq place is_found events is =
     let stands : StandsAt heading events place (made_by client seq events) =
-    subst (λ found. IsFound heading events found (made_by client seq events)) is_found (is.made_are client seq low) in
+    subst (λ found. IsFound heading events found (made_by client seq events)) is_found (is.made_are client seq) in
     ap (λ grid. option_and_then made_in (slice_get (account_at grid place.site.member place.site.shard).deeds place.at)) is.grid_is
     ∙ ap (λ account. option_and_then made_in (slice_get account.deeds place.at))
     (cell_left heading events place.site.member place.site.shard stands.member stands.shard)
     ∙ ap (option_and_then made_in) stands.found ∙ stands.made_is
 
-pub found_cell : (heading : Heading) (world : World) (client seq : ℕ) (place : Place) → seq < 2 ^ 32
-    → get nat_cmp world.made (number_of client seq) ≡ Some place → IsAtWork heading world
+pub found_cell : (heading : Heading) (world : World) (client seq : ℕ) (place : Place)
+    → place_of world.made client seq ≡ Some place → IsAtWork heading world
     → IsCell world.grid place.site.member place.site.shard
-found_cell heading world client seq place low is_found (events, is) =
+found_cell heading world client seq place is_found (events, is) =
     let stands : StandsAt heading events place (made_by client seq events) =
-    subst (λ found. IsFound heading events found (made_by client seq events)) is_found (is.made_are client seq low) in
+    subst (λ found. IsFound heading events found (made_by client seq events)) is_found (is.made_are client seq) in
     subst (λ grid. IsCell grid place.site.member place.site.shard) (sym is.grid_is)
     (is_cell heading events place.site.member place.site.shard stands.member stands.shard)
 
-pub found_nothing : (heading : Heading) (world : World) (client seq : ℕ) → seq < 2 ^ 32
-    → get nat_cmp world.made (number_of client seq) ≡ None → IsChangeOf heading world client seq None
-found_nothing heading world client seq low is_found events is =
-    sym (subst (λ found. IsFound heading events found (made_by client seq events)) is_found (is.made_are client seq low))
+pub found_nothing : (heading : Heading) (world : World) (client seq : ℕ)
+    → place_of world.made client seq ≡ None → IsChangeOf heading world client seq None
+found_nothing heading world client seq is_found events is =
+    sym (subst (λ found. IsFound heading events found (made_by client seq events)) is_found (is.made_are client seq))
 
 -- What was made is taken in, in the shard of its key.
 pub deliver_plays : (heading : Heading) (old new : World) (to client seq shard : ℕ) (change : Change)

@@ -5,6 +5,7 @@ pub mod Doings
 pub mod Events
 pub mod Histories
 pub mod Named
+pub mod Noted
 pub mod Numbered
 pub mod Records
 pub mod Rows

@@ -1,8 +1,6 @@
 -- The shards of all members, what each client was told, and where what each step made stands, as a course leaves them.
-use Rattle.std.specs.Prelude.{◌≡◌, ℕ, ◌+◌, ◌-◌, ◌*◌, ◌^◌, ◌≤◌, ◌<◌, ◌&&◌, ◌==◌, List, [], ◌∷◌, ◌++◌, length, reverse, get_or, set}
-use Rattle.std.specs.Prelude.{slice_get, slice_index, Option, None, Some, if◌then◌else◌}
-use Rattle.std.specs.Ordering.{nat_cmp}
-use Rattle.std.specs.BTreeMap.{BTreeMap, get}
+use Rattle.std.specs.Prelude.{◌≡◌, ℕ, ◌-◌, ◌≤◌, ◌<◌, List, [], ◌∷◌, ◌++◌, length, reverse, get_or, set}
+use Rattle.std.specs.Prelude.{slice_get, slice_index, Option, None, Some}
 use Rattle.gr_stamp.specs.declared.change.Change.{Change}
 use Rattle.gr_history.specs.declared.deed.Deed.{Deed}
 use Rattle.gr_history.specs.declared.identity.Identity.{Identity}
@@ -20,7 +18,8 @@ use Rattle.gr_script.specs.declared.line.Line.TheVariants as line
 use Rattle.gr_script.specs.Rules.{Heading, IsMember, IsStated, home_of}
 use Rattle.gr_world.specs.Events.{Event, history}
 use Rattle.gr_world.specs.Doings.{Doing, deed_of}
-use Rattle.gr_world.specs.Named.{made_by, made_in, or_else}
+use Rattle.gr_world.specs.Named.{made_by, made_in}
+use Rattle.gr_world.specs.Noted.{place_of}
 use Rattle.gr_world.specs.Courses.{asks_at_each, identity_at}
 use Rattle.gr_world.specs.Records.{answers}
 use Rattle.gr_world.specs.Numbered.{numbers_from, PairsFrom}
@@ -92,10 +91,6 @@ grid_left heading events = numbers_from 1 heading.members (λ member. numbers_fr
 abbrev pub tellings_left : Heading → List Event → List (List Answer)
 tellings_left heading events = numbers_from 1 (length heading.clients) (λ client. answers client events)
 
--- a step's number among the steps of all clients
-abbrev pub number_of : ℕ → ℕ → ℕ
-number_of client seq = client * 2 ^ 32 + seq
-
 -- At the place stands a deed that made this.
 pub record StandsAt (heading : Heading) (events : List Event) (place : Place) (made : Option Change) : Type 0 where
   pub member : IsMember heading place.site.member
@@ -108,16 +103,10 @@ abbrev pub IsFound : Heading → List Event → Option Place → Option Change �
 IsFound heading events None made = made ≡ None
 IsFound heading events (Some place) made = StandsAt heading events place made
 
--- The table has the place of what each step made.
-abbrev pub HasMade : Heading → List Event → BTreeMap ℕ Place → Type 0
-HasMade heading events table = (client seq : ℕ) → seq < 2 ^ 32
-    → IsFound heading events (get nat_cmp table (number_of client seq)) (made_by client seq events)
-
--- The table has the place of what this step made too, if it made anything.
-abbrev pub Notes : ℕ → ℕ → Option Place → BTreeMap ℕ Place → BTreeMap ℕ Place → Type 0
-Notes client seq place old new = (own number : ℕ) → number < 2 ^ 32
-    → get nat_cmp new (number_of own number)
-    ≡ or_else (if client == own && seq == number then place else None) (get nat_cmp old (number_of own number))
+-- The place of what each step made is noted.
+abbrev pub HasMade : Heading → List Event → List (List (Option Place)) → Type 0
+HasMade heading events made =
+    (client seq : ℕ) → IsFound heading events (place_of made client seq) (made_by client seq events)
 
 pub record IsWorld (heading : Heading) (events : List Event) (world : World) : Type 0 where
   pub grid_is : world.grid ≡ grid_left heading events

@@ -5,6 +5,8 @@ mod cell;
 mod grid;
 mod joining;
 mod laws;
+mod made;
+mod noted;
 mod place;
 mod querying;
 mod replaying;

@@ -11,9 +11,11 @@ ghost use Rattle.gr_shard.specs.View.{Account};
 ghost use Rattle.gr_world.specs.Events.{Event};
 ghost use Rattle.gr_world.specs.Named.{made_by, made_in};
 ghost use Rattle.gr_world.specs.Records.{IsLeft};
-ghost use Rattle.gr_world.specs.Worlds.{CanPlay, IsAtWork, IsWorld, Notes, Plays, number_of};
+ghost use Rattle.gr_world.specs.Noted.{Notes};
+ghost use Rattle.gr_world.specs.Worlds.{CanPlay, IsAtWork, IsWorld, Plays};
 
 use crate::grid::Grid;
+use crate::made::Made;
 use crate::place::Place;
 use crate::site::Site;
 use crate::stage::Stage;
@@ -26,34 +28,21 @@ use gr_shard::Shard;
 use gr_stamp::Change;
 use gr_value::{Copied, Key, Memory};
 use std::alloc::Global;
-use std::collections::BTreeMap;
 
 /// All members' shards, what each client was told, and where what each step made stands.
 #[derive(Drop)]
 pub struct World {
     pub grid: Grid,
     pub tellings: Tellings,
-    pub made: BTreeMap<u64, Place>,
-}
-
-// The number of a client's step among those of all clients.
-fn number_of(step: Step) -> u64
-    ensures { result ≡ number_of step.client step.seq }
-{
-    u64::from(step.client) * 0x1_0000_0000 + u64::from(step.seq)
+    pub made: Made,
 }
 
 // Notes where what a step made stands, if it made anything.
-fn note(
-    table: &mut BTreeMap<u64, Place>,
-    step: Step,
-    place: Place,
-    done: &Done,
-) -> Result<(), Memory>
-    ensures { IfOk result (λ _. Notes step.client step.seq (option_map (λ _. place) done.now.made) table.old table.new) }
+fn note(noted: &mut Made, step: Step, place: Place, done: &Done) -> Result<(), Memory>
+    ensures { IfOk result (λ _. Notes step.client step.seq (option_map (λ _. place) done.now.made) noted.old noted.new) }
 {
     if done.made.is_some() {
-        table.insert(number_of(step), place)?;
+        noted.note(step, place)?;
     }
     Ok(())
 }
@@ -104,7 +93,7 @@ impl World {
         Ok(World {
             grid: Grid::new(alloc, id, script.floor)?,
             tellings: Tellings::new(alloc, script.clients.len())?,
-            made: BTreeMap::new(alloc),
+            made: Made::new(alloc),
         })
     }
 
@@ -159,7 +148,7 @@ impl World {
         ensures { IfOk result (λ made. (events : List Event)
             → IsWorld (heading_of stage.entry.script.now) events self.now → made ≡ made_by client seq events) }
     {
-        let Some(place) = self.made.get(&number_of(Step { client, seq })) else {
+        let Some(place) = self.made.find(client, seq) else {
             return Ok(None);
         };
         let shard = self.grid.cell(place.site).shard();

@@ -1,6 +1,5 @@
-use Rattle.std.proofs.Common.{◌∙◌, ap, sym, nat_cmp}
+use Rattle.std.proofs.Common.{◌∙◌, ap, sym}
 use Rattle.std.specs.Prelude.{option_and_then, slice_get}
-use Rattle.std.specs.BTreeMap.{get_by}
 use Rattle.gr_script.specs.Scripts.{heading_of}
 use Rattle.gr_world.specs.Named.{made_in}
 use Rattle.gr_world.proofs.Worlds.{found_cell, found_change}
@@ -8,12 +7,12 @@ use Rattle.gr_world.proofs.world.World.change_of.Goals as goal
 
 pub cell-requires : goal.cell-requires
 cell-requires c =
-    found_cell (heading_of c.args.stage.script.now) c.args.self.now c.args.client c.args.seq c.in-Some.place.now c.ranges.seq.fits
-    (ap (λ k. get_by (nat_cmp k) c.args.self.now.made) (sym c.number_of.ensures) ∙ sym c.in-Some.ensures.value) c.requires.work
+    found_cell (heading_of c.args.stage.script.now) c.args.self.now c.args.client c.args.seq c.in-Some.place
+    (sym c.find.ensures ∙ c.in-Some.is) c.requires.work
 
 pub returns : goal.returns
 returns c events world =
-    c.in_ok-made_at.ensures ∙ ap (λ deeds. option_and_then made_in (slice_get deeds c.in-Some.place.now.at))
+    c.in_ok-made_at.ensures ∙ ap (λ deeds. option_and_then made_in (slice_get deeds c.in-Some.place.at))
     (c.history.ensures.deeds ∙ ap (λ account. account.deeds) (c.shard-shard.ensures ∙ c.cell.ensures))
-    ∙ found_change (heading_of c.args.stage.script.now) c.args.self.now c.args.client c.args.seq c.in-Some.place.now c.ranges.seq.fits
-    (ap (λ k. get_by (nat_cmp k) c.args.self.now.made) (sym c.number_of.ensures) ∙ sym c.in-Some.ensures.value) events world
+    ∙ found_change (heading_of c.args.stage.script.now) c.args.self.now c.args.client c.args.seq c.in-Some.place
+    (sym c.find.ensures ∙ c.in-Some.is) events world
