@@ -19,3 +19,5 @@ mod streams;
 mod turns;
 #[cfg(test)]
 mod vectors;
+#[cfg(test)]
+mod words;

@@ -1,4 +1,4 @@
-use crate::given_words;
+use gr_top::given_words;
 use std::env::{Env, FillError};
 use std::test::Fail;
 
