@@ -6,8 +6,6 @@ mod fault;
 mod lexer;
 mod list;
 mod scan;
-#[cfg(test)]
-mod tests;
 mod token;
 
 pub use fault::LexFault;

@@ -12,8 +12,6 @@ mod mail;
 mod passes;
 mod rule;
 mod stage;
-#[cfg(test)]
-mod tests;
 mod view;
 
 pub use courier::Courier;

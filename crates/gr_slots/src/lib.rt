@@ -4,8 +4,6 @@
 mod removals;
 mod slot;
 mod slots;
-#[cfg(test)]
-mod tests;
 
 pub use slot::Slot;
 pub use slots::Slots;

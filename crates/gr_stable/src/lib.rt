@@ -2,7 +2,5 @@
 #![tactic(auto)]
 
 mod heard;
-#[cfg(test)]
-mod tests;
 
 pub use heard::Heard;

@@ -7,8 +7,6 @@ mod cause;
 mod cause_texts;
 mod concluding;
 mod giving;
-#[cfg(test)]
-mod tests;
 mod words;
 
 pub use answering::replay_words;

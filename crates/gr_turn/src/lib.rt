@@ -7,8 +7,6 @@ mod kept;
 mod lock;
 mod making;
 mod rule;
-#[cfg(test)]
-mod tests;
 mod value;
 mod view;
 

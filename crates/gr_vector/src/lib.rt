@@ -5,8 +5,6 @@ mod gap;
 mod missing;
 mod report;
 mod shared;
-#[cfg(test)]
-mod tests;
 mod vector;
 
 pub use report::{Report, ReportList};

@@ -1,0 +1,23 @@
+//! Tests of the other crates, and nothing else: what no clause says, and values from outside.
+#![tactic(auto)]
+
+#[cfg(test)]
+mod lexing;
+#[cfg(test)]
+mod pictures;
+#[cfg(test)]
+mod post;
+#[cfg(test)]
+mod sharing;
+#[cfg(test)]
+mod slots;
+#[cfg(test)]
+mod stability;
+#[cfg(test)]
+mod streams;
+#[cfg(test)]
+mod turns;
+#[cfg(test)]
+mod vectors;
+#[cfg(test)]
+mod words;

@@ -1,0 +1,121 @@
+use gr_io::{
+    Failed, MemorySink, MemorySource, ReadEnd, Sink, Source, StdSink, StdSource, WriteFault,
+    read_all, write_all, write_each,
+};
+use std::alloc::Global;
+use std::io;
+use std::io::{Read, Write};
+use std::test::Fail;
+
+const TEXT: &[u8; 6] = b"region";
+
+// Reads the text in these pieces, under a limit, where one call fails, and says how that ended.
+fn ends(alloc: Global, piece: usize, limit: u64, failing: u64) -> Result<(usize, Vec<u8>), Fail> {
+    let piece = piece.max(1);
+    let fails = [failing].to_vec(alloc)?;
+    let mut source = MemorySource::new(TEXT.to_vec(alloc)?, piece, fails);
+    Ok(match read_all(alloc, &mut source, limit) {
+        Ok(bytes) => (0, bytes),
+        Err(ReadEnd::Fault) => (1, Vec::new(alloc)),
+        Err(ReadEnd::TooLarge(bytes)) => (2, bytes),
+        Err(ReadEnd::Memory) => (3, Vec::new(alloc)),
+    })
+}
+
+#[test]
+fn reads_up_to_the_end_a_limit_or_a_fault(rt: HostRuntime) -> Result<(), Fail> {
+    let rows: [(usize, u64, u64, usize, &[u8]); 8] = [
+        (1, 6, 0, 0, b"region"),
+        (4, 6, 0, 0, b"region"),
+        (64, u64::MAX, 0, 0, b"region"),
+        (1, 5, 0, 2, b"region"),
+        (64, 2, 0, 2, b"reg"),
+        (64, 0, 0, 2, b"r"),
+        (4, 6, 3, 1, b""),
+        (4, 6, 4, 0, b"region"),
+    ];
+    for (piece, limit, failing, ended, bytes) in rows {
+        let (how, read) = ends(rt.alloc(), piece, limit, failing)?;
+        assert_eq!(rt; how, ended, "piece {piece} limit {limit} failing {failing}");
+        assert_eq!(rt;
+            read.as_slice(),
+            bytes,
+            "piece {piece} limit {limit} failing {failing}"
+        );
+    }
+    Ok(())
+}
+
+#[test]
+fn writes_the_whole_or_a_part(rt: HostRuntime) -> Result<(), Fail> {
+    let rows: [(usize, usize, u64, bool, &[u8]); 6] = [
+        (6, 1, 0, true, b"region"),
+        (9, 4, 0, true, b"region"),
+        (4, 3, 0, false, b"regi"),
+        (6, 2, 2, false, b"re"),
+        (6, 2, 1, false, b""),
+        (6, 2, 4, true, b"region"),
+    ];
+    for (room, piece, failing, done, held) in rows {
+        let alloc = rt.alloc();
+        let fails = [failing].to_vec(alloc)?;
+        let mut sink = MemorySink::new(alloc, room, piece.max(1), fails)
+            .ok()
+            .ok_or("memory")?;
+        let wrote = write_all(&mut sink, TEXT).is_ok();
+        assert_eq!(rt; wrote, done, "room {room} piece {piece} failing {failing}");
+        assert_eq!(rt;
+            sink.held(),
+            held,
+            "room {room} piece {piece} failing {failing}"
+        );
+    }
+    Ok(())
+}
+
+/// Fails at every call.
+#[derive(Drop)]
+struct Broken;
+
+impl Read for Broken {
+    fn read(&mut self, _buf: &mut [u8]) -> io::Result<usize> {
+        Err(io::Error::from(io::ErrorKind::Other))
+    }
+}
+
+impl Write for Broken {
+    fn write(&mut self, _buf: &[u8]) -> io::Result<usize> {
+        Err(io::Error::from(io::ErrorKind::Other))
+    }
+
+    fn flush(&mut self) -> io::Result<()> {
+        Ok(())
+    }
+}
+
+#[test]
+fn reads_from_std(rt: HostRuntime) -> Result<(), Fail> {
+    let mut source = StdSource::new(TEXT.as_slice());
+    let read = read_all(rt.alloc(), &mut source, 6).ok().ok_or("not read")?;
+    assert_eq!(rt; read.as_slice(), TEXT.as_slice());
+    let mut cut_off = StdSource::new(TEXT.as_slice().chain(Broken));
+    let ended = read_all(rt.alloc(), &mut cut_off, 6);
+    assert!(rt; matches!(ended, Err(ReadEnd::Fault)));
+    assert_eq!(rt; StdSource::new(Broken).read(&mut [0; 4]), Err(Failed));
+    Ok(())
+}
+
+#[test]
+fn writes_to_std(rt: HostRuntime) -> Result<(), Fail> {
+    let mut sink = StdSink::new(Vec::new(rt.alloc()));
+    write_all(&mut sink, TEXT).ok().ok_or("not written")?;
+    assert_eq!(rt; sink.into_inner().as_slice(), TEXT.as_slice());
+    let mut room = [0u8; 4];
+    let wrote = write_each(&mut StdSink::new(room.as_mut_slice()), &["re", "gi", "on"]);
+    assert_eq!(rt; wrote, Err(WriteFault));
+    assert_eq!(rt; room, *b"regi");
+    assert_eq!(rt; StdSink::new(Broken).write(TEXT), Err(Failed));
+    let mut full = [0u8; 0];
+    assert_eq!(rt; StdSink::new(full.as_mut_slice()).write(TEXT), Err(Failed));
+    Ok(())
+}
