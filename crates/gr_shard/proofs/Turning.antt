@@ -1,5 +1,6 @@
 -- What the open queries are told is what the history turns.
-use Rattle.std.proofs.Common.{suc, ◌≡◌, ◌∙◌, ap, sym, refl, subst, arith, ℕ, List, [], ◌∷◌, ◌++◌, ◌==◌, Bool, true, false, if◌then◌else◌, inl, inr}
+use Rattle.std.proofs.Common.{suc, ◌≡◌, ◌∙◌, ap, sym, refl, subst, arith, ℕ, List, [], ◌∷◌, ◌++◌, ◌==◌, Bool, true}
+use Rattle.std.proofs.Common.{false, if◌then◌else◌, inl, inr}
 use Rattle.std.proofs.Common.{Option, Some, None, filter, map, length}
 use Rattle.std.proofs.lemmas.Bool.Decides.{nat_tests}
 use Rattle.std.proofs.lemmas.List.{append-nil}

@@ -1,5 +1,6 @@
 -- A report is kept at its member's place.
-use Rattle.std.proofs.Common.{◌≡◌, ◌∙◌, ap, sym, refl, ℕ, zero, suc, ◌+◌, ◌<◌, ◌≤◌, ◌⊎◌, List, [], ◌∷◌, true, false, ◌&&◌, ◌==◌, length, set}
+use Rattle.std.proofs.Common.{◌≡◌, ◌∙◌, ap, sym, refl, ℕ, zero, suc, ◌+◌, ◌<◌, ◌≤◌, ◌⊎◌, List, [], ◌∷◌, true, false}
+use Rattle.std.proofs.Common.{◌&&◌, ◌==◌, length, set}
 use Rattle.std.proofs.Common.{Option, Some, None, if◌then◌else◌, arith, inl, inr, replicate, get_or}
 use Rattle.std.proofs.lemmas.Bool.Decides.{nat_tests}
 use Rattle.std.specs.Prelude.{slice_index_or}

@@ -94,7 +94,8 @@ fits_too heading giver joiner shard (gift.Own changes) fits = fits
 pub work_id : (heading : Heading) (world : World) (member shard : ℕ) → IsAtWork heading world → IsMember heading member
     → shard < heading.shards → (account_at world.grid member shard).id ≡ identity_at heading member shard
 work_id heading world member shard (events, left) is within =
-    ap (λ grid. (account_at grid member shard).id) left.grid_is ∙ ap (λ account. account.id) (cell_left heading events member shard is within)
+    ap (λ grid. (account_at grid member shard).id) left.grid_is ∙ ap (λ account. account.id)
+    (cell_left heading events member shard is within)
 
 -- and its changes belong there
 pub item_here : (heading : Heading) (world : World) (member shard : ℕ) (changes : List Change) (i : ℕ) (change : Change)

@@ -1,5 +1,6 @@
 -- A peek is behind the deeds of the client's earlier steps, and its earlier peeks.
-use Rattle.std.proofs.Common.{zero, suc, ◌≡◌, ℕ, ◌≤◌, ◌<◌, List, [], ◌∷◌, Bool, true, false, ◌&&◌, ◌==◌, refl, sym, ap, ◌∙◌, subst, inl, inr}
+use Rattle.std.proofs.Common.{zero, suc, ◌≡◌, ℕ, ◌≤◌, ◌<◌, List, [], ◌∷◌, Bool, true, false, ◌&&◌, ◌==◌, refl, sym, ap}
+use Rattle.std.proofs.Common.{◌∙◌, subst, inl, inr}
 use Rattle.std.proofs.Common.{arith, map, length}
 use Rattle.std.specs.Prelude.{Option, Some, None}
 use Rattle.std.proofs.lemmas.Bool.Decides.{nat_tests}
@@ -118,7 +119,8 @@ all_follow heading (Step client number (act.Call ask) ∷ past) stand = (tt, all
 all_follow heading (Step client number (act.Peek key) ∷ past) stand = all_follow heading past stand.1
 all_follow heading (Step client number (act.Query ask) ∷ past) stand =
     (asks_follow heading client number ask heading.shards (course heading past)
-    (λ earlier key value at a. below_among number earlier (numbers client past) below (peek_number heading past client earlier key value at a))
+    (λ earlier key value at a. below_among number earlier (numbers client past) below
+    (peek_number heading past client earlier key value at a))
     (all_follow heading past stand.1)).1
   where
     itself : (client == client) ≡ true
@@ -183,7 +185,8 @@ late : (heading : Heading) (events : List Event) → IsCausal heading events →
     → Older (deed ∷ past) (history (home_of heading client) (shard_of key heading.shards) events)
     → earlier < number → suc (length past) ≤ at
 late heading [] h follow client number key value at desc a earlier ask deed past is o less = absurd a
-late heading (Peeked own seq which seen place ∷ before) h follow client number key value at desc (inl peek) earlier ask deed past is o less =
+late heading (Peeked own seq which seen place ∷ before) h follow client number key value at desc (inl peek) earlier ask deed
+    past is o less =
     let next : IsNextEvent heading (Peeked client number key value at) before = subst (λ e. IsNextEvent heading e before) (sym peek) h.0 in
     let long = older_length (deed ∷ past) (history (home_of heading client) (shard_of key heading.shards) before) o in
     omega (arith, long, next.1)
@@ -211,7 +214,8 @@ late heading (Did m s did ∷ before) h follow client number key value at desc a
 
     at_test : (b : Bool)
         → (Older (deed ∷ past) (history (home_of heading client) (shard_of key heading.shards) before) → suc (length past) ≤ at)
-        → Older (deed ∷ past) (put_if b did (history (home_of heading client) (shard_of key heading.shards) before)) → suc (length past) ≤ at
+        → Older (deed ∷ past) (put_if b did (history (home_of heading client) (shard_of key heading.shards) before))
+        → suc (length past) ≤ at
     at_test true next (inl same) =
         let k = newer client number earlier ask key value at before did (sym (ap asking_of (head same)) ∙ is) follow.0 desc earlier_peek in
         absurd (omega (arith, k, less))
@@ -221,7 +225,8 @@ late heading (Did m s did ∷ before) h follow client number key value at desc a
 pub peeks_late-holds : (heading : Heading) (past : List Line) → IsHeading heading → AllStand heading past
     → peeks_late heading (course heading past)
 peeks_late-holds heading past is_heading stand client number key value at a earlier ask deed before is o less =
-    late heading (course heading past) (course_causal heading past is_heading stand) (all_follow heading past stand) client number key value at
+    late heading (course heading past) (course_causal heading past is_heading stand) (all_follow heading past stand) client
+    number key value at
     (subst Descends (sym (answers_stand-holds heading past client))
     (numbers_descend-holds heading client past stand)) a earlier ask deed before is o less
 

@@ -7,6 +7,7 @@ abbrev pub invariant-loop-place : goal.invariant-loop-place
 invariant-loop-place l = record {
   count : length l.lanes.items ≡ length l.initial.lanes.items;
   number : l.after ≡ number_before l.fn.number l.fn.to l.place;
-  done : (k : ℕ) (d : Way) → k < l.place → get_or l.lanes.items k d ≡ ready_for l.mail l.fn.to l.fn.number k (get_or l.initial.lanes.items k d);
+  done : (k : ℕ) (d : Way) → k < l.place → get_or l.lanes.items k d
+      ≡ ready_for l.mail l.fn.to l.fn.number k (get_or l.initial.lanes.items k d);
   others : (k : ℕ) (d : Way) → l.place ≤ k → get_or l.lanes.items k d ≡ get_or l.initial.lanes.items k d;
 }

@@ -16,7 +16,8 @@ invariant_of-result c =
           (begins c.args.passes ways first is c.requires.members c.requires.unused),
       (
         c.in_ok-home.ensures.items,
-        let a = ap length is in let b = length-map c.args.passes new_way in let d = c.in_ok-home.ensures.exact in let e = c.len.ensures in omega arith,
+        let a = ap length is in let b = length-map c.args.passes new_way in let d = c.in_ok-home.ensures.exact in
+            let e = c.len.ensures in omega arith,
       ),
     )
 

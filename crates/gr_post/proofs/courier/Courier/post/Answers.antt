@@ -30,8 +30,10 @@ returns-clause-plan c =
     let one : Posting = record { mail = c.args.mail.now; to = c.args.to } in
     let open_ = ap (λ (k : Carrying). k.stage) c.self.view_is ∙ c.requires.open in
     let was = was_open s.lanes.items s.posted.items s.first s.number s.stage _ c.self.view_is c.requires.open c.self.invariant.0 in
-    let more = c.push_reserved.ensures.items ∙ (λ i. c.reserve.ensures.items i ++ record { mail = c.in_ok-copy.ensures i; to = c.args.to } ∷ []) in
+    let more = c.push_reserved.ensures.items
+    ∙ (λ i. c.reserve.ensures.items i ++ record { mail = c.in_ok-copy.ensures i; to = c.args.to } ∷ []) in
     subst (λ (t : Stage). FollowsPlan (carrying now posted s.first t)) (sym open_)
     (follows_plan now posted s.first c.in_ok-after.after Open
-    (posts s.lanes.items p.new.lanes.items now s.posted.items posted one s.first s.number c.in_ok-after.after was p.ensures.count q.ensures.count
+    (posts s.lanes.items p.new.lanes.items now s.posted.items posted one s.first s.number c.in_ok-after.after was
+    p.ensures.count q.ensures.count
     c.in_ok-after.ensures.number c.in_ok-after.ensures.ready q.ensures.each more))

@@ -23,7 +23,8 @@ returns-clause-pushed g c =
       same = ap (λ (k : Carrying). record k { lines = map line_of now }) c.self.view_is;
       count = length-map now line_of ∙ count ∙ sym (length-map ways line_of) ∙ ap (λ (k : Carrying). length k.lines) c.self.view_is;
       tables = tables_same ways now count moved ∙ ap tables_of c.self.view_is;
-      moves = subst (λ (k : Carrying). (n : ℕ) (d : Line) → n < length k.lines → LineMoves (get_or k.lines n d) (get_or (map line_of now) n d))
+      moves = subst
+          (λ (k : Carrying). (n : ℕ) (d : Line) → n < length k.lines → LineMoves (get_or k.lines n d) (get_or (map line_of now) n d))
           c.self.view_is (line_moves ways now count moved);
       plan = follows_plan now s.posted.items s.first s.number s.stage
           (moves ways now s.posted.items s.first s.number s.stage c.self.invariant.0 count moved);

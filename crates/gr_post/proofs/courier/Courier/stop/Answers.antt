@@ -8,7 +8,8 @@ use Rattle.gr_post.proofs.courier.Courier.stop.Goals as goal
 pub returns-clause-passes : goal.returns-clause-passes
 returns-clause-passes c =
     let p = c.stop_each in
-    passes_same c.self.inside.lanes.items p.new.lanes.items p.ensures.count (λ k d lt. ap pass_of (p.ensures.each k d lt)) ∙ ap passes_of c.self.view_is
+    passes_same c.self.inside.lanes.items p.new.lanes.items p.ensures.count (λ k d lt. ap pass_of (p.ensures.each k d lt))
+    ∙ ap passes_of c.self.view_is
 
 pub returns-clause-ends : goal.returns-clause-ends
 returns-clause-ends c =

@@ -15,7 +15,8 @@ learn_as-requires-clause-rule c = balances _ _ (ap (λ (v : View). v.takes) c.ab
 
 pub returns-clause-order : goal.returns-clause-order
 returns-clause-order c =
-    in_order (view c.absorb.new.pass) (view c.learn_as.new.pass) c.learn_as.ensures.rule.0 c.learn_as.ensures.queue.1 c.learn_as.ensures.rule.1
+    in_order (view c.absorb.new.pass) (view c.learn_as.new.pass) c.learn_as.ensures.rule.0 c.learn_as.ensures.queue.1
+    c.learn_as.ensures.rule.1
 
 pub returns-clause-first : goal.returns-clause-first
 returns-clause-first c =

@@ -33,6 +33,7 @@ invariant_of-self-2 c =
     c.in_ok-come_in.ensures.told
     ∙ ap (λ m. noted_ (turned_by_change was.slots m) was.queries.entries) c.as_ref-made.ensures.value in
     rw (pushed, reverse-append, noted, entered, told)
-    (kept_called was.id was.opening (kept was.slots was.vector.ids was.floor was.clock was.joined was.to was.heard was.given was.queries.entries) past
+    (kept_called was.id was.opening (kept was.slots was.vector.ids was.floor was.clock was.joined was.to was.heard was.given
+    was.queries.entries) past
     c.args.client c.args.seq
     c.args.ask.now done.reply done.made done.to c.self.invariant here gives)

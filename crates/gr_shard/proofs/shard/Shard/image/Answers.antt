@@ -15,7 +15,8 @@ returns-clause-image c =
       at_is = c.len.ensures ∙ sym (length-reverse was.history.deeds);
       rows_are = c.in_ok-standing.ensures.changes
           ∙ changes_in-kept was.id was.opening
-          (kept was.slots was.vector.ids was.floor was.clock was.joined was.to was.heard was.given was.queries.entries) (reverse was.history.deeds)
+          (kept was.slots was.vector.ids was.floor was.clock was.joined was.to was.heard was.given was.queries.entries)
+          (reverse was.history.deeds)
           c.self.invariant c.in_ok-standing.ensures.ordered;
       vector_is = ap (λ v. v.ids) c.in_ok-copy.ensures ∙ c.self.invariant.noted;
       floor_is = c.self.invariant.floored;

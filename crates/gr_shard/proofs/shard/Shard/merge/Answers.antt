@@ -25,5 +25,6 @@ invariant_of-self-2 c =
     c.in_ok-take_over.ensures.told
     ∙ ap (λ slots. noted (turned_between was.slots slots) was.queries.entries) c.in_ok-slots.ensures.merged in
     rw (pushed, reverse-append, c.in_ok-take_over.ensures.ids, slots_are, told, c.max-self-inside.ensures)
-    (kept_merged was.id was.opening (kept was.slots was.vector.ids was.floor was.clock was.joined was.to was.heard was.given was.queries.entries) past image
+    (kept_merged was.id was.opening (kept was.slots was.vector.ids was.floor was.clock was.joined was.to was.heard was.given
+    was.queries.entries) past image
     c.self.invariant c.in_ok-slots.ensures.ordered fits)

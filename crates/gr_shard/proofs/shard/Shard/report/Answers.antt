@@ -19,7 +19,8 @@ invariant_of-self-2 c =
     ∙ ap (λ deeds. deeds ++ Reported c.in_ok-copy-2.field-0 ∷ []) c.in_ok-reserve.ensures.deeds
     ∙ ap (λ copy. was.history.deeds ++ Reported copy ∷ []) c.in_ok-copy-2.ensures in
     rw (pushed, reverse-append)
-    (kept_reported was.id was.opening (kept was.slots was.vector.ids was.floor was.clock was.joined was.to was.heard was.given was.queries.entries) past
+    (kept_reported was.id was.opening (kept was.slots was.vector.ids was.floor was.clock was.joined was.to was.heard was.given
+    was.queries.entries) past
     report
     c.self.invariant record {
       member_is = refl;

@@ -38,7 +38,8 @@ returns-clause-expired c =
     let now = kept was.slots was.vector.ids was.floor was.clock was.joined was.to was.heard was.given was.queries.entries in
     rw (← c.self.view_is) (c.len-count.ensures
     ∙ ap length (expired_is was.id was.opening c.args.moment c.max-clock.result now past c.as_slice.result.now
-    c.in_ok-expired.expired c.self.invariant c.in_ok-timed_out.ensures.ordered c.max-clock.ensures (c.as_slice.ensures ∙ c.in_ok-timed_out.ensures.keys)
+    c.in_ok-expired.expired c.self.invariant c.in_ok-timed_out.ensures.ordered c.max-clock.ensures
+    (c.as_slice.ensures ∙ c.in_ok-timed_out.ensures.keys)
     (rw (← c.self.view_is) at c.in_ok-expired.ensures)))
 
 pub returns-clause-added : goal.returns-clause-added

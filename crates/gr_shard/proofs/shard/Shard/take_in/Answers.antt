@@ -33,6 +33,7 @@ invariant_of-self-2 c =
     c.in_ok-come_in.ensures.told
     ∙ ap (λ m. noted_ (turned_by_change was.slots m) was.queries.entries) c.applied-came.ensures in
     rw (pushed, reverse-append, noted, entered, heard)
-    (kept_taken was.id was.opening (kept was.slots was.vector.ids was.floor was.clock was.joined was.to was.heard was.given was.queries.entries) past change
+    (kept_taken was.id was.opening (kept was.slots was.vector.ids was.floor was.clock was.joined was.to was.heard was.given
+    was.queries.entries) past change
     told
     c.self.invariant here is)

@@ -29,5 +29,6 @@ pub returns : goal.returns
 returns c =
     let heading = heading_of c.args.stage.script.now in
     let whole : c.loop-shard.shard ≡ c.args.stage.script.now.shards = omega (arith, c.loop-shard-test.false, c.loop-shard.auto.shard-end) in
-    subst (λ n. Plays heading (for_each n (λ shard. does heading c.args.member shard (doing_of c.args.task))) c.args.self.now c.loop-shard.self)
+    subst (λ n. Plays heading (for_each n (λ shard. does heading c.args.member shard (doing_of c.args.task))) c.args.self.now
+    c.loop-shard.self)
     whole c.loop-shard.invariant

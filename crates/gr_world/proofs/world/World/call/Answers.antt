@@ -37,8 +37,10 @@ returns c =
     let script = c.args.stage.script.now in
     let at = c.shard-shard.ensures ∙ ap (λ k. shard_of k script.shards) c.key.ensures in
     let step = c.args.step in
-    call_plays (heading_of script) c.args.self.now _ c.home-member.result c.shard-shard.result c.len-at.result step.client step.seq c.args.ask.now
+    call_plays (heading_of script) c.args.self.now _ c.home-member.result c.shard-shard.result c.len-at.result step.client
+    step.seq c.args.ask.now
     c.in_ok-done.done c.home-member.ensures.member c.requires.stated c.home-member.ensures.home at
     (shard_within (key_of c.args.ask.now) c.shard-shard.result script.shards script.ruled.heading.shards.0 at) c.in_ok-done.ensures
-    (c.len-at.ensures ∙ ap (λ deeds. length deeds) c.history.ensures.deeds ∙ ap (λ account. length account.deeds) (c.shard.ensures ∙ c.cell.ensures))
+    (c.len-at.ensures ∙ ap (λ deeds. length deeds) c.history.ensures.deeds ∙ ap (λ account. length account.deeds)
+    (c.shard.ensures ∙ c.cell.ensures))
     c.in_ok-note.ensures c.in_ok-tell.ensures

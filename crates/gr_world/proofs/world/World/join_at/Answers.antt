@@ -39,5 +39,6 @@ returns c =
     let heading = heading_of c.args.stage.script.now in
     let whole : c.loop-below.below ≡ c.args.stage.script.now.members =
     omega (arith, c.loop-below-test.false, c.loop-below.auto.below-end) in
-    subst (λ n. Plays heading (for_each n (λ k. gives_unless (suc k == c.args.site.member) heading c.args.site.member c.args.site.shard (suc k)
+    subst (λ n. Plays heading (for_each n (λ k. gives_unless (suc k == c.args.site.member) heading c.args.site.member
+    c.args.site.shard (suc k)
     (what_from (suc k == c.args.provider)))) c.args.self.now c.loop-below.self) whole c.loop-below.invariant
