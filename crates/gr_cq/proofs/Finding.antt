@@ -49,14 +49,13 @@ module _ (client : ℕ) (name : List ℕ) where
       rw (others 0 (omega arith)) (ap (λ rest. entry_of one ∷ rest)
       (changed_from change all i d new (omega (arith, lt)) (λ k l. others (suc k) (omega (arith, l))) here is))
 
-  pub changed_here : (change : Kept → Kept) (all : List Open) (i : ℕ) (d new : Open) → position is_here all ≡ Some i
+  pub changed_here : (change : Kept → Kept) (all : List Open) (i : ℕ) (d new : Open) → Some i ≡ position is_here all
       → entry_of new ≡ with_kept change (entry_of (get_or all i d))
       → entries_of (set all i new) ≡ changed_at client name change (entries_of all)
   changed_here change all i d new at is =
-      let first = position-Some is_here all i d at in changed_from change all i d new first.0 first.2 first.1 is
+      let first = position-Some is_here all i d (sym at) in changed_from change all i d new first.0 first.2 first.1 is
 
-  -- where there is none, nothing is changed
-  pub unchanged : (change : Kept → Kept) (entries : List Entry) → find client name entries ≡ None
+  unchanged : (change : Kept → Kept) (entries : List Entry) → find client name entries ≡ None
       → entries ≡ changed_at client name change entries
   unchanged change [] none = refl
   unchanged change (entry ∷ entries) none = first (is_at client name entry) refl none (unchanged change entries)
@@ -69,6 +68,11 @@ module _ (client : ℕ) (name : List ℕ) where
           some : is_at client name entry ≡ true → find client name (entry ∷ entries) ≡ None → ⊥
           some here none = cc
       first false here none rest = rw here (ap (λ more. entry ∷ more) (rest (grind arith)))
+
+  -- where there is none, nothing is changed
+  pub none_changed : (change : Kept → Kept) (all : List Open) → None ≡ position is_here all
+      → entries_of all ≡ changed_at client name change (entries_of all)
+  none_changed change all none = unchanged change (entries_of all) (not_found all (sym none))
 
   -- whether there is one
   pub is_found : (all : List Open) (o : Option ℕ) → o ≡ position is_here all → is_some o ≡ is_some (find client name (entries_of all))

@@ -91,6 +91,7 @@ pub fn carry_out(all: &mut Vec<Open>, plan: Plan)
 }
 
 /// Stops the query of that client and name.
+#[tactic(auto, using(crate::proofs::Finding::changed_here, crate::proofs::Finding::none_changed))]
 pub fn stop_at(all: &mut [Open], client: u8, name: &Key)
     ensures { entries_of all.new ≡ changed_at client name.now kept_stopped (entries_of all.old) }
 {
@@ -100,6 +101,7 @@ pub fn stop_at(all: &mut [Open], client: u8, name: &Key)
 }
 
 // Leaves the query of that client and name no event.
+#[tactic(auto, using(crate::proofs::Finding::changed_here, crate::proofs::Finding::none_changed))]
 fn take_at(all: &mut [Open], client: u8, name: &Key)
     ensures { entries_of all.new ≡ changed_at client name.now kept_taken (entries_of all.old) }
 {

@@ -69,7 +69,6 @@ impl Deed {
     }
 
     /// Whether it takes in a change that loses to what stands.
-    #[tactic(auto, unfolding(crate::specs::Deeds::is_discarded))]
     pub fn is_discarded(&self) -> bool
         ensures { result ≡ is_discarded self.now }
     {
@@ -83,7 +82,6 @@ impl Deed {
     }
 
     /// Whether it takes in a change that came in before.
-    #[tactic(auto, unfolding(crate::specs::Deeds::is_repeat))]
     pub fn is_repeat(&self) -> bool
         ensures { result ≡ is_repeat self.now }
     {

@@ -93,26 +93,14 @@ impl History {
     pub fn discarded(&self) -> u64
         ensures { result ≡ count_by is_discarded self.now.deeds }
     {
-        let mut count = 0;
-        for deed in &self.deeds {
-            if deed.is_discarded() {
-                count += 1;
-            }
-        }
-        count
+        self.deeds.iter().filter(|deed| deed.is_discarded()).count() as u64
     }
 
     /// How many changes came again. Takes time in proportion to the history.
     pub fn repeats(&self) -> u64
         ensures { result ≡ count_by is_repeat self.now.deeds }
     {
-        let mut count = 0;
-        for deed in &self.deeds {
-            if deed.is_repeat() {
-                count += 1;
-            }
-        }
-        count
+        self.deeds.iter().filter(|deed| deed.is_repeat()).count() as u64
     }
 
     /// The same deeds. The copy has no room to spare.

@@ -33,7 +33,6 @@ pub fn a_put_passes_an_expired_tombstone()
 
 /// A put that comes behind its removal loses, and so does the removal to the put that came last. A
 /// member that heard nothing of the other lets nothing expire.
-#[tactic(auto, unfolding(crate::specs::Deeds::is_discarded, crate::specs::Deeds::is_repeat))]
 pub fn a_late_put_is_discarded()
     ensures lawful { IsLawful (member_in 2 2 2) 0 second_whole }
     ensures absent { present one_key second_swept ≡ None }

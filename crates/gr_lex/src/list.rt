@@ -1,4 +1,4 @@
-ghost use Rattle.std.specs.Prelude.{◌≡◌, ◌==◌, [], ◌∷◌, ◌++◌, length, slice_get, IfOk, IfErr, OnOk, OnErr, option_copied};
+ghost use Rattle.std.specs.Prelude.{◌≡◌, [], ◌∷◌, ◌++◌, length, slice_get, IfOk, IfErr, OnOk, OnErr, option_copied};
 ghost use Rattle.gr_lex.specs.declared.fault.LexFault.TheVariants.{Memory};
 
 use crate::{LexFault, Token};
@@ -45,12 +45,6 @@ impl TokenList {
         ensures { result ≡ length self.now }
     {
         self.entries.len()
-    }
-
-    pub fn is_empty(&self) -> bool
-        ensures { result ≡ (length self.now == 0) }
-    {
-        self.entries.is_empty()
     }
 
     /// The token at a place, counted from 0.

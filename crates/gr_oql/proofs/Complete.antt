@@ -53,76 +53,46 @@ parts_of P Q ts left f =
 
 -- What a terminal is, it alone is.
 pub name_no_symbol : (s : Symbol) (t : Terminal) (w : List ℕ) → as_name t ≡ Some w → is_symbol s t ≡ false
-name_no_symbol s (name v) w is = refl
-name_no_symbol s (keyword k v) w is = refl
-name_no_symbol s (number n) w is = refl
-name_no_symbol s (quoted p) w is = refl
 name_no_symbol s (symbol u) w is = absurd (cc)
+name_no_symbol s _ w is = refl
 
 pub name_no_keyword : (k : Keyword) (t : Terminal) (w : List ℕ) → as_name t ≡ Some w → is_keyword k t ≡ false
-name_no_keyword k (name v) w is = refl
 name_no_keyword k (keyword u v) w is = absurd (cc)
-name_no_keyword k (number n) w is = refl
-name_no_keyword k (quoted p) w is = refl
-name_no_keyword k (symbol u) w is = refl
+name_no_keyword k _ w is = refl
 
 pub number_is : (t : Terminal) (n : ℕ) → as_number t ≡ Some n → t ≡ number n
-number_is (name v) n is = absurd (cc)
-number_is (keyword u v) n is = absurd (cc)
 number_is (number m) n is = ap number (cc)
-number_is (quoted p) n is = absurd (cc)
-number_is (symbol u) n is = absurd (cc)
+number_is _ n is = absurd (cc)
 
 pub quoted_is : (t : Terminal) (p : List ℕ) → as_quoted t ≡ Some p → t ≡ quoted p
-quoted_is (name v) p is = absurd (cc)
-quoted_is (keyword u v) p is = absurd (cc)
-quoted_is (number m) p is = absurd (cc)
 quoted_is (quoted q) p is = ap quoted (cc)
-quoted_is (symbol u) p is = absurd (cc)
+quoted_is _ p is = absurd (cc)
 
 pub keyword_no_symbol : (k : Keyword) (s : Symbol) (t : Terminal) → is_keyword k t ≡ true → is_symbol s t ≡ false
-keyword_no_symbol k s (name v) is = refl
-keyword_no_symbol k s (keyword u v) is = refl
-keyword_no_symbol k s (number n) is = refl
-keyword_no_symbol k s (quoted p) is = refl
 keyword_no_symbol k s (symbol u) is = absurd (cc)
+keyword_no_symbol k s _ is = refl
 
 pub keyword_no_name : (k : Keyword) (t : Terminal) → is_keyword k t ≡ true → as_name t ≡ None
 keyword_no_name k (name v) is = absurd (cc)
-keyword_no_name k (keyword u v) is = refl
-keyword_no_name k (number n) is = refl
-keyword_no_name k (quoted p) is = refl
-keyword_no_name k (symbol u) is = refl
+keyword_no_name k _ is = refl
 
 pub symbol_no_keyword : (s : Symbol) (k : Keyword) (t : Terminal) → is_symbol s t ≡ true → is_keyword k t ≡ false
-symbol_no_keyword s k (name v) is = refl
 symbol_no_keyword s k (keyword u v) is = absurd (cc)
-symbol_no_keyword s k (number n) is = refl
-symbol_no_keyword s k (quoted p) is = refl
-symbol_no_keyword s k (symbol u) is = refl
+symbol_no_keyword s k _ is = refl
 
 pub symbol_no_name : (s : Symbol) (t : Terminal) → is_symbol s t ≡ true → as_name t ≡ None
 symbol_no_name s (name v) is = absurd (cc)
-symbol_no_name s (keyword u v) is = refl
-symbol_no_name s (number n) is = refl
-symbol_no_name s (quoted p) is = refl
-symbol_no_name s (symbol u) is = refl
+symbol_no_name s _ is = refl
 
 pub keyword_other : (k other : Keyword) (t : Terminal) → keyword_eq k other ≡ false → is_keyword k t ≡ true → is_keyword other t ≡ false
 keyword_other k other (keyword u v) differ is =
     ap (λ (l : List ℕ). bytes_eq l (letters other)) ((bytes_eq-Decides (letters u) (letters k)).0 is) ∙ differ
-keyword_other k other (name v) differ is = refl
-keyword_other k other (number n) differ is = refl
-keyword_other k other (quoted p) differ is = refl
-keyword_other k other (symbol u) differ is = refl
+keyword_other k other _ differ is = refl
 
 pub symbol_other : (s other : Symbol) (t : Terminal) → symbol_eq s other ≡ false → is_symbol s t ≡ true → is_symbol other t ≡ false
 symbol_other s other (symbol u) differ is =
     ap (λ (l : List ℕ). bytes_eq l (spelling other)) ((bytes_eq-Decides (spelling u) (spelling s)).0 is) ∙ differ
-symbol_other s other (name v) differ is = refl
-symbol_other s other (keyword u v) differ is = refl
-symbol_other s other (number n) differ is = refl
-symbol_other s other (quoted p) differ is = refl
+symbol_other s other _ differ is = refl
 
 -- terminals that are due
 pub symbol_complete : (s : Symbol) (ts left : List Terminal) → Front (One (is_symbol s)) ts left → symbol_at s ts ≡ Ok (tt, left)

@@ -29,9 +29,7 @@ impl<'a> TokenCursor<'a> {
     {
         if self.takes_symbol(Symbol::Equal) {
             Ok(Relation::Equal)
-        } else if self.takes_symbol(Symbol::Angles) {
-            Ok(Relation::Different)
-        } else if self.takes_symbol(Symbol::BangEqual) {
+        } else if self.takes_symbol(Symbol::Angles) || self.takes_symbol(Symbol::BangEqual) {
             Ok(Relation::Different)
         } else if self.takes_symbol(Symbol::Less) {
             Ok(Relation::Less)

@@ -35,14 +35,11 @@ impl Truth {
         }
     }
 
+    // One of two holds where not both fail.
     pub(crate) fn or(self, other: Truth) -> Truth
         ensures { result ≡ or_truth self other }
     {
-        match (self, other) {
-            (Truth::Holds, _) | (_, Truth::Holds) => Truth::Holds,
-            (Truth::Fails, Truth::Fails) => Truth::Fails,
-            _ => Truth::Undefined,
-        }
+        self.not().and(other.not()).not()
     }
 }
 

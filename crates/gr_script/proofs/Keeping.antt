@@ -18,7 +18,7 @@ use Rattle.gr_script.specs.Past.{number, count_at, next_rank, stage, steps}
 use Rattle.gr_script.specs.Printed.{saying_in}
 use Rattle.gr_script.specs.Said.{line_of, lines_said}
 use Rattle.gr_script.specs.Tallies.{Counts, count_in}
-use Rattle.gr_script.proofs.Standing.{early}
+use Rattle.gr_script.proofs.Standing.{quiet}
 
 -- ---- behind the heading
 
@@ -81,16 +81,10 @@ kept_in_heading heading saying lines none =
     ∙ reverse-append heading (saying ∷ [])
     ∙ ap (λ (ls : List Line). saying ∷ kept_sayings heading ls) (sym none)
 
-pub no_line : (past : List Saying) (form : LineKind) (saying : Saying) → saying.kind ≡ form → rank form < 8 → line_of past saying ≡ None
-no_line past form saying is low =
-    early (λ f. saying.kind ≡ f → line_of past saying ≡ None)
-    (λ e. cc) (λ e. cc) (λ e. cc) (λ e. cc) (λ e. cc) (λ e. cc) (λ e. cc) (λ e. cc)
-    form low is
-
 pub lined_in_heading : (lines : List Line) (past : List Saying) (saying : Saying) → lines ≡ reverse (lines_said past)
     → rank saying.kind < 8 → lines ≡ reverse (lines_said (saying ∷ past))
 lined_in_heading lines past saying are low =
-    are ∙ ap (λ (l : Option Line). reverse (cons_option l (lines_said past))) (sym (no_line past saying.kind saying refl low))
+    are ∙ ap (λ (l : Option Line). reverse (cons_option l (lines_said past))) (sym (quiet past saying.kind saying.items low))
 
 -- A line of the heading isn't counted.
 pub uncounted : (test : LineKind → Bool) (n : ℕ) (past : List Saying) (saying : Saying) → test saying.kind ≡ false
@@ -101,10 +95,7 @@ uncounted test n past saying other =
     ap (λ (b : Bool). cond {A = ℕ} (b && eqb (number 0 saying.items) n) 1 0) other in
     omega (arith, more, none)
 
--- ---- where memory is refused
-
-line_is : (one two : Line) → Some one ≡ Some two → one ≡ two
-line_is one two e = cc
+-- ---- the line that a saying is
 
 saying_is : (one two : Saying) → Some one ≡ Some two → one ≡ two
 saying_is one two e = cc
@@ -116,6 +107,8 @@ is_a_line (Some line) saying e = refl
 pub says_back : (past : List Saying) (saying : Saying) (line : Line) → line_of past saying ≡ Some line
     → option_map saying_in (line_of past saying) ≡ Some saying → saying_in line ≡ saying
 says_back past saying line is back = saying_is (saying_in line) saying (sym (ap (option_map saying_in) is) ∙ back)
+
+-- ---- where memory is refused
 
 -- what is taken back is what was put last
 pub taken_back : (lines left : List Line) (line : Line) (found : Option Line) → lines ++ line ∷ [] ≡ left ++ option_to_list found

@@ -1,37 +1,35 @@
 -- Lines that were read can be kept as a script keeps them.
 use Rattle.std.proofs.Common.{◌≡◌, ℕ, ◌≤◌, ◌<◌, ◌^◌, List, ◌∷◌, length, true, eqb, ◌&&◌, None, Some, option_map, refl, sym, subst, arith}
 use Rattle.std.proofs.lemmas.List.Sums.{count_by-le-length}
+use Rattle.gr_script.specs.declared.forms.FieldKind.{FieldKind}
+use Rattle.gr_script.specs.declared.forms.FieldKind.TheVariants as field
 use Rattle.gr_script.specs.declared.forms.LineKind.{LineKind}
 use Rattle.gr_script.specs.declared.forms.LineKind.TheVariants as kind
 use Rattle.gr_script.specs.declared.items.Item.{Item}
+use Rattle.gr_script.specs.declared.items.Setting.{Setting}
 use Rattle.gr_script.specs.declared.saying.Saying.{Saying}
-use Rattle.gr_script.specs.Forms.{rank, is_step, is_kind}
+use Rattle.gr_script.specs.Forms.{fields, rank, is_step, is_kind}
 use Rattle.gr_script.specs.Index.{most_lines}
 use Rattle.gr_script.specs.Kept.{CanBeKept}
 use Rattle.gr_script.specs.Narrow.{IsNarrowStep, IsNarrow}
-use Rattle.gr_script.specs.Past.{number, members, steps, reports}
+use Rattle.gr_script.specs.Past.{number, setting, members, steps, reports}
 use Rattle.gr_script.specs.Printed.{saying_in}
 use Rattle.gr_script.specs.Refusals.{tests, refusal}
 use Rattle.gr_script.specs.Rules.{IsWithin}
 use Rattle.gr_script.specs.Said.{line_of}
+use Rattle.gr_script.proofs.Contents.{Contents, items_of}
 use Rattle.gr_script.proofs.Follows.{Held, held_items, AllFollow}
+use Rattle.gr_script.proofs.Fronts.{step_fields}
 use Rattle.gr_script.proofs.Headed.{headed, whole}
 use Rattle.gr_script.proofs.Standing.{passed, not_missing}
 
+narrow_client : (setting : Setting) (kinds more : List FieldKind) → kinds ≡ field.Client ∷ more → (c : Contents setting kinds)
+    → IsNarrowStep (items_of setting kinds c)
+narrow_client setting (field.Client ∷ kinds) more e c = let most = c.0.1.0.1 in omega (arith, most)
+narrow_client setting _ more e c = absurd cc
+
 narrow_step : (past : List Saying) (form : LineKind) (c : Held past form) → is_step form ≡ true → IsNarrowStep (held_items past form c)
-narrow_step past kind.Get c is = let most = c.0.1.0.1 in omega (arith, most)
-narrow_step past kind.Put c is = let most = c.0.1.0.1 in omega (arith, most)
-narrow_step past kind.PutIfAbsent c is = let most = c.0.1.0.1 in omega (arith, most)
-narrow_step past kind.Replace c is = let most = c.0.1.0.1 in omega (arith, most)
-narrow_step past kind.ReplaceIf c is = let most = c.0.1.0.1 in omega (arith, most)
-narrow_step past kind.Destroy c is = let most = c.0.1.0.1 in omega (arith, most)
-narrow_step past kind.Remove c is = let most = c.0.1.0.1 in omega (arith, most)
-narrow_step past kind.Peek c is = let most = c.0.1.0.1 in omega (arith, most)
-narrow_step past kind.Open c is = let most = c.0.1.0.1 in omega (arith, most)
-narrow_step past kind.Stop c is = let most = c.0.1.0.1 in omega (arith, most)
-narrow_step past kind.Close c is = let most = c.0.1.0.1 in omega (arith, most)
-narrow_step past kind.Fetch c is = let most = c.0.1.0.1 in omega (arith, most)
-narrow_step past _ c is = absurd cc
+narrow_step past form c is = narrow_client (setting past) (fields form) _ (step_fields form is) c
 
 few : (client : ℕ) (past : List Saying) → length past ≤ most_lines → steps client past < 2 ^ 32
 few client past le =
@@ -81,23 +79,7 @@ said_back past kind.Inbox c late = absurd (omega arith)
 said_back past kind.Trouble c late = absurd (omega arith)
 said_back past kind.Floor c late = absurd (omega arith)
 said_back past kind.Client c late = absurd (omega arith)
-said_back past kind.Get c late = refl
-said_back past kind.Put c late = refl
-said_back past kind.PutIfAbsent c late = refl
-said_back past kind.Replace c late = refl
-said_back past kind.ReplaceIf c late = refl
-said_back past kind.Destroy c late = refl
-said_back past kind.Remove c late = refl
-said_back past kind.Peek c late = refl
-said_back past kind.Open c late = refl
-said_back past kind.Stop c late = refl
-said_back past kind.Close c late = refl
-said_back past kind.Fetch c late = refl
-said_back past kind.Deliver c late = refl
-said_back past kind.Report c late = refl
-said_back past kind.Hear c late = refl
-said_back past kind.Sweep c late = refl
-said_back past kind.Join c late = refl
+said_back past _ c late = refl
 
 pub can_be_kept : (past : List Saying) (saying : Saying) → AllFollow (saying ∷ past) → length past ≤ most_lines → CanBeKept past saying
 can_be_kept past saying all few =

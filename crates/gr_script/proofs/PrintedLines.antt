@@ -1,5 +1,5 @@
 -- What a line is spelled as says what the line says.
-use Rattle.std.proofs.Common.{◌≡◌, ℕ, ◌+◌, ◌<◌, List, [], ◌∷◌, ◌++◌, length, take, drop, true, false, cond, Option}
+use Rattle.std.proofs.Common.{◌≡◌, ℕ, ◌+◌, ◌<◌, List, [], ◌∷◌, ◌++◌, length, take, drop, Bool, true, false, cond, Option}
 use Rattle.std.proofs.Common.{Some}
 use Rattle.std.proofs.Common.{Result, Ok, decimal, refl, sym, ap, ◌∙◌, subst, arith}
 use Rattle.std.specs.Char.{is_ascii_digit}
@@ -20,13 +20,14 @@ use Rattle.gr_script.specs.declared.reason.Reason.{Reason}
 use Rattle.gr_script.specs.declared.saying.Saying.{Saying}
 use Rattle.gr_script.specs.Cuts.{is_space, after_spaces, is_skipped}
 use Rattle.gr_script.specs.Fields.{len_of, piece, left, is_filled, fits, first, second, form_of}
-use Rattle.gr_script.specs.Forms.{word, fields, step_kinds, other_kinds, kind_of}
+use Rattle.gr_script.specs.Forms.{word, fields, is_step, step_kinds, other_kinds, kind_of}
 use Rattle.gr_script.specs.Halts.{◌>>=◌}
 use Rattle.gr_script.specs.Items.{item_at, items_at}
 use Rattle.gr_script.specs.Printing.{field_text, field_texts, spaced, saying_text}
 use Rattle.gr_script.specs.ReadBack.{IsReadBack}
 use Rattle.gr_script.specs.Suiting.{AllSuit}
 use Rattle.gr_script.specs.Rests.{begins_spaced}
+use Rattle.gr_script.proofs.Fronts.{step_fields, step_kind, other_fields, other_kind, no_number, no_remark}
 use Rattle.gr_script.proofs.PrintedFields.{GoesOn, IsBack, field_back, IsPlain, decimal_plain, word_plain, client_short}
 use Rattle.gr_script.proofs.PrintedFields.{field_before_space, field_alone}
 use Rattle.gr_script.proofs.Marks.{other_byte}
@@ -219,31 +220,20 @@ module _ (setting : Setting) (line : LineKind) where
 
 pub saying_formed : (setting : Setting) (line : LineKind) (items : List Item) → AllSuit setting (fields line) items
     → IsFormed line (spaced (field_texts line (fields line) items))
-saying_formed setting kind.Georep items suit = other_formed setting kind.Georep (drop 1 (fields kind.Georep)) items suit refl refl refl
-saying_formed setting kind.Region items suit = other_formed setting kind.Region (drop 1 (fields kind.Region)) items suit refl refl refl
-saying_formed setting kind.Members items suit = other_formed setting kind.Members (drop 1 (fields kind.Members)) items suit refl refl refl
-saying_formed setting kind.Shards items suit = other_formed setting kind.Shards (drop 1 (fields kind.Shards)) items suit refl refl refl
-saying_formed setting kind.Inbox items suit = other_formed setting kind.Inbox (drop 1 (fields kind.Inbox)) items suit refl refl refl
-saying_formed setting kind.Trouble items suit = other_formed setting kind.Trouble (drop 1 (fields kind.Trouble)) items suit refl refl refl
-saying_formed setting kind.Floor items suit = other_formed setting kind.Floor (drop 1 (fields kind.Floor)) items suit refl refl refl
-saying_formed setting kind.Client items suit = other_formed setting kind.Client (drop 1 (fields kind.Client)) items suit refl refl refl
-saying_formed setting kind.Get items suit = step_formed setting kind.Get (drop 2 (fields kind.Get)) items suit refl
-saying_formed setting kind.Put items suit = step_formed setting kind.Put (drop 2 (fields kind.Put)) items suit refl
-saying_formed setting kind.PutIfAbsent items suit = step_formed setting kind.PutIfAbsent (drop 2 (fields kind.PutIfAbsent)) items suit refl
-saying_formed setting kind.Replace items suit = step_formed setting kind.Replace (drop 2 (fields kind.Replace)) items suit refl
-saying_formed setting kind.ReplaceIf items suit = step_formed setting kind.ReplaceIf (drop 2 (fields kind.ReplaceIf)) items suit refl
-saying_formed setting kind.Destroy items suit = step_formed setting kind.Destroy (drop 2 (fields kind.Destroy)) items suit refl
-saying_formed setting kind.Remove items suit = step_formed setting kind.Remove (drop 2 (fields kind.Remove)) items suit refl
-saying_formed setting kind.Peek items suit = step_formed setting kind.Peek (drop 2 (fields kind.Peek)) items suit refl
-saying_formed setting kind.Open items suit = step_formed setting kind.Open (drop 2 (fields kind.Open)) items suit refl
-saying_formed setting kind.Stop items suit = step_formed setting kind.Stop (drop 2 (fields kind.Stop)) items suit refl
-saying_formed setting kind.Close items suit = step_formed setting kind.Close (drop 2 (fields kind.Close)) items suit refl
-saying_formed setting kind.Fetch items suit = step_formed setting kind.Fetch (drop 2 (fields kind.Fetch)) items suit refl
-saying_formed setting kind.Deliver items suit = other_formed setting kind.Deliver (drop 1 (fields kind.Deliver)) items suit refl refl refl
-saying_formed setting kind.Report items suit = other_formed setting kind.Report (drop 1 (fields kind.Report)) items suit refl refl refl
-saying_formed setting kind.Hear items suit = other_formed setting kind.Hear (drop 1 (fields kind.Hear)) items suit refl refl refl
-saying_formed setting kind.Sweep items suit = other_formed setting kind.Sweep (drop 1 (fields kind.Sweep)) items suit refl refl refl
-saying_formed setting kind.Join items suit = other_formed setting kind.Join (drop 1 (fields kind.Join)) items suit refl refl refl
+saying_formed setting line items suit = by_case (is_step line) refl
+  where
+    same : (kinds : List FieldKind) → fields line ≡ kinds
+        → (AllSuit setting kinds items → IsFormed line (spaced (field_texts line kinds items)))
+        → IsFormed line (spaced (field_texts line (fields line) items))
+    same kinds e formed =
+        subst (λ (ks : List FieldKind). IsFormed line (spaced (field_texts line ks items))) (sym e)
+        (formed (subst (λ (ks : List FieldKind). AllSuit setting ks items) e suit))
+
+    by_case : (steps : Bool) → is_step line ≡ steps → IsFormed line (spaced (field_texts line (fields line) items))
+    by_case true is = same _ (step_fields line is)
+        (λ suits. step_formed setting line (drop 2 (fields line)) items suits (step_kind line is))
+    by_case false isnt = same _ (other_fields line isnt)
+        (λ suits. other_formed setting line (drop 1 (fields line)) items suits (no_number line) (other_kind line isnt) (no_remark line))
 
 pub read_back : (setting : Setting) (saying : Saying) → AllSuit setting (fields saying.kind) saying.items
     → IsReadBack setting saying (saying_text saying)

@@ -170,7 +170,7 @@ early P georep region members shards inbox trouble floor client kind.Floor lt = 
 early P georep region members shards inbox trouble floor client kind.Client lt = client
 early P georep region members shards inbox trouble floor client _ lt = absurd (omega (arith, lt))
 
-quiet : (past : List Saying) (form : LineKind) (items : List Item) → rank form < 8 → line_by past form items ≡ None
+pub quiet : (past : List Saying) (form : LineKind) (items : List Item) → rank form < 8 → line_by past form items ≡ None
 quiet past form items lt = early (λ f. line_by past f items ≡ None) refl refl refl refl refl refl refl refl form lt
 
 quiet_lines : (past : List Saying) (saying : Saying) → rank saying.kind < 8 → lines_said past ≡ [] → lines_said (saying ∷ past) ≡ []

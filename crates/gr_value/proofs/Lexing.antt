@@ -1,8 +1,8 @@
 -- What the lexer finds in a text, printed, is no longer than the text.
-use Rattle.std.proofs.Common.{◌≡◌, ◌∙◌, ℕ, zero, suc, ◌+◌, ◌-◌, ◌≤◌, Bool, true, false, cond, ◌||◌, ◌==◌, nat_le, List, [], ◌∷◌, length}
-use Rattle.std.proofs.Common.{take, drop, Option, Some, None, option_and_then, MatchOption, inl, inr, refl, ap, arith, length-append}
+use Rattle.std.proofs.Common.{◌≡◌, ◌∙◌, ℕ, zero, suc, ◌+◌, ◌-◌, ◌≤◌, Bool, true, false, cond, ◌||◌, ◌==◌, List, [], ◌∷◌, length}
+use Rattle.std.proofs.Common.{take, drop, Option, Some, None, option_and_then, MatchOption, inl, inr, refl, sym, ap, arith, length-append}
 use Rattle.std.proofs.Common.{length-take-le}
-use Rattle.std.proofs.lemmas.Bool.{true≢false, false≢true, eqb-true, leb-true, ne_eqb, and_parts, or_cases}
+use Rattle.std.proofs.lemmas.Bool.{true≢false, false≢true, eqb-true, ne_eqb, and_parts, or_cases}
 use Rattle.std.proofs.lemmas.Slice.Eq.{bytes_eq-Decides}
 use Rattle.std.specs.Char.{is_ascii_digit}
 use Rattle.std.specs.List.{prefix_len}
@@ -50,25 +50,14 @@ pass_head : (c : ℕ) (t : List ℕ) → is_other (class c) ≡ true → (head t
 pass_head c [] k e = omega arith
 pass_head c (x ∷ xs) k e = pass_one x xs (ap (λ y. is_other (class y)) (eqb-true x c e) ∙ k)
 
+digit_is_no : (x n : ℕ) → is_ascii_digit x ≡ true → is_ascii_digit n ≡ false → (x == n) ≡ false
+digit_is_no x n is isnt = ne_eqb x n (λ e. true≢false (sym is ∙ ap is_ascii_digit e ∙ isnt))
+
 digit_is_other : (x : ℕ) → is_ascii_digit x ≡ true → is_other (class x) ≡ true
-digit_is_other x h =
-    let both = and_parts (nat_le 48 x) (nat_le x 57) h in
-    let low : 48 ≤ x = leb-true 48 x both.0 in
-    let high : x ≤ 57 = leb-true x 57 both.1 in
-    rw (
-      ne_eqb x 34 (λ e. omega arith),
-      ne_eqb x 92 (λ e. omega arith),
-      ne_eqb x 123 (λ e. omega arith),
-      ne_eqb x 125 (λ e. omega arith),
-      ne_eqb x 91 (λ e. omega arith),
-      ne_eqb x 93 (λ e. omega arith),
-      ne_eqb x 58 (λ e. omega arith),
-      ne_eqb x 44 (λ e. omega arith),
-      ne_eqb x 32 (λ e. omega arith),
-      ne_eqb x 9 (λ e. omega arith),
-      ne_eqb x 10 (λ e. omega arith),
-      ne_eqb x 13 (λ e. omega arith),
-    ) refl
+digit_is_other x is =
+    let no = λ (n : ℕ). digit_is_no x n is in
+    rw (no 34 refl, no 92 refl, no 123 refl, no 125 refl, no 91 refl, no 93 refl, no 58 refl, no 44 refl)
+    (rw (no 32 refl, no 9 refl, no 10 refl, no 13 refl) refl)
 
 drop_next : (n x : ℕ) (xs : List ℕ) → drop (1 + n) (x ∷ xs) ≡ drop n xs
 drop_next n x xs = let e : 1 + n ≡ suc n = omega arith in ap (λ k. drop k (x ∷ xs)) e

@@ -70,23 +70,6 @@ fn fields_of_json(alloc: Global, json: serde_json::Value) -> Result<Fields, Valu
     }
 }
 
-fn fields_by_json(alloc: Global, bytes: &[u8]) -> Result<Fields, ValueFault>
-    requires { length bytes.now ≤ 1024 }
-    ensures value { MatchResult result (λ fields. read_value bytes.now ≡ Ok fields)
-        (λ fault. RefusedAs fault (read_value bytes.now)) }
-    ensures kept { IfOk result (λ fields. IsValue fields) }
-    ensures shorter { IfOk result (λ fields. length (value_text fields) ≤ length bytes.now) }
-{
-    match serde_json::Value::from_slice(alloc, bytes) {
-        Ok(json) => Ok(fields_of_json(alloc, json)?),
-        Err(error) => if error.is_memory() {
-            Err(ValueFault::Memory)
-        } else {
-            Err(ValueFault::NotJson)
-        },
-    }
-}
-
 // Most texts are what their value prints, and need no JSON reader.
 fn fields_of_bytes(alloc: Global, bytes: &[u8]) -> Result<Fields, ValueFault>
     requires { length bytes.now ≤ 1024 }
@@ -95,9 +78,16 @@ fn fields_of_bytes(alloc: Global, bytes: &[u8]) -> Result<Fields, ValueFault>
     ensures kept { IfOk result (λ fields. IsValue fields) }
     ensures shorter { IfOk result (λ fields. length (value_text fields) ≤ length bytes.now) }
 {
-    match fields_by_text(alloc, bytes)? {
-        Some(fields) => Ok(fields),
-        None => fields_by_json(alloc, bytes),
+    if let Some(fields) = fields_by_text(alloc, bytes)? {
+        return Ok(fields);
+    }
+    match serde_json::Value::from_slice(alloc, bytes) {
+        Ok(json) => Ok(fields_of_json(alloc, json)?),
+        Err(error) => if error.is_memory() {
+            Err(ValueFault::Memory)
+        } else {
+            Err(ValueFault::NotJson)
+        },
     }
 }
 

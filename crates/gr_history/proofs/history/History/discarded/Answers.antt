@@ -1,0 +1,5 @@
+use Rattle.std.proofs.Common.{rules}
+use Rattle.gr_history.proofs.history.History.discarded.Goals as goal
+
+pub returns : goal.returns
+returns c = search rules

@@ -1,6 +1,0 @@
-use Rattle.std.proofs.Common.{◌≡◌, ◌≤◌, count_by, take}
-use Rattle.gr_history.specs.Deeds.{is_repeat}
-use Rattle.gr_history.proofs.history.History.repeats.Given as goal
-
-abbrev pub invariant-loop-deed : goal.invariant-loop-deed
-invariant-loop-deed l = record { counted : l.count ≡ count_by is_repeat (take l.deed-index l.deed-items); within : l.count ≤ l.deed-index }
