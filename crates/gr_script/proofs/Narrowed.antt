@@ -96,6 +96,7 @@ can_be_kept past saying all few =
           most few);
       back = λ late. subst
           (λ (is : List Item).
-          option_map saying_in (line_of past (record { kind = saying.kind; items = is })) ≡ Some (record { kind = saying.kind; items = is }))
+          option_map saying_in (line_of past (record { kind = saying.kind; items = is }))
+          ≡ Some (record { kind = saying.kind; items = is }))
           f.items_are (said_back past saying.kind f.held late);
     }

@@ -45,5 +45,6 @@ any-parts-preserved t c =
 
 pub any-returns : goal.any-returns
 any-returns t c =
-    row_ends (is_keyword word.Or) (all_at (part_at (alias_of c.args.alias) c.args.depth)) tree_of (λ parts. any (in_order parts)) _ c.parts.self _ _
+    row_ends (is_keyword word.Or) (all_at (part_at (alias_of c.args.alias) c.args.depth)) tree_of
+    (λ parts. any (in_order parts)) _ c.parts.self _ _
     (Any c.parts.parts) c.parts.invariant c.parts-test.ensures (tree_of-Any c.parts.parts)

@@ -28,7 +28,8 @@ last c =
     sym (c.line_of.ensures past (λ _. seq)) ∙ c.unwrap.ensures
 
 -- the sayings with it
-with_last : (c : goal.After-counted-1) → kept_sayings c.self.inside.heading c.push.new.self ≡ c.args.saying ∷ kept_sayings c.self.inside.heading c.self.inside.lines
+with_last : (c : goal.After-counted-1) → kept_sayings c.self.inside.heading c.push.new.self
+    ≡ c.args.saying ∷ kept_sayings c.self.inside.heading c.self.inside.lines
 with_last c =
     let past = kept_sayings c.self.inside.heading c.self.inside.lines in
     let kept = subst (λ (p : List Saying). CanBeKept p c.args.saying) (sym c.self.view_is) c.requires.kept in

@@ -11,7 +11,8 @@ use Rattle.gr_script.proofs.Standing.{early}
 use Rattle.gr_script.proofs.past.Past.with.Goals as goal
 
 -- the sayings with one more
-with_more : (c : goal.After-next_rank) → kept_sayings c.push.new.self c.self.inside.lines ≡ c.args.line ∷ kept_sayings c.self.inside.heading c.self.inside.lines
+with_more : (c : goal.After-next_rank) → kept_sayings c.push.new.self c.self.inside.lines
+    ≡ c.args.line ∷ kept_sayings c.self.inside.heading c.self.inside.lines
 with_more c =
     let low = subst (λ (p : List Saying). stage p < 8) (sym c.self.view_is) (omega (arith, c.requires.order, c.requires.early)) in
     ap (λ (heading : List Saying). kept_sayings heading c.self.inside.lines) c.in_ok-push.ensures.ok
@@ -42,7 +43,8 @@ invariant_of-result c =
         reported = λ n. old.reported n ∙ uncounted (is_kind kind.Report) n past c.args.line no_report;
         joined = λ n. old.joined n ∙ uncounted (is_kind kind.Join) n past c.args.line no_join;
         counts = c.counted_with-counted.ensures past old.counts;
-        few = let few : length past < most_lines = subst (λ (all : List Saying). length all < most_lines) (sym c.self.view_is) c.requires.room in
+        few = let few : length past < most_lines =
+            subst (λ (all : List Saying). length all < most_lines) (sym c.self.view_is) c.requires.room in
             omega (arith, few);
       },
       lined_in_heading c.self.inside.lines past c.args.line c.self.invariant.1 c.requires.early,
