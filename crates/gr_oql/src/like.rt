@@ -12,7 +12,7 @@ enum Walk<'a> {
 }
 
 /// What comes of the first characters of a pattern and a text.
-enum Step<'a> {
+enum LikeStep<'a> {
     /// Nothing is to be taken: whether both were at their end.
     End(bool),
     /// The pattern goes on with `%`: the pattern behind it.
@@ -57,24 +57,24 @@ fn follow<'a>(pattern: &'a str, text: &'a str) -> Walk<'a>
     let (mut pattern, mut text) = (pattern, text);
     loop {
         match first_step(pattern, text) {
-            Step::End(agree) => return Walk::End(agree),
-            Step::Percent(behind) => return Walk::Open(behind, text),
-            Step::Further(behind, rest) => (pattern, text) = (behind, rest),
+            LikeStep::End(agree) => return Walk::End(agree),
+            LikeStep::Percent(behind) => return Walk::Open(behind, text),
+            LikeStep::Further(behind, rest) => (pattern, text) = (behind, rest),
         }
     }
 }
 
-fn first_step<'a>(pattern: &'a str, text: &'a str) -> Step<'a>
+fn first_step<'a>(pattern: &'a str, text: &'a str) -> LikeStep<'a>
     ensures takes { Takes (chars pattern.now) (chars text.now) result }
     ensures shortens { StepShortens pattern.now text.now result }
 {
     match (first_char(pattern), first_char(text)) {
-        (None, None) => Step::End(true),
-        (Some(('%', behind)), _) => Step::Percent(behind),
+        (None, None) => LikeStep::End(true),
+        (Some(('%', behind)), _) => LikeStep::Percent(behind),
         (Some((wanted, behind)), Some((met, rest))) if stands_for(wanted, met) => {
-            Step::Further(behind, rest)
+            LikeStep::Further(behind, rest)
         }
-        _ => Step::End(false),
+        _ => LikeStep::End(false),
     }
 }
 

@@ -1,6 +1,6 @@
 pub mod Fields
 pub mod Held
-pub mod Kept
+pub mod OneOrMany
 pub mod KeyBytes
 pub mod KeyFront
 pub mod Sameness

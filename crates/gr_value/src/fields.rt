@@ -6,7 +6,7 @@ use std::marker::Model;
 
 // Most values have one field, which needs no block of a `Vec`.
 #[derive(Drop)]
-enum Kept {
+enum OneOrMany {
     One([Field; 1]),
     Many(Vec<Field>),
 }
@@ -14,7 +14,7 @@ enum Kept {
 /// The fields of a value, which contracts see as their list.
 #[derive(Drop)]
 pub struct Fields {
-    kept: Kept,
+    kept: OneOrMany,
 }
 
 impl Model for Fields {
@@ -23,9 +23,9 @@ impl Model for Fields {
 
     ghost Value = { List Field };
 
-    ghost use Rattle.gr_value.specs.Kept.{kept_fields};
+    ghost use Rattle.gr_value.specs.OneOrMany.{fields_of};
 
-    ghost view = { λ fields. kept_fields fields.kept };
+    ghost view = { λ fields. fields_of fields.kept };
 }
 
 impl Fields {
@@ -33,7 +33,7 @@ impl Fields {
         ensures { result ≡ [] }
     {
         Fields {
-            kept: Kept::Many(Vec::new(alloc)),
+            kept: OneOrMany::Many(Vec::new(alloc)),
         }
     }
 
@@ -41,7 +41,7 @@ impl Fields {
         ensures { result ≡ field ∷ [] }
     {
         Fields {
-            kept: Kept::One([field]),
+            kept: OneOrMany::One([field]),
         }
     }
 
@@ -54,7 +54,7 @@ impl Fields {
             return Fields::one(only);
         }
         Fields {
-            kept: Kept::Many(fields),
+            kept: OneOrMany::Many(fields),
         }
     }
 
@@ -62,8 +62,8 @@ impl Fields {
         ensures { result.now ≡ self.now }
     {
         match &self.kept {
-            Kept::One(only) => only,
-            Kept::Many(many) => many.as_slice(),
+            OneOrMany::One(only) => only,
+            OneOrMany::Many(many) => many.as_slice(),
         }
     }
 }

@@ -2,8 +2,8 @@
 use Rattle.std.specs.Prelude.{◌≡◌, ℕ, ◌<◌, ◌≤◌, List, true, drop, length, ⊤, IsUtf8}
 use Rattle.std.specs.Str.{chars}
 use Rattle.gr_oql.specs.Like.{is_like, has_end_like}
-use Rattle.gr_oql.specs.declared.like.Step.{Step}
-use Rattle.gr_oql.specs.declared.like.Step.TheVariants as step
+use Rattle.gr_oql.specs.declared.like.LikeStep.{LikeStep}
+use Rattle.gr_oql.specs.declared.like.LikeStep.TheVariants as step
 use Rattle.gr_oql.specs.declared.like.Walk.{Walk}
 use Rattle.gr_oql.specs.declared.like.Walk.TheVariants as walk
 
@@ -18,13 +18,13 @@ pub record MeetsPercent (pattern text behind left : List ℕ) : Type 0 where
   pub same : is_like pattern text ≡ has_end_like behind left
   pub later : (k : ℕ) → is_like pattern (drop k text) ≡ true → has_end_like behind (drop k left) ≡ true
 
-abbrev pub Takes : List ℕ → List ℕ → Step → Type 0
+abbrev pub Takes : List ℕ → List ℕ → LikeStep → Type 0
 Takes pattern text (step.End agree) = is_like pattern text ≡ agree
 Takes pattern text (step.Percent behind) = MeetsPercent pattern text (chars behind.now) text
 Takes pattern text (step.Further behind rest) = Follows pattern text (chars behind.now) (chars rest.now)
 
 -- what is left is text, and shorter
-abbrev pub StepShortens : List ℕ → List ℕ → Step → Type 0
+abbrev pub StepShortens : List ℕ → List ℕ → LikeStep → Type 0
 StepShortens pattern text (step.End agree) = ⊤
 StepShortens pattern text (step.Percent behind) = IsUtf8 behind.now × (length behind.now < length pattern)
 StepShortens pattern text (step.Further behind rest) = IsUtf8 behind.now × IsUtf8 rest.now × (length behind.now < length pattern)
