@@ -85,13 +85,14 @@ fn put_op(out: &mut Vec<u8>, op: QueryOp) -> Result<(), Memory>
     }
 }
 
-fn put_base(out: &mut Vec<u8>, base: BaseOp) -> Result<(), Memory>
-    ensures { OnOk result (out.new.items ≡ out.old.items ++ base_text base) }
+// The operation of a query that has the same word.
+fn same_word(base: BaseOp) -> QueryOp
+    ensures { op_text result ≡ base_text base }
 {
     match base {
-        BaseOp::Create => put_text(out, "create"),
-        BaseOp::Update => put_text(out, "update"),
-        BaseOp::Destroy => put_text(out, "destroy"),
+        BaseOp::Create => QueryOp::Create,
+        BaseOp::Update => QueryOp::Update,
+        BaseOp::Destroy => QueryOp::Destroy,
     }
 }
 
@@ -131,7 +132,7 @@ impl Written for Event {
         put_text(out, "\n ")?;
         put_op(out, self.op)?;
         put_text(out, " ")?;
-        put_base(out, self.base)?;
+        put_op(out, same_word(self.base))?;
         put_named(out, " ", &self.key)?;
         put_text(out, " ")?;
         put_new(alloc, out, self.value.as_ref())
@@ -175,7 +176,7 @@ fn put_opened(
     put_gathered(alloc, out, &rows)
 }
 
-fn put_events(alloc: Global, out: &mut Vec<u8>, reply: &QueryReply) -> Result<(), Memory>
+fn put_told(alloc: Global, out: &mut Vec<u8>, reply: &QueryReply) -> Result<(), Memory>
     ensures { OnOk result (out.new.items ≡ out.old.items ++ flat_map event_text (fetched_events reply.now)) }
 {
     match reply {
@@ -203,19 +204,12 @@ fn events_told(replies: &[QueryReply]) -> u128
     total
 }
 
-fn put_fetched(
-    alloc: Global,
-    out: &mut Vec<u8>,
-    first: &QueryReply,
-    replies: &[QueryReply],
-) -> Result<(), Memory>
+fn put_events(alloc: Global, out: &mut Vec<u8>, replies: &[QueryReply]) -> Result<(), Memory>
     ensures { OnOk result
-        (out.new.items ≡ out.old.items ++ query_line first.now (events_told replies.now)
-        ++ flat_map event_text (flat_map fetched_events replies.now)) }
+        (out.new.items ≡ out.old.items ++ flat_map event_text (flat_map fetched_events replies.now)) }
 {
-    put_line(out, first, events_told(replies))?;
     for reply in replies {
-        put_events(alloc, out, reply)?;
+        put_told(alloc, out, reply)?;
     }
     Ok(())
 }
@@ -229,7 +223,10 @@ pub fn put_replies(alloc: Global, out: &mut Vec<u8>, replies: &[QueryReply]) -> 
     };
     match first {
         QueryReply::Opened(_) => put_opened(alloc, out, first, replies),
-        QueryReply::Fetched(_) => put_fetched(alloc, out, first, replies),
+        QueryReply::Fetched(_) => {
+            put_line(out, first, events_told(replies))?;
+            put_events(alloc, out, replies)
+        }
         _ => put_line(out, first, 0),
     }
 }

@@ -438,11 +438,19 @@ pub work_cell : (heading : Heading) (world : World) (member shard : ℕ) → IsA
 work_cell heading world member shard (events, left) is within =
     subst (λ grid. IsCell grid member shard) (sym left.grid_is) (is_cell heading events member shard is within)
 
+-- also where the shard is that of a key
+pub key_cell : (heading : Heading) (world : World) (member shard : ℕ) (key : List ℕ) → IsAtWork heading world → IsMember heading member
+    → 1 ≤ heading.shards → shard ≡ shard_of key heading.shards
+    → IsCell world.grid member shard
+key_cell heading world member shard key work is some at_shard =
+    work_cell heading world member shard work is (shard_within key shard heading.shards some at_shard)
+
 -- and a key's change belongs to the shard of its key
 pub work_shard : (heading : Heading) (world : World) (member shard : ℕ) (key : List ℕ) → IsAtWork heading world → IsMember heading member
-    → shard < heading.shards → shard ≡ shard_of key heading.shards
+    → 1 ≤ heading.shards → shard ≡ shard_of key heading.shards
     → shard_of key (account_at world.grid member shard).id.shards ≡ (account_at world.grid member shard).id.shard
-work_shard heading world member shard key (events, left) is within at_shard =
+work_shard heading world member shard key (events, left) is some at_shard =
+    let within = shard_within key shard heading.shards some at_shard in
     let cell : account_at world.grid member shard ≡ account_left heading events member shard =
     ap (λ grid. account_at grid member shard) left.grid_is ∙ cell_left heading events member shard is within in
     ap (λ account. shard_of key account.id.shards) cell ∙ sym at_shard ∙ sym (ap (λ account. account.id.shard) cell)

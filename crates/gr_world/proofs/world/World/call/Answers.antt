@@ -2,30 +2,25 @@ use Rattle.std.proofs.Common.{◌∙◌, ap, arith, length}
 use Rattle.gr_value.specs.Shard.{shard_of}
 use Rattle.gr_history.specs.Asks.{key_of}
 use Rattle.gr_script.specs.Scripts.{heading_of}
-use Rattle.gr_world.proofs.Worlds.{call_plays, shard_within, work_cell, work_clients, work_shard}
+use Rattle.gr_world.proofs.Worlds.{call_plays, key_cell, shard_within, work_clients, work_shard}
 use Rattle.gr_world.proofs.world.World.call.Goals as goal
 
 pub cell-requires : goal.cell-requires
 cell-requires c =
-    let script = c.args.stage.script.now in
-    let at = c.shard-shard.ensures ∙ ap (λ k. shard_of k script.shards) c.key.ensures in
-    work_cell (heading_of script) c.args.self.now c.home-member.result c.shard-shard.result c.requires.work c.home-member.ensures.member
-    (shard_within (key_of c.args.ask.now) c.shard-shard.result script.shards script.ruled.heading.shards.0 at)
+    key_cell (heading_of c.args.stage.script.now) c.args.self.now _ _ c.key.result.now c.requires.work c.home-member.ensures.member
+    c.args.stage.script.now.ruled.heading.shards.0 c.shard-shard.ensures
 
 pub call-requires-clause-cell : goal.call-requires-clause-cell
 call-requires-clause-cell c =
-    let script = c.args.stage.script.now in
-    let at = c.shard-shard.ensures ∙ ap (λ k. shard_of k script.shards) c.key.ensures in
-    work_cell (heading_of script) c.args.self.now c.home-member.result c.shard-shard.result c.requires.work c.home-member.ensures.member
-    (shard_within (key_of c.args.ask.now) c.shard-shard.result script.shards script.ruled.heading.shards.0 at)
+    key_cell (heading_of c.args.stage.script.now) c.args.self.now _ _ c.key.result.now c.requires.work c.home-member.ensures.member
+    c.args.stage.script.now.ruled.heading.shards.0 c.shard-shard.ensures
 
 pub call-requires-clause-here : goal.call-requires-clause-here
 call-requires-clause-here c =
     let script = c.args.stage.script.now in
     let at = c.shard-shard.ensures ∙ ap (λ k. shard_of k script.shards) c.key.ensures in
     work_shard (heading_of script) c.args.self.now c.home-member.result c.shard-shard.result (key_of c.args.ask.now) c.requires.work
-    c.home-member.ensures.member
-    (shard_within (key_of c.args.ask.now) c.shard-shard.result script.shards script.ruled.heading.shards.0 at) at
+    c.home-member.ensures.member script.ruled.heading.shards.0 at
 
 pub tell-requires-clause-stated : goal.tell-requires-clause-stated
 tell-requires-clause-stated c =

@@ -2,15 +2,13 @@ use Rattle.std.proofs.Common.{◌∙◌, ap, arith, length, refl, reverse}
 use Rattle.gr_history.specs.declared.record.Answer.TheVariants as answer
 use Rattle.gr_history.specs.Standing.{present}
 use Rattle.gr_script.specs.Scripts.{heading_of}
-use Rattle.gr_world.proofs.Worlds.{peek_plays, shard_within, work_cell, work_clients}
+use Rattle.gr_world.proofs.Worlds.{key_cell, peek_plays, shard_within, work_clients}
 use Rattle.gr_world.proofs.world.World.peek.Goals as goal
 
 pub cell-requires : goal.cell-requires
 cell-requires c =
-    let script = c.args.stage.script.now in
-    let shard = c.shard-shard.result in
-    work_cell (heading_of script) c.args.self.now c.home-member.result shard c.requires.work c.home-member.ensures.member
-    (shard_within c.args.key.now shard script.shards script.ruled.heading.shards.0 c.shard-shard.ensures)
+    key_cell (heading_of c.args.stage.script.now) c.args.self.now _ _ c.args.key.now c.requires.work c.home-member.ensures.member
+    c.args.stage.script.now.ruled.heading.shards.0 c.shard-shard.ensures
 
 pub tell-requires-clause-stated : goal.tell-requires-clause-stated
 tell-requires-clause-stated c =

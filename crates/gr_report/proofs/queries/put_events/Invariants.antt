@@ -1,6 +1,6 @@
 use Rattle.std.proofs.Common.{◌≡◌, ◌++◌, take, flat_map}
 use Rattle.gr_report.specs.Queries.{fetched_events, event_text}
-use Rattle.gr_report.proofs.queries.put_fetched.Given as goal
+use Rattle.gr_report.proofs.queries.put_events.Given as goal
 
 abbrev pub invariant-loop-reply : goal.invariant-loop-reply
 invariant-loop-reply l =
