@@ -30,7 +30,7 @@ use Rattle.gr_world.specs.Tasks.{doing_of}
 use Rattle.gr_world.specs.declared.task.Task.{Task}
 use Rattle.gr_world.specs.declared.task.Task.TheVariants as task
 use Rattle.gr_world.specs.Courses.{identity_at, does, delivers, for_each, hears, hears_of, after}
-use Rattle.gr_world.specs.declared.place.Place.{Place}
+use Rattle.gr_world.specs.declared.place.DeedPlace.{DeedPlace}
 use Rattle.gr_world.specs.Worlds.{HasMade, IsAtWork, IsCell, IsDone, IsFound, IsWorld, Plays, StandsAt, account_at, account_in}
 use Rattle.gr_world.specs.Worlds.{account_left, deed_at, grid_left, grid_with, longer, no_account, row_with, tellings_left, told_also}
 use Rattle.gr_stamp.specs.declared.change.Change.{Change}
@@ -186,7 +186,7 @@ last_get [] y = refl
 last_get (x ∷ xs) y = last_get xs y
 
 -- What was found is found after one event more.
-kept_found : (heading : Heading) (event : Event) (events : List Event) (found : Option Place) (made : Option Change)
+kept_found : (heading : Heading) (event : Event) (events : List Event) (found : Option DeedPlace) (made : Option Change)
     → IsFound heading events found made → IsFound heading (event ∷ events) found made
 kept_found heading event events None made is = is
 kept_found heading event events (Some place) made is = record {
@@ -208,7 +208,7 @@ kept_found heading event events (Some place) made is = record {
     still (Gathered client number replies) = is.found
 
 -- An event that makes nothing leaves the table right.
-pub kept_made : (heading : Heading) (event : Event) (events : List Event) (table : List (List (Option Place)))
+pub kept_made : (heading : Heading) (event : Event) (events : List Event) (table : List (List (Option DeedPlace)))
     → ((client number : ℕ) → made_by client number events ≡ made_by client number (event ∷ events))
     → HasMade heading events table → HasMade heading (event ∷ events) table
 kept_made heading event events table same has client number =
@@ -216,7 +216,7 @@ kept_made heading event events table same has client number =
     (kept_found heading event events _ _ (has client number))
 
 -- What a call made stands behind all that stood in its history.
-made_last : (heading : Heading) (events : List Event) (place : Place) (deed : Deed)
+made_last : (heading : Heading) (events : List Event) (place : DeedPlace) (deed : Deed)
     → IsMember heading place.site.member → place.site.shard < heading.shards
     → place.at ≡ length (history place.site.member place.site.shard events)
     → StandsAt heading (Did place.site.member place.site.shard deed ∷ events) place (made_in deed)
@@ -265,13 +265,13 @@ call_plays heading old new member shard at client seq ask done is stated at_home
     subst (λ s. IsWorld heading (does heading (home_of heading client) s doing events) new) at_shard
     (subst (λ m. IsWorld heading (does heading m shard doing events) new) at_home here)
   where
-    place : Place
+    place : DeedPlace
     place = record { site = record { member = member; shard = shard }; at = at }
 
     deed : Deed
     deed = call_with client seq ask done
 
-    noted : place.at ≡ length (history member shard events) → (b : Bool) (o : Option Change) (found : Option Place) (before : Option Change)
+    noted : place.at ≡ length (history member shard events) → (b : Bool) (o : Option Change) (found : Option DeedPlace) (before : Option Change)
         → done.made ≡ o → IsFound heading events found before
         → IsFound heading (Did member shard deed ∷ events) (or_else (if b then option_map (λ _. place) o else None) found)
         (or_else (if b then o else None) before)
@@ -335,7 +335,7 @@ abbrev pub IsChangeOf : Heading → World → ℕ → ℕ → Option Change → 
 IsChangeOf heading world client seq made = (events : List Event) → IsWorld heading events world → made ≡ made_by client seq events
 
 -- What stands at the place that the table has is what the step made.
-pub found_change : (heading : Heading) (world : World) (client seq : ℕ) (place : Place)
+pub found_change : (heading : Heading) (world : World) (client seq : ℕ) (place : DeedPlace)
     → place_of world.made client seq ≡ Some place
     → IsChangeOf heading world client seq
     (option_and_then made_in (slice_get (account_at world.grid place.site.member place.site.shard).deeds place.at))
@@ -347,7 +347,7 @@ found_change heading world client seq place is_found events is =
     (cell_left heading events place.site.member place.site.shard stands.member stands.shard)
     ∙ ap (option_and_then made_in) stands.found ∙ stands.made_is
 
-pub found_cell : (heading : Heading) (world : World) (client seq : ℕ) (place : Place)
+pub found_cell : (heading : Heading) (world : World) (client seq : ℕ) (place : DeedPlace)
     → place_of world.made client seq ≡ Some place → IsAtWork heading world
     → IsCell world.grid place.site.member place.site.shard
 found_cell heading world client seq place is_found (events, is) =

@@ -23,7 +23,7 @@ use Rattle.gr_world.specs.Noted.{place_of}
 use Rattle.gr_world.specs.Courses.{asks_at_each, identity_at}
 use Rattle.gr_world.specs.Records.{answers}
 use Rattle.gr_world.specs.Numbered.{numbers_from, PairsFrom}
-use Rattle.gr_world.specs.declared.place.Place.{Place}
+use Rattle.gr_world.specs.declared.place.DeedPlace.{DeedPlace}
 use Rattle.gr_world.specs.declared.world.World.{World}
 
 -- (what a read gives where there is nothing)
@@ -92,19 +92,19 @@ abbrev pub tellings_left : Heading → List Event → List (List Answer)
 tellings_left heading events = numbers_from 1 (length heading.clients) (λ client. answers client events)
 
 -- At the place stands a deed that made this.
-pub record StandsAt (heading : Heading) (events : List Event) (place : Place) (made : Option Change) : Type 0 where
+pub record StandsAt (heading : Heading) (events : List Event) (place : DeedPlace) (made : Option Change) : Type 0 where
   pub member : IsMember heading place.site.member
   pub shard : place.site.shard < heading.shards
   pub deed : Deed
   pub found : slice_get (reverse (history place.site.member place.site.shard events)) place.at ≡ Some deed
   pub made_is : made_in deed ≡ made
 
-abbrev pub IsFound : Heading → List Event → Option Place → Option Change → Type 0
+abbrev pub IsFound : Heading → List Event → Option DeedPlace → Option Change → Type 0
 IsFound heading events None made = made ≡ None
 IsFound heading events (Some place) made = StandsAt heading events place made
 
 -- The place of what each step made is noted.
-abbrev pub HasMade : Heading → List Event → List (List (Option Place)) → Type 0
+abbrev pub HasMade : Heading → List Event → List (List (Option DeedPlace)) → Type 0
 HasMade heading events made =
     (client seq : ℕ) → IsFound heading events (place_of made client seq) (made_by client seq events)
 

@@ -6,7 +6,7 @@ ghost use Rattle.gr_world.specs.Named.{numbered, reports};
 ghost use Rattle.gr_world.specs.Tasks.{BelongsTo, IsGiven, doing_of};
 ghost use Rattle.gr_world.specs.Worlds.{deed_at, longer};
 
-use crate::step::Step;
+use crate::step::StepName;
 use crate::task::Task;
 use gr_history::{Ask, Done, Gift, Identity, QueryAsk, QueryReply, What};
 use gr_shard::Shard;
@@ -78,7 +78,7 @@ impl Cell {
         at(&self.reported, number as usize - 1)
     }
 
-    pub fn call(&mut self, alloc: Global, step: Step, ask: &Ask) -> Result<Done, Memory>
+    pub fn call(&mut self, alloc: Global, step: StepName, ask: &Ask) -> Result<Done, Memory>
         requires { BelongsTo self.old (Calls step.client step.seq ask.now) }
         ensures given { IfOk result
             (λ done. call_with step.client step.seq ask.now done ≡ deed_at self.old (Calls step.client step.seq ask.now)) }
@@ -88,7 +88,12 @@ impl Cell {
     }
 
     /// Does a client's step on one of its queries.
-    pub fn query(&mut self, alloc: Global, step: Step, ask: &QueryAsk) -> Result<QueryReply, Memory>
+    pub fn query(
+        &mut self,
+        alloc: Global,
+        step: StepName,
+        ask: &QueryAsk,
+    ) -> Result<QueryReply, Memory>
         ensures reply { IfOk result
             (λ reply. deed.Asked step.client step.seq ask.now reply ≡ deed_at self.old (Asks step.client step.seq ask.now)) }
         ensures added { IfOk result (λ reply. self.new ≡ longer self.old (deed.Asked step.client step.seq ask.now reply)) }

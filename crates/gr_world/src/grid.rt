@@ -9,7 +9,7 @@ ghost use Rattle.gr_world.specs.Worlds.{IsCell, IsDone, IsMemberOf, account_at, 
 use crate::cell::Cell;
 use crate::row::Row;
 use crate::site::Site;
-use crate::step::Step;
+use crate::step::StepName;
 use crate::task::Task;
 use gr_history::{Ask, Done, Gift, Identity, MemberRecordList, QueryAsk, QueryReply, What};
 use gr_value::Memory;
@@ -57,7 +57,13 @@ impl Grid {
         self.rows[usize::from(site.member) - 1].cell(site.shard)
     }
 
-    pub fn call(&mut self, alloc: Global, site: Site, step: Step, ask: &Ask) -> Result<Done, Memory>
+    pub fn call(
+        &mut self,
+        alloc: Global,
+        site: Site,
+        step: StepName,
+        ask: &Ask,
+    ) -> Result<Done, Memory>
         requires cell { IsCell self.old site.member site.shard }
         requires here { BelongsTo (account_at self.old site.member site.shard) (Calls step.client step.seq ask.now) }
         ensures { IfOk result
@@ -73,7 +79,7 @@ impl Grid {
         &mut self,
         alloc: Global,
         site: Site,
-        step: Step,
+        step: StepName,
         ask: &QueryAsk,
     ) -> Result<QueryReply, Memory>
         requires { IsCell self.old site.member site.shard }

@@ -2,8 +2,8 @@ ghost use Rattle.std.specs.Prelude.{◌≡◌, ◌<◌, [], ℕ, IfOk, Some, len
 ghost use Rattle.gr_world.specs.Noted.{Notes, place_of};
 
 use crate::noted::Noted;
-use crate::place::Place;
-use crate::step::Step;
+use crate::place::DeedPlace;
+use crate::step::StepName;
 use gr_value::Memory;
 use std::alloc::Global;
 use std::marker::Model;
@@ -17,9 +17,9 @@ pub struct Made {
 
 impl Model for Made {
     ghost use Rattle.std.specs.Prelude.{List, Option};
-    ghost use Rattle.gr_world.specs.declared.place.Place.{Place};
+    ghost use Rattle.gr_world.specs.declared.place.DeedPlace.{DeedPlace};
 
-    ghost Value = { List (List (Option Place)) };
+    ghost Value = { List (List (Option DeedPlace)) };
 
     ghost view = { λ made. made.rows.items };
 }
@@ -34,7 +34,7 @@ impl Made {
         }
     }
 
-    pub fn find(&self, client: u8, number: u32) -> Option<Place>
+    pub fn find(&self, client: u8, number: u32) -> Option<DeedPlace>
         ensures { result ≡ place_of self.now client number }
     {
         match self.rows.get(usize::from(client)) {
@@ -54,7 +54,7 @@ impl Made {
         Ok(())
     }
 
-    pub fn note(&mut self, step: Step, place: Place) -> Result<(), Memory>
+    pub fn note(&mut self, step: StepName, place: DeedPlace) -> Result<(), Memory>
         ensures { IfOk result (λ _. Notes step.client step.seq (Some place) self.old self.new) }
     {
         let client = usize::from(step.client);

@@ -1,7 +1,7 @@
 ghost use Rattle.std.specs.Prelude.{◌≡◌, ◌<◌, [], ℕ, IfOk, None, get_or, length};
 ghost use Rattle.gr_world.specs.Noted.{HasNoted};
 
-use crate::place::Place;
+use crate::place::DeedPlace;
 use gr_value::Memory;
 use std::alloc::Global;
 use std::marker::Model;
@@ -9,14 +9,14 @@ use std::marker::Model;
 /// Where what each step of one client made stands, if it made anything, by the numbers of the steps.
 #[derive(Drop)]
 pub struct Noted {
-    places: Vec<Option<Place>>,
+    places: Vec<Option<DeedPlace>>,
 }
 
 impl Model for Noted {
     ghost use Rattle.std.specs.Prelude.{List, Option};
-    ghost use Rattle.gr_world.specs.declared.place.Place.{Place};
+    ghost use Rattle.gr_world.specs.declared.place.DeedPlace.{DeedPlace};
 
-    ghost Value = { List (Option Place) };
+    ghost Value = { List (Option DeedPlace) };
 
     ghost view = { λ noted. noted.places.items };
 }
@@ -30,7 +30,7 @@ impl Noted {
         }
     }
 
-    pub fn find(&self, number: u32) -> Option<Place>
+    pub fn find(&self, number: u32) -> Option<DeedPlace>
         ensures { result ≡ get_or self.now number None }
     {
         match self.places.get(number as usize) {
@@ -50,7 +50,7 @@ impl Noted {
         Ok(())
     }
 
-    pub fn note(&mut self, number: u32, place: Place) -> Result<(), Memory>
+    pub fn note(&mut self, number: u32, place: DeedPlace) -> Result<(), Memory>
         ensures { IfOk result (λ _. HasNoted number place self.old self.new) }
     {
         self.lengthen(number as usize)?;

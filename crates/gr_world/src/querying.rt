@@ -6,7 +6,7 @@ ghost use Rattle.gr_world.specs.Worlds.{IsAtWork, Plays};
 
 use crate::site::Site;
 use crate::stage::Stage;
-use crate::step::Step;
+use crate::step::StepName;
 use crate::world::{World, home};
 use gr_history::{Answer, QueryAsk, QueryReplyList};
 use gr_value::Memory;
@@ -14,7 +14,12 @@ use gr_value::Memory;
 impl World {
     /// A client's step on one of its queries is done at each shard of its member, and the client is told all
     /// replies.
-    pub(crate) fn query(&mut self, stage: Stage, step: Step, ask: &QueryAsk) -> Result<(), Memory>
+    pub(crate) fn query(
+        &mut self,
+        stage: Stage,
+        step: StepName,
+        ask: &QueryAsk,
+    ) -> Result<(), Memory>
         requires work { IsAtWork (heading_of stage.script.now) self.old }
         requires stated { IsStated step.client (heading_of stage.script.now) }
         ensures { IfOk result

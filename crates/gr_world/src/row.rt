@@ -8,7 +8,7 @@ ghost use Rattle.gr_world.specs.Tasks.{BelongsTo, IsGiven, doing_of};
 ghost use Rattle.gr_world.specs.Worlds.{account_in, deed_at, new_row, row_with};
 
 use crate::cell::Cell;
-use crate::step::Step;
+use crate::step::StepName;
 use crate::task::Task;
 use gr_history::{
     Ask, Done, Gift, Identity, MemberRecord, QueryAsk, QueryReply, ShardRecordList, What,
@@ -56,7 +56,13 @@ impl Row {
         &self.cells[usize::from(shard)]
     }
 
-    pub fn call(&mut self, alloc: Global, shard: u8, step: Step, ask: &Ask) -> Result<Done, Memory>
+    pub fn call(
+        &mut self,
+        alloc: Global,
+        shard: u8,
+        step: StepName,
+        ask: &Ask,
+    ) -> Result<Done, Memory>
         requires within { shard < length self.old }
         requires here { BelongsTo (account_in self.old shard) (Calls step.client step.seq ask.now) }
         ensures given { IfOk result
@@ -72,7 +78,7 @@ impl Row {
         &mut self,
         alloc: Global,
         shard: u8,
-        step: Step,
+        step: StepName,
         ask: &QueryAsk,
     ) -> Result<QueryReply, Memory>
         requires { shard < length self.old }

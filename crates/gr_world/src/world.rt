@@ -16,10 +16,10 @@ ghost use Rattle.gr_world.specs.Worlds.{CanPlay, IsAtWork, IsWorld, Plays};
 
 use crate::grid::Grid;
 use crate::made::Made;
-use crate::place::Place;
+use crate::place::DeedPlace;
 use crate::site::Site;
 use crate::stage::Stage;
-use crate::step::Step;
+use crate::step::StepName;
 use crate::task::Task;
 use crate::tellings::Tellings;
 use gr_history::{Answer, Ask, Deed, Done, History, Identity, Record};
@@ -38,7 +38,7 @@ pub struct World {
 }
 
 // Notes where what a step made stands, if it made anything.
-fn note(noted: &mut Made, step: Step, place: Place, done: &Done) -> Result<(), Memory>
+fn note(noted: &mut Made, step: StepName, place: DeedPlace, done: &Done) -> Result<(), Memory>
     ensures { IfOk result (λ _. Notes step.client step.seq (option_map (λ _. place) done.now.made) noted.old noted.new) }
 {
     if done.made.is_some() {
@@ -97,7 +97,7 @@ impl World {
         })
     }
 
-    fn call(&mut self, stage: Stage, step: Step, ask: &Ask) -> Result<(), Memory>
+    fn call(&mut self, stage: Stage, step: StepName, ask: &Ask) -> Result<(), Memory>
         requires work { IsAtWork (heading_of stage.script.now) self.old }
         requires stated { IsStated step.client (heading_of stage.script.now) }
         ensures { IfOk result
@@ -109,7 +109,7 @@ impl World {
         let site = Site { member, shard };
         let at = self.grid.cell(site).shard().history().len();
         let done = self.grid.call(stage.alloc, site, step, ask)?;
-        note(&mut self.made, step, Place { site, at }, &done)?;
+        note(&mut self.made, step, DeedPlace { site, at }, &done)?;
         Ok(self.tellings.tell(step.client, Answer::Reply(done.reply))?)
     }
 
@@ -128,7 +128,7 @@ impl World {
         Ok(self.tellings.tell(client, answer)?)
     }
 
-    fn step(&mut self, stage: Stage, step: Step, act: &Act) -> Result<(), Memory>
+    fn step(&mut self, stage: Stage, step: StepName, act: &Act) -> Result<(), Memory>
         requires work { IsAtWork (heading_of stage.script.now) self.old }
         requires stated { IsStated step.client (heading_of stage.script.now) }
         ensures { IfOk result
@@ -214,7 +214,7 @@ impl World {
     {
         match line {
             Line::Step { client, seq, act } => {
-                let step = Step {
+                let step = StepName {
                     client: *client,
                     seq: *seq,
                 };
