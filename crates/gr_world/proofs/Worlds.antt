@@ -471,6 +471,11 @@ pub work_clients : (heading : Heading) (world : World) → IsAtWork heading worl
 work_clients heading world (events, left) =
     ap (λ lists. length lists) left.tellings_are ∙ numbers_length 1 (length heading.clients) (λ client. answers client events)
 
+-- who is stated has a place among those that are told
+pub stated_told : (heading : Heading) (world : World) (client : ℕ) → IsAtWork heading world → IsStated client heading
+    → client ≤ length world.tellings
+stated_told heading world client work is = let long = work_clients heading world work in omega (arith, long, is.1)
+
 pub work_members : (heading : Heading) (world : World) → IsAtWork heading world → length world.grid ≡ heading.members
 work_members heading world (events, left) =
     ap (λ rows. length rows) left.grid_is ∙ numbers_length 1 heading.members (row_left heading events)

@@ -1,8 +1,8 @@
-use Rattle.std.proofs.Common.{◌∙◌, ap, arith, length}
+use Rattle.std.proofs.Common.{◌∙◌, ap, length}
 use Rattle.gr_value.specs.Shard.{shard_of}
 use Rattle.gr_history.specs.Asks.{key_of}
 use Rattle.gr_script.specs.Scripts.{heading_of}
-use Rattle.gr_world.proofs.Worlds.{call_plays, key_cell, shard_within, work_clients, work_shard}
+use Rattle.gr_world.proofs.Worlds.{call_plays, key_cell, shard_within, stated_told, work_shard}
 use Rattle.gr_world.proofs.world.World.call.Goals as goal
 
 pub cell-requires : goal.cell-requires
@@ -24,8 +24,7 @@ call-requires-clause-here c =
 
 pub tell-requires-clause-stated : goal.tell-requires-clause-stated
 tell-requires-clause-stated c =
-    let long = work_clients (heading_of c.args.stage.script.now) c.args.self.now c.requires.work in
-    omega (arith, long, c.requires.stated.1)
+    stated_told (heading_of c.args.stage.script.now) c.args.self.now c.args.step.client c.requires.work c.requires.stated
 
 pub returns : goal.returns
 returns c =
