@@ -17,7 +17,9 @@ use Rattle.gr_history.specs.Standing.{present}
 use Rattle.gr_shard.specs.View.{Account}
 use Rattle.gr_script.specs.declared.line.Act.TheVariants as act
 use Rattle.gr_script.specs.declared.line.Line.TheVariants.{Step, Deliver}
+use Rattle.gr_script.specs.declared.script.Script.{Script}
 use Rattle.gr_script.specs.Rules.{Heading, IsMember, IsStated, home_of}
+use Rattle.gr_script.specs.Scripts.{heading_of}
 use Rattle.gr_world.specs.declared.world.World.{World}
 use Rattle.gr_world.specs.Events.{Event, Did, Peeked, Gathered, put_if, history}
 use Rattle.gr_world.specs.Clients.{Numbered, add_some, told, told_by, told_by_deed}
@@ -440,11 +442,12 @@ work_cell heading world member shard (events, left) is within =
     subst (λ grid. IsCell grid member shard) (sym left.grid_is) (is_cell heading events member shard is within)
 
 -- also where the shard is that of a key
-pub key_cell : (heading : Heading) (world : World) (member shard : ℕ) (key : List ℕ) → IsAtWork heading world → IsMember heading member
-    → 1 ≤ heading.shards → shard ≡ shard_of key heading.shards
+pub key_cell : (script : Script) (world : World) (member shard : ℕ) (key : List ℕ) → IsAtWork (heading_of script) world
+    → IsMember (heading_of script) member → shard ≡ shard_of key script.shards
     → IsCell world.grid member shard
-key_cell heading world member shard key work is some at_shard =
-    work_cell heading world member shard work is (shard_within key shard heading.shards some at_shard)
+key_cell script world member shard key work is at_shard =
+    work_cell (heading_of script) world member shard work is
+    (shard_within key shard script.shards script.ruled.heading.shards.0 at_shard)
 
 -- and a key's change belongs to the shard of its key
 pub work_shard : (heading : Heading) (world : World) (member shard : ℕ) (key : List ℕ) → IsAtWork heading world → IsMember heading member

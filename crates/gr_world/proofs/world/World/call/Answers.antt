@@ -7,13 +7,11 @@ use Rattle.gr_world.proofs.world.World.call.Goals as goal
 
 pub cell-requires : goal.cell-requires
 cell-requires c =
-    key_cell (heading_of c.args.stage.script.now) c.args.self.now _ _ c.key.result.now c.requires.work c.home-member.ensures.member
-    c.args.stage.script.now.ruled.heading.shards.0 c.shard-shard.ensures
+    key_cell c.args.stage.script.now c.args.self.now _ _ c.key.result.now c.requires.work c.home-member.ensures.member c.shard-shard.ensures
 
 pub call-requires-clause-cell : goal.call-requires-clause-cell
 call-requires-clause-cell c =
-    key_cell (heading_of c.args.stage.script.now) c.args.self.now _ _ c.key.result.now c.requires.work c.home-member.ensures.member
-    c.args.stage.script.now.ruled.heading.shards.0 c.shard-shard.ensures
+    key_cell c.args.stage.script.now c.args.self.now _ _ c.key.result.now c.requires.work c.home-member.ensures.member c.shard-shard.ensures
 
 pub call-requires-clause-here : goal.call-requires-clause-here
 call-requires-clause-here c =

@@ -7,8 +7,7 @@ use Rattle.gr_world.proofs.world.World.peek.Goals as goal
 
 pub cell-requires : goal.cell-requires
 cell-requires c =
-    key_cell (heading_of c.args.stage.script.now) c.args.self.now _ _ c.args.key.now c.requires.work c.home-member.ensures.member
-    c.args.stage.script.now.ruled.heading.shards.0 c.shard-shard.ensures
+    key_cell c.args.stage.script.now c.args.self.now _ _ c.args.key.now c.requires.work c.home-member.ensures.member c.shard-shard.ensures
 
 pub tell-requires-clause-stated : goal.tell-requires-clause-stated
 tell-requires-clause-stated c =
