@@ -3,20 +3,14 @@ use Rattle.std.specs.Prelude.{ℕ, List, [], ◌∷◌, Bool, false, ◌&&◌, �
 use Rattle.gr_stamp.specs.declared.change.Change.{Change}
 use Rattle.gr_stamp.specs.Version.{Version}
 use Rattle.gr_history.specs.declared.deed.Deed.{Deed}
-use Rattle.gr_history.specs.declared.deed.Deed.TheVariants.{Call, Asked, Taken, Gave, Imaged, Reported, Heard, Swept}
+use Rattle.gr_history.specs.declared.deed.Deed.TheVariants.{Swept}
 use Rattle.gr_history.specs.Standing.{standing}
 
 -- the greatest moment of a sweep, or 0
 abbrev pub clock : List Deed → ℕ
 clock [] = 0
-clock (Call client seq ask reply made to ∷ past) = clock past
-clock (Asked client seq ask reply ∷ past) = clock past
-clock (Taken change verdict ∷ past) = clock past
-clock (Gave to what ∷ past) = clock past
-clock (Imaged image ∷ past) = clock past
-clock (Reported report ∷ past) = clock past
-clock (Heard report ∷ past) = clock past
 clock (Swept moment expired ∷ past) = max moment (clock past)
+clock (_ ∷ past) = clock past
 
 abbrev pub is_same_stamp : Version → Version → Bool
 is_same_stamp one two = one.ver == two.ver && one.member == two.member && one.rv == two.rv

@@ -6,20 +6,16 @@ use Rattle.gr_stamp.specs.declared.change.Change.{Change}
 use Rattle.gr_vector.specs.Ids.{Id}
 use Rattle.gr_vector.specs.Order.{united}
 use Rattle.gr_history.specs.declared.deed.Deed.{Deed}
-use Rattle.gr_history.specs.declared.deed.Deed.TheVariants.{Call, Asked, Taken, Gave, Imaged, Reported, Heard, Swept}
+use Rattle.gr_history.specs.declared.deed.Deed.TheVariants.{Call, Taken, Imaged}
 
 abbrev pub id_of : Change → Id
 id_of change = record { member = change.stamp.member; rv = change.stamp.rv }
 
 abbrev pub ids_at : Deed → List Id
 ids_at (Call client seq ask reply made to) = map id_of (option_to_list made)
-ids_at (Asked client seq ask reply) = []
 ids_at (Taken change verdict) = id_of change ∷ []
-ids_at (Gave to what) = []
 ids_at (Imaged image) = image.vector.ids
-ids_at (Reported report) = []
-ids_at (Heard report) = []
-ids_at (Swept moment expired) = []
+ids_at _ = []
 
 -- the ids of what was made and taken in, and those that images knew
 abbrev pub ids : List Deed → List Id

@@ -3,17 +3,11 @@ use Rattle.std.specs.Prelude.{List, [], ◌∷◌, ◌++◌}
 use Rattle.std.specs.Option.{option_to_list}
 use Rattle.gr_stamp.specs.declared.change.Change.{Change}
 use Rattle.gr_history.specs.declared.deed.Deed.{Deed}
-use Rattle.gr_history.specs.declared.deed.Deed.TheVariants.{Call, Asked, Taken, Gave, Imaged, Reported, Heard, Swept}
+use Rattle.gr_history.specs.declared.deed.Deed.TheVariants.{Call}
 
 abbrev pub made_at : Deed → List Change
 made_at (Call client seq ask reply made to) = option_to_list made
-made_at (Asked client seq ask reply) = []
-made_at (Taken change verdict) = []
-made_at (Gave to what) = []
-made_at (Imaged image) = []
-made_at (Reported report) = []
-made_at (Heard report) = []
-made_at (Swept moment expired) = []
+made_at _ = []
 
 -- the changes that the history's own calls made, the newest first
 abbrev pub made : List Deed → List Change

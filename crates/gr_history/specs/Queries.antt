@@ -12,7 +12,7 @@ use Rattle.gr_history.specs.declared.query_reply.QueryReply.{QueryReply}
 use Rattle.gr_history.specs.declared.query_reply.QueryReply.TheVariants as reply
 use Rattle.gr_history.specs.declared.query_reply.Row.{Row}
 use Rattle.gr_history.specs.declared.deed.Deed.{Deed}
-use Rattle.gr_history.specs.declared.deed.Deed.TheVariants.{Call, Asked, Taken, Gave, Imaged, Reported, Heard, Swept}
+use Rattle.gr_history.specs.declared.deed.Deed.TheVariants.{Asked}
 use Rattle.gr_history.specs.Regions.{keys_of}
 use Rattle.gr_history.specs.Standing.{changes, present}
 use Rattle.gr_history.specs.Turned.{events}
@@ -32,13 +32,7 @@ pub record Asking : Type 0 where
 abbrev pub asked_of : ℕ → List ℕ → Deed → Option Asking
 asked_of client name (Asked own seq ask reply) =
     if own == client && bytes_eq (name_of ask) name then Some (record { ask = ask; reply = reply }) else None
-asked_of client name (Call own seq ask reply made to) = None
-asked_of client name (Taken change verdict) = None
-asked_of client name (Gave to what) = None
-asked_of client name (Imaged image) = None
-asked_of client name (Reported report) = None
-asked_of client name (Heard report) = None
-asked_of client name (Swept moment expired) = None
+asked_of client name _ = None
 
 -- an opening of a query: what it asks for, what was found, and the place behind the deed
 pub record Opening : Type 0 where

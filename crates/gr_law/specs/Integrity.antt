@@ -3,7 +3,7 @@ use Rattle.std.specs.Prelude.{◌≡◌, ◌⊎◌, ◌≤◌, ◌<◌, ◌∷�
 use Rattle.gr_stamp.specs.declared.change.Change.{Change}
 use Rattle.gr_history.specs.declared.image.Image.{Image}
 use Rattle.gr_history.specs.declared.deed.Deed.{Deed}
-use Rattle.gr_history.specs.declared.deed.Deed.TheVariants.{Call, Asked, Taken, Gave, Imaged, Reported, Heard, Swept}
+use Rattle.gr_history.specs.declared.deed.Deed.TheVariants.{Taken, Gave, Imaged, Reported, Heard}
 use Rattle.gr_history.specs.Made.{made}
 use Rattle.gr_history.specs.Gifts.{IsImageOf}
 use Rattle.gr_history.specs.Lawful.{IsLawful}
@@ -26,14 +26,9 @@ pub record IsGift (grid : Grid) (me : ℕ) (image : Image) : Type 0 where
 
 -- Integrity on changes and images, of one deed of the member
 abbrev pub IsGenuineDeed : Grid → ℕ → Deed → Type 0
-IsGenuineDeed grid me (Call client seq ask reply made to) = Unit {0}
-IsGenuineDeed grid me (Asked client seq ask reply) = Unit {0}
 IsGenuineDeed grid me (Taken change verdict) = IsMade grid change
-IsGenuineDeed grid me (Gave to what) = Unit {0}
 IsGenuineDeed grid me (Imaged image) = (grid.founders < me) × IsGift grid me image
-IsGenuineDeed grid me (Reported report) = Unit {0}
-IsGenuineDeed grid me (Heard report) = Unit {0}
-IsGenuineDeed grid me (Swept moment keys) = Unit {0}
+IsGenuineDeed grid me _ = Unit {0}
 
 abbrev pub IsGenuine : Grid → ℕ → List Deed → Type 0
 IsGenuine grid me [] = Unit {0}
@@ -42,36 +37,18 @@ IsGenuine grid me (deed ∷ past) = IsGenuineDeed grid me deed × IsGenuine grid
 -- a history has at most one image
 abbrev pub HasNoImage : List Deed → Type 0
 HasNoImage [] = Unit {0}
-HasNoImage (Call client seq ask reply made to ∷ past) = HasNoImage past
-HasNoImage (Asked client seq ask reply ∷ past) = HasNoImage past
-HasNoImage (Taken change verdict ∷ past) = HasNoImage past
-HasNoImage (Gave to what ∷ past) = HasNoImage past
 HasNoImage (Imaged image ∷ past) = ⊥
-HasNoImage (Reported report ∷ past) = HasNoImage past
-HasNoImage (Heard report ∷ past) = HasNoImage past
-HasNoImage (Swept moment keys ∷ past) = HasNoImage past
+HasNoImage (_ ∷ past) = HasNoImage past
 
 abbrev pub IsImagedOnce : List Deed → Type 0
 IsImagedOnce [] = Unit {0}
-IsImagedOnce (Call client seq ask reply made to ∷ past) = IsImagedOnce past
-IsImagedOnce (Asked client seq ask reply ∷ past) = IsImagedOnce past
-IsImagedOnce (Taken change verdict ∷ past) = IsImagedOnce past
-IsImagedOnce (Gave to what ∷ past) = IsImagedOnce past
 IsImagedOnce (Imaged image ∷ past) = HasNoImage past
-IsImagedOnce (Reported report ∷ past) = IsImagedOnce past
-IsImagedOnce (Heard report ∷ past) = IsImagedOnce past
-IsImagedOnce (Swept moment keys ∷ past) = IsImagedOnce past
+IsImagedOnce (_ ∷ past) = IsImagedOnce past
 
 -- a heard report was made
 abbrev pub IsHeardDeed : Grid → Deed → Type 0
-IsHeardDeed grid (Call client seq ask reply made to) = Unit {0}
-IsHeardDeed grid (Asked client seq ask reply) = Unit {0}
-IsHeardDeed grid (Taken change verdict) = Unit {0}
-IsHeardDeed grid (Gave to what) = Unit {0}
-IsHeardDeed grid (Imaged image) = Unit {0}
-IsHeardDeed grid (Reported report) = Unit {0}
 IsHeardDeed grid (Heard report) = Among (Reported report) (grid.history report.member)
-IsHeardDeed grid (Swept moment keys) = Unit {0}
+IsHeardDeed grid _ = Unit {0}
 
 abbrev pub AreHeard : Grid → List Deed → Type 0
 AreHeard grid [] = Unit {0}

@@ -18,13 +18,8 @@ use Rattle.gr_law.specs.Integrity.{IsMade, giver_of}
 -- what is made or taken in at a deed
 abbrev pub taken_at : Deed → List Change
 taken_at (Call client seq ask reply made to) = option_to_list made
-taken_at (Asked client seq ask reply) = []
 taken_at (Taken change verdict) = change ∷ []
-taken_at (Gave to what) = []
-taken_at (Imaged image) = []
-taken_at (Reported report) = []
-taken_at (Heard report) = []
-taken_at (Swept moment keys) = []
+taken_at _ = []
 
 -- what was made or taken in at a history itself
 abbrev pub taken : List Deed → List Change
@@ -34,13 +29,9 @@ taken (deed ∷ past) = taken_at deed ++ taken past
 -- the same, where an image brings what its giver had made or taken in by then
 abbrev pub took_at : Grid → Deed → List Change
 took_at grid (Call client seq ask reply made to) = option_to_list made
-took_at grid (Asked client seq ask reply) = []
 took_at grid (Taken change verdict) = change ∷ []
-took_at grid (Gave to what) = []
 took_at grid (Imaged image) = taken (giver_of grid image)
-took_at grid (Reported report) = []
-took_at grid (Heard report) = []
-took_at grid (Swept moment keys) = []
+took_at grid _ = []
 
 abbrev pub took : Grid → List Deed → List Change
 took grid [] = []

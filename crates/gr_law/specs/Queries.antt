@@ -6,7 +6,7 @@ use Rattle.gr_history.specs.declared.query_reply.Row.{Row}
 use Rattle.gr_history.specs.declared.query_reply.QueryReply.{QueryReply}
 use Rattle.gr_history.specs.declared.query_reply.QueryReply.TheVariants.{Opened, Stopped, Closed, Fetched, Unknown, NotRunning}
 use Rattle.gr_history.specs.declared.deed.Deed.{Deed}
-use Rattle.gr_history.specs.declared.deed.Deed.TheVariants.{Call, Asked, Taken, Gave, Imaged, Reported, Heard, Swept}
+use Rattle.gr_history.specs.declared.deed.Deed.TheVariants.{Asked}
 use Rattle.gr_history.specs.Standing.{present}
 use Rattle.gr_history.specs.Turned.{events}
 use Rattle.gr_history.specs.Queries.{Asking, Opening, State, Neither, Running, Halted, asked_of, state, query_gives}
@@ -16,14 +16,8 @@ use Rattle.gr_history.specs.declared.query_reply.QueryReply.TheVariants as told_
 
 -- A query's step was answered what the past gives.
 abbrev pub IsLawfulAsked : Deed → List Deed → Type 0
-IsLawfulAsked (Call client seq ask reply made to) past = Unit {0}
 IsLawfulAsked (Asked client seq ask reply) past = reply ≡ query_gives client ask past
-IsLawfulAsked (Taken change verdict) past = Unit {0}
-IsLawfulAsked (Gave to what) past = Unit {0}
-IsLawfulAsked (Imaged image) past = Unit {0}
-IsLawfulAsked (Reported report) past = Unit {0}
-IsLawfulAsked (Heard report) past = Unit {0}
-IsLawfulAsked (Swept moment expired) past = Unit {0}
+IsLawfulAsked _ past = Unit {0}
 
 -- so was each one of a history
 abbrev pub IsAnswered : List Deed → Type 0

@@ -7,7 +7,7 @@ use Rattle.std.specs.List.{AllByRecursion}
 use Rattle.gr_history.specs.declared.identity.Identity.{Identity}
 use Rattle.gr_history.specs.declared.image.What.{What}
 use Rattle.gr_history.specs.declared.deed.Deed.{Deed}
-use Rattle.gr_history.specs.declared.deed.Deed.TheVariants.{Call, Asked, Taken, Gave, Imaged, Reported, Heard, Swept}
+use Rattle.gr_history.specs.declared.deed.Deed.TheVariants.{Call, Gave}
 use Rattle.gr_history.specs.Gifts.{own_changes}
 use Rattle.gr_history.specs.Made.{made, made_at}
 use Rattle.gr_history.specs.Recipients.{gave_to, is_recipient, member_bits, recipients}
@@ -22,13 +22,7 @@ use Rattle.gr_shard.proofs.Slots.{stands_unchanged}
 at_most_one : (deed : Deed) → reverse (made_at deed) ≡ made_at deed
 at_most_one (Call client seq ask reply None to) = refl
 at_most_one (Call client seq ask reply (Some change) to) = refl
-at_most_one (Asked client seq ask reply) = refl
-at_most_one (Taken change verdict) = refl
-at_most_one (Gave to what) = refl
-at_most_one (Imaged image) = refl
-at_most_one (Reported report) = refl
-at_most_one (Heard report) = refl
-at_most_one (Swept moment expired) = refl
+at_most_one _ = refl
 
 -- what a deed made comes last
 pub own_more : (deed : Deed) (past : List Deed) → own_changes (deed ∷ past) ≡ own_changes past ++ made_at deed

@@ -61,14 +61,8 @@ PeeksBelow client number before = (earlier : ℕ) (key : List ℕ) (value : Opti
     → Among (Peeked client earlier key value at) before → earlier < number
 
 abbrev Follows : Deed → List Event → Type 0
-Follows (Call client number ask reply made to) before = Unit {0}
 Follows (Asked client number ask reply) before = PeeksBelow client number before
-Follows (Taken change verdict) before = Unit {0}
-Follows (Gave to what) before = Unit {0}
-Follows (Imaged image) before = Unit {0}
-Follows (Reported report) before = Unit {0}
-Follows (Heard report) before = Unit {0}
-Follows (Swept moment expired) before = Unit {0}
+Follows _ before = Unit {0}
 
 abbrev AllFollow : List Event → Type 0
 AllFollow [] = Unit {0}

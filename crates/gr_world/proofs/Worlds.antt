@@ -17,7 +17,9 @@ use Rattle.gr_history.specs.Standing.{present}
 use Rattle.gr_shard.specs.View.{Account}
 use Rattle.gr_script.specs.declared.line.Act.TheVariants as act
 use Rattle.gr_script.specs.declared.line.Line.TheVariants.{Step, Deliver}
+use Rattle.gr_script.specs.declared.script.Script.{Script}
 use Rattle.gr_script.specs.Rules.{Heading, IsMember, IsStated, home_of}
+use Rattle.gr_script.specs.Scripts.{heading_of}
 use Rattle.gr_world.specs.declared.world.World.{World}
 use Rattle.gr_world.specs.Events.{Event, Did, Peeked, Gathered, put_if, history}
 use Rattle.gr_world.specs.Clients.{Numbered, add_some, told, told_by, told_by_deed}
@@ -439,11 +441,12 @@ work_cell heading world member shard (events, left) is within =
     subst (λ grid. IsCell grid member shard) (sym left.grid_is) (is_cell heading events member shard is within)
 
 -- also where the shard is that of a key
-pub key_cell : (heading : Heading) (world : World) (member shard : ℕ) (key : List ℕ) → IsAtWork heading world → IsMember heading member
-    → 1 ≤ heading.shards → shard ≡ shard_of key heading.shards
+pub key_cell : (script : Script) (world : World) (member shard : ℕ) (key : List ℕ) → IsAtWork (heading_of script) world
+    → IsMember (heading_of script) member → shard ≡ shard_of key script.shards
     → IsCell world.grid member shard
-key_cell heading world member shard key work is some at_shard =
-    work_cell heading world member shard work is (shard_within key shard heading.shards some at_shard)
+key_cell script world member shard key work is at_shard =
+    work_cell (heading_of script) world member shard work is
+    (shard_within key shard script.shards script.ruled.heading.shards.0 at_shard)
 
 -- and a key's change belongs to the shard of its key
 pub work_shard : (heading : Heading) (world : World) (member shard : ℕ) (key : List ℕ) → IsAtWork heading world → IsMember heading member
@@ -469,6 +472,11 @@ for_each_plays heading act n first now next so_far more events is =
 pub work_clients : (heading : Heading) (world : World) → IsAtWork heading world → length world.tellings ≡ length heading.clients
 work_clients heading world (events, left) =
     ap (λ lists. length lists) left.tellings_are ∙ numbers_length 1 (length heading.clients) (λ client. answers client events)
+
+-- who is stated has a place among those that are told
+pub stated_told : (heading : Heading) (world : World) (client : ℕ) → IsAtWork heading world → IsStated client heading
+    → client ≤ length world.tellings
+stated_told heading world client work is = let long = work_clients heading world work in omega (arith, long, is.1)
 
 pub work_members : (heading : Heading) (world : World) → IsAtWork heading world → length world.grid ≡ heading.members
 work_members heading world (events, left) =

@@ -6,7 +6,7 @@ use Rattle.gr_value.specs.Shard.{shard_of}
 use Rattle.gr_stamp.specs.declared.change.Change.{Change}
 use Rattle.gr_history.specs.declared.ask.Ask.{Ask}
 use Rattle.gr_history.specs.declared.deed.Deed.{Deed}
-use Rattle.gr_history.specs.declared.deed.Deed.TheVariants.{Call, Asked, Taken, Gave, Imaged, Reported, Heard, Swept}
+use Rattle.gr_history.specs.declared.deed.Deed.TheVariants.{Call, Asked}
 use Rattle.gr_history.specs.declared.record.Answer.{Answer}
 use Rattle.gr_history.specs.declared.record.Answer.TheVariants as answer
 use Rattle.gr_history.specs.declared.query_ask.QueryAsk.{QueryAsk}
@@ -44,12 +44,7 @@ pub record Asking : Type 0 where
 abbrev pub asking_of : Deed → Option Asking
 asking_of (Call client seq ask reply made to) = Some (record { client = client; number = seq; ask = OfKey ask })
 asking_of (Asked client seq ask reply) = Some (record { client = client; number = seq; ask = OfQuery ask })
-asking_of (Taken change verdict) = None
-asking_of (Gave to what) = None
-asking_of (Imaged image) = None
-asking_of (Reported report) = None
-asking_of (Heard report) = None
-asking_of (Swept moment expired) = None
+asking_of _ = None
 
 -- what a history says was asked, the newest first
 abbrev pub askings : List Deed → List Asking
@@ -101,13 +96,7 @@ pub record Numbered : Type 0 where
 abbrev pub told_by_deed : ℕ → Deed → Option Numbered
 told_by_deed client (Call own seq ask reply made to) =
     if own == client then Some (record { number = seq; answer = answer.Reply reply }) else None
-told_by_deed client (Asked own seq ask reply) = None
-told_by_deed client (Taken change verdict) = None
-told_by_deed client (Gave to what) = None
-told_by_deed client (Imaged image) = None
-told_by_deed client (Reported report) = None
-told_by_deed client (Heard report) = None
-told_by_deed client (Swept moment expired) = None
+told_by_deed client _ = None
 
 abbrev pub told_by : ℕ → Event → Option Numbered
 told_by client (Did member shard deed) = told_by_deed client deed

@@ -9,24 +9,12 @@ use Rattle.gr_world.specs.Events.{Event, Did, Peeked, Gathered}
 -- what a deed made
 abbrev pub made_in : Deed → Option Change
 made_in (Call client seq ask reply made to) = made
-made_in (Asked client seq ask reply) = None
-made_in (Taken change verdict) = None
-made_in (Gave to what) = None
-made_in (Imaged image) = None
-made_in (Reported report) = None
-made_in (Heard report) = None
-made_in (Swept moment expired) = None
+made_in _ = None
 
 -- what a deed made, where it is this step of the client
 abbrev pub made_by_deed : ℕ → ℕ → Deed → Option Change
 made_by_deed client number (Call own seq ask reply made to) = if own == client && seq == number then made else None
-made_by_deed client number (Asked own seq ask reply) = None
-made_by_deed client number (Taken change verdict) = None
-made_by_deed client number (Gave to what) = None
-made_by_deed client number (Imaged image) = None
-made_by_deed client number (Reported report) = None
-made_by_deed client number (Heard report) = None
-made_by_deed client number (Swept moment expired) = None
+made_by_deed client number _ = None
 
 abbrev pub or_else : {A : Type 0} → Option A → Option A → Option A
 or_else (Some first) rest = Some first

@@ -1,19 +1,17 @@
-use Rattle.std.proofs.Common.{◌∙◌, ap, arith, length}
+use Rattle.std.proofs.Common.{◌∙◌, ap, length}
 use Rattle.gr_value.specs.Shard.{shard_of}
 use Rattle.gr_history.specs.Asks.{key_of}
 use Rattle.gr_script.specs.Scripts.{heading_of}
-use Rattle.gr_world.proofs.Worlds.{call_plays, key_cell, shard_within, work_clients, work_shard}
+use Rattle.gr_world.proofs.Worlds.{call_plays, key_cell, shard_within, stated_told, work_shard}
 use Rattle.gr_world.proofs.world.World.call.Goals as goal
 
 pub cell-requires : goal.cell-requires
 cell-requires c =
-    key_cell (heading_of c.args.stage.script.now) c.args.self.now _ _ c.key.result.now c.requires.work c.home-member.ensures.member
-    c.args.stage.script.now.ruled.heading.shards.0 c.shard-shard.ensures
+    key_cell c.args.stage.script.now c.args.self.now _ _ c.key.result.now c.requires.work c.home-member.ensures.member c.shard-shard.ensures
 
 pub call-requires-clause-cell : goal.call-requires-clause-cell
 call-requires-clause-cell c =
-    key_cell (heading_of c.args.stage.script.now) c.args.self.now _ _ c.key.result.now c.requires.work c.home-member.ensures.member
-    c.args.stage.script.now.ruled.heading.shards.0 c.shard-shard.ensures
+    key_cell c.args.stage.script.now c.args.self.now _ _ c.key.result.now c.requires.work c.home-member.ensures.member c.shard-shard.ensures
 
 pub call-requires-clause-here : goal.call-requires-clause-here
 call-requires-clause-here c =
@@ -24,8 +22,7 @@ call-requires-clause-here c =
 
 pub tell-requires-clause-stated : goal.tell-requires-clause-stated
 tell-requires-clause-stated c =
-    let long = work_clients (heading_of c.args.stage.script.now) c.args.self.now c.requires.work in
-    omega (arith, long, c.requires.stated.1)
+    stated_told (heading_of c.args.stage.script.now) c.args.self.now c.args.step.client c.requires.work c.requires.stated
 
 pub returns : goal.returns
 returns c =

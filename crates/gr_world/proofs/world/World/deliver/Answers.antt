@@ -6,8 +6,7 @@ use Rattle.gr_world.proofs.world.World.deliver.Goals as goal
 
 pub does-requires-clause-cell : goal.does-requires-clause-cell
 does-requires-clause-cell c =
-    key_cell (heading_of c.args.stage.script.now) c.args.self.now _ _ c.in-Some.change.key c.requires.work c.requires.member
-    c.args.stage.script.now.ruled.heading.shards.0 c.shard-shard.ensures
+    key_cell c.args.stage.script.now c.args.self.now _ _ c.in-Some.change.key c.requires.work c.requires.member c.shard-shard.ensures
 
 pub does-requires-clause-here : goal.does-requires-clause-here
 does-requires-clause-here c =

@@ -1,19 +1,17 @@
-use Rattle.std.proofs.Common.{◌∙◌, ap, arith, length, refl, reverse}
+use Rattle.std.proofs.Common.{◌∙◌, ap, length, refl, reverse}
 use Rattle.gr_history.specs.declared.record.Answer.TheVariants as answer
 use Rattle.gr_history.specs.Standing.{present}
 use Rattle.gr_script.specs.Scripts.{heading_of}
-use Rattle.gr_world.proofs.Worlds.{key_cell, peek_plays, shard_within, work_clients}
+use Rattle.gr_world.proofs.Worlds.{key_cell, peek_plays, shard_within, stated_told}
 use Rattle.gr_world.proofs.world.World.peek.Goals as goal
 
 pub cell-requires : goal.cell-requires
 cell-requires c =
-    key_cell (heading_of c.args.stage.script.now) c.args.self.now _ _ c.args.key.now c.requires.work c.home-member.ensures.member
-    c.args.stage.script.now.ruled.heading.shards.0 c.shard-shard.ensures
+    key_cell c.args.stage.script.now c.args.self.now _ _ c.args.key.now c.requires.work c.home-member.ensures.member c.shard-shard.ensures
 
 pub tell-requires-clause-stated : goal.tell-requires-clause-stated
 tell-requires-clause-stated c =
-    let long = work_clients (heading_of c.args.stage.script.now) c.args.self.now c.requires.work in
-    omega (arith, long, c.requires.stated.1)
+    stated_told (heading_of c.args.stage.script.now) c.args.self.now c.args.client c.requires.work c.requires.stated
 
 pub returns : goal.returns
 returns c seq =
