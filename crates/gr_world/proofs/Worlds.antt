@@ -273,8 +273,8 @@ call_plays heading old new member shard at client seq ask done is stated at_home
     deed : Deed
     deed = call_with client seq ask done
 
-    noted : place.at ≡ length (history member shard events) → (b : Bool) (o : Option Change) (found : Option DeedPlace) (before : Option Change)
-        → done.made ≡ o → IsFound heading events found before
+    noted : place.at ≡ length (history member shard events)
+        → (b : Bool) (o : Option Change) (found : Option DeedPlace) (before : Option Change) → done.made ≡ o → IsFound heading events found before
         → IsFound heading (Did member shard deed ∷ events) (or_else (if b then option_map (λ _. place) o else None) found)
         (or_else (if b then o else None) before)
     noted at_end true (Some change) found before made_is had =

@@ -13,6 +13,7 @@ returns c =
     let sum : List ℕ = sum_text c.args.numbers.now in
     on_ok_weaker c.put_text.result
     (λ e. e
-    ∙ ap (λ out. out ++ codes "\n") (c.in_ok-put_sum.ensures ∙ ap (λ out. out ++ sum) c.in_ok-put_counted.ensures ∙ append_assoc before entries sum)
+    ∙ ap (λ out. out ++ codes "\n")
+    (c.in_ok-put_sum.ensures ∙ ap (λ out. out ++ sum) c.in_ok-put_counted.ensures ∙ append_assoc before entries sum)
     ∙ append_assoc before (entries ++ sum) (codes "\n"))
     c.put_text.ensures
