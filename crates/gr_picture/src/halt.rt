@@ -1,6 +1,7 @@
 use gr_io::{ReadEnd, WriteFault};
 use gr_value::Memory;
 use std::alloc::{AllocError, AllocFailed};
+use std::error::Error;
 use std::fmt;
 
 /// Why nothing was drawn.
@@ -44,6 +45,8 @@ impl fmt::Display for Halt {
         }
     }
 }
+
+impl Error for Halt {}
 
 impl From<AllocError> for Halt {
     fn from(_error: AllocError) -> Halt {

@@ -3,6 +3,8 @@ use crate::rule::Ordered;
 use crate::view::View;
 use crossbeam_queue::RuledArrayQueue;
 use gr_value::ItemList;
+use std::error::Error;
+use std::fmt;
 use std::marker::Model;
 
 /// A ring of mails from any number of senders to one taker.
@@ -28,3 +30,17 @@ pub type InboxList = ItemList<Inbox>;
 pub struct Full {
     pub mail: Mail,
 }
+
+impl fmt::Debug for Full {
+    fn fmt<W: fmt::Write>(&self, f: &mut fmt::Formatter<W>) -> fmt::Result {
+        write!(f, "Full {{ .. }}")
+    }
+}
+
+impl fmt::Display for Full {
+    fn fmt<W: fmt::Write>(&self, f: &mut fmt::Formatter<W>) -> fmt::Result {
+        write!(f, "the inbox is full")
+    }
+}
+
+impl Error for Full {}

@@ -6,9 +6,10 @@ use crate::rule::{Grab, Look, Meet, Release, Turns};
 use crate::view::View;
 use atomic_table::Table;
 use std::alloc::Global;
+use std::error::Error;
 use std::marker::{Model, PhantomData};
 use std::sync::Wait;
-use std::thread;
+use std::{fmt, thread};
 
 /// A lock whose holder has the value itself. It is never dropped: `end` takes it apart.
 pub struct TurnLock<T: Kept> {
@@ -49,6 +50,20 @@ pub struct Busy<T: Kept> {
     pub seat: Seat<T>,
     pub word: u64,
 }
+
+impl<T: Kept> fmt::Debug for Busy<T> {
+    fn fmt<W: fmt::Write>(&self, f: &mut fmt::Formatter<W>) -> fmt::Result {
+        write!(f, "Busy {{ word: {}, .. }}", self.word)
+    }
+}
+
+impl<T: Kept> fmt::Display for Busy<T> {
+    fn fmt<W: fmt::Write>(&self, f: &mut fmt::Formatter<W>) -> fmt::Result {
+        write!(f, "another turn is out")
+    }
+}
+
+impl<T: Kept> Error for Busy<T> {}
 
 /// The value with the seat that took it. It can't be dropped: `leave` gives it back.
 pub struct Turn<'a, T: Kept> {
