@@ -10,7 +10,7 @@ use crate::{Cause, Outcome};
 use gr_history::Record;
 use gr_io::{Sink, Source, write_all};
 use gr_report::report;
-use gr_script::{Script, print};
+use gr_script::print;
 use gr_value::Memory;
 use gr_world::replay;
 use std::alloc::Global;
@@ -22,13 +22,6 @@ fn hand_out<K: Sink>(sink: &mut K, text: &[u8]) -> Cause
         Ok(()) => Cause::Finished,
         Err(_) => Cause::WriteFault,
     }
-}
-
-/// How a call ended, and the script that was read.
-#[derive(Drop)]
-pub(crate) struct Answered {
-    pub(crate) outcome: Outcome,
-    pub(crate) script: Option<Script>,
 }
 
 // Prints the script that the source has.
@@ -47,15 +40,15 @@ fn check<S: Source, K: Sink>(alloc: Global, source: &mut S, sink: &mut K) -> Cau
     }
 }
 
-// The script that the source has, and its record.
-fn record_from<S: Source>(alloc: Global, source: &mut S) -> Result<(Script, Record), Cause>
+// The record of the script that the source has.
+fn record_from<S: Source>(alloc: Global, source: &mut S) -> Result<Record, Cause>
     ensures { (histories : Bool)
-        → MatchResult result (λ found. IsReplayOf (stream (S.left source.old) (S.left source.new) (S.faults source.old) (S.faults source.new)) found.1)
+        → MatchResult result (IsReplayOf (stream (S.left source.old) (S.left source.new) (S.faults source.old) (S.faults source.new)))
         (Stops (mode.Replay histories) (stream (S.left source.old) (S.left source.new) (S.faults source.old) (S.faults source.new))) }
 {
     let script = script_from(alloc, source)?;
     match replay(alloc, &script) {
-        Ok(record_of) => Ok((script, record_of)),
+        Ok(record_of) => Ok(record_of),
         Err(Memory) => Err(Cause::Memory),
     }
 }
@@ -92,49 +85,18 @@ fn report_of<S: Source, K: Sink>(
     histories: bool,
     source: &mut S,
     sink: &mut K,
-) -> Answered
-    ensures status { result.outcome.status ≡ status_of result.outcome.cause }
+) -> Outcome
+    ensures status { result.status ≡ status_of result.cause }
     ensures explained { Explains (mode.Replay histories)
         (stream (S.left source.old) (S.left source.new) (S.faults source.old) (S.faults source.new))
-        (stream (K.held sink.old) (K.held sink.new) (K.faults sink.old) (K.faults sink.new))
-        result.outcome.kept result.outcome.cause }
+        (stream (K.held sink.old) (K.held sink.new) (K.faults sink.old) (K.faults sink.new)) result.kept result.cause }
 {
     match record_from(alloc, source) {
-        Err(cause) => Answered {
-            outcome: ended(cause, None),
-            script: None,
-        },
-        Ok((script, record_of)) => {
+        Err(cause) => ended(cause, None),
+        Ok(record_of) => {
             let cause = hand_out_report(alloc, histories, &record_of, sink);
-            Answered {
-                outcome: ended(cause, Some(record_of)),
-                script: Some(script),
-            }
+            ended(cause, Some(record_of))
         }
-    }
-}
-
-/// Answers the words as `replay_words` does, and hands over the script as well.
-pub(crate) fn answer_words<S: Source, K: Sink>(
-    alloc: Global,
-    words: &[String],
-    source: &mut S,
-    sink: &mut K,
-) -> Answered
-    ensures status { result.outcome.status ≡ status_of result.outcome.cause }
-    ensures explained { Answers (mode_of (map (λ word. string_bytes word) words.now))
-        (stream (S.left source.old) (S.left source.new) (S.faults source.old) (S.faults source.new))
-        (stream (K.held sink.old) (K.held sink.new) (K.faults sink.old) (K.faults sink.new))
-        result.outcome.kept result.outcome.cause }
-{
-    let outcome = match mode_of(words) {
-        Err(place) => ended(Cause::Usage(place), None),
-        Ok(Mode::Check) => ended(check(alloc, source, sink), None),
-        Ok(Mode::Replay { histories }) => return report_of(alloc, histories, source, sink),
-    };
-    Answered {
-        outcome,
-        script: None,
     }
 }
 
@@ -154,6 +116,9 @@ pub fn replay_words<S: Source, K: Sink>(
         (stream (K.held sink.old) (K.held sink.new) (K.faults sink.old) (K.faults sink.new))
         result.kept result.cause }
 {
-    let Answered { outcome, .. } = answer_words(alloc, words, source, sink);
-    outcome
+    match mode_of(words) {
+        Err(place) => ended(Cause::Usage(place), None),
+        Ok(Mode::Check) => ended(check(alloc, source, sink), None),
+        Ok(Mode::Replay { histories }) => report_of(alloc, histories, source, sink),
+    }
 }

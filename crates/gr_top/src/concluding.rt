@@ -2,7 +2,7 @@ ghost use Rattle.std.specs.Prelude.{◌≡◌, map, string_bytes};
 ghost use Rattle.gr_top.specs.Causes.{status_of};
 ghost use Rattle.gr_top.specs.Outcomes.{IsAnswered, IsTold, stream};
 
-use crate::answering::{Answered, answer_words};
+use crate::answering::replay_words;
 use crate::cause_texts::tell;
 use crate::{Cause, Outcome};
 use gr_io::{Sink, Source};
@@ -21,7 +21,7 @@ pub fn conclude<E: Sink>(errors: &mut E, cause: &Cause) -> u8
 
 /// The whole program: answers the words with the script that the source has, writes the report to the
 /// sink and the line of the cause to `errors`, and gives the status to end with. It is the last thing
-/// that a process does: the script and the record aren't freed.
+/// that a process does: the record that was kept isn't freed.
 pub fn program<S: Source, K: Sink, E: Sink>(
     alloc: Global,
     words: &[String],
@@ -35,10 +35,8 @@ pub fn program<S: Source, K: Sink, E: Sink>(
         (stream (E.held errors.old) (E.held errors.new) (E.faults errors.old) (E.faults errors.new))
         result }
 {
-    let Answered { outcome, script } = answer_words(alloc, words, source, sink);
-    let Outcome { cause, kept, .. } = outcome;
+    let Outcome { cause, kept, .. } = replay_words(alloc, words, source, sink);
     let status = conclude(errors, &cause);
     mem::forget(kept);
-    mem::forget(script);
     status
 }
