@@ -20,8 +20,13 @@ pub enum Halt {
 }
 
 impl Halt {
+    ghost use Rattle.std.specs.Prelude.{◌≡◌};
+    ghost use Rattle.gr_picture.specs.Statuses.{status_of};
+
     /// The status that the program ends with, the same as georep's for such a cause.
-    pub fn status(self) -> u8 {
+    pub fn status(self) -> u8
+        ensures { result ≡ status_of self }
+    {
         match self {
             Halt::ReadFault => 3,
             Halt::TooLarge => 4,

@@ -1,6 +1,18 @@
--- Lists whose items are numbered.
+-- Lists whose items are numbered, and what stands at a place of a longer list.
 use Rattle.std.proofs.Common.{zero, suc, ◌≡◌, ◌∙◌, ap, sym, subst, refl, ℕ, ◌+◌, ◌≤◌, ◌<◌, List, [], ◌∷◌, ◌++◌, length, get_or, set, arith}
+use Rattle.std.specs.Prelude.{Some, slice_get}
 use Rattle.gr_world.specs.Numbered.{numbers_from, PairsFrom}
+
+-- what stood at a place stands there with one item more
+pub kept_get : {A : Type 0} (xs : List A) (y x : A) (k : ℕ) → slice_get xs k ≡ Some x → slice_get (xs ++ y ∷ []) k ≡ Some x
+kept_get [] y x k h = absurd cc
+kept_get (z ∷ xs) y x zero h = h
+kept_get (z ∷ xs) y x (suc k) h = kept_get xs y x k h
+
+-- and that item stands behind all others
+pub last_get : {A : Type 0} (xs : List A) (y : A) → slice_get (xs ++ y ∷ []) (length xs) ≡ Some y
+last_get [] y = refl
+last_get (x ∷ xs) y = last_get xs y
 
 pub numbers_length : {A : Type 0} → (from n : ℕ) (f : ℕ → A) → length (numbers_from from n f) ≡ n
 numbers_length from zero f = refl

@@ -1,5 +1,5 @@
 -- One event more leaves one deed and one answer more.
-use Rattle.std.proofs.Common.{◌≡◌, ◌∙◌, ap, sym, subst, refl, ℕ, zero, suc, ◌+◌, ◌-◌, ◌≤◌, ◌<◌, List, [], ◌∷◌, ◌++◌, length, reverse, map}
+use Rattle.std.proofs.Common.{◌≡◌, ◌∙◌, ap, sym, subst, refl, ℕ, ◌+◌, ◌-◌, ◌≤◌, ◌<◌, List, [], ◌∷◌, ◌++◌, length, reverse, map}
 use Rattle.std.proofs.Common.{Bool, true, false, ◌&&◌, ◌==◌, add-one, arith, get_or, set, if◌then◌else◌}
 use Rattle.std.specs.Prelude.{Option, Some, None, option_and_then, option_map, slice_get}
 use Rattle.std.proofs.lemmas.Bool.Decides.{nat_tests}
@@ -39,7 +39,7 @@ use Rattle.gr_stamp.specs.declared.change.Change.{Change}
 use Rattle.gr_history.specs.declared.identity.Identity.{Identity}
 use Rattle.gr_vector.specs.declared.report.Report.{Report}
 use Rattle.gr_world.proofs.Events.{at_put, history_here, same_number}
-use Rattle.gr_world.proofs.Lists.{numbers_get, numbers_length, numbers_same, numbers_set}
+use Rattle.gr_world.proofs.Lists.{kept_get, last_get, numbers_get, numbers_length, numbers_same, numbers_set}
 
 -- the accounts of a member's shards
 abbrev pub row_left : Heading → List Event → ℕ → List Account
@@ -178,15 +178,6 @@ done_left heading events old new member shard doing deed is within same done =
 
 -- ---- where what was made stands
 
-kept_get : {A : Type 0} (xs : List A) (y x : A) (k : ℕ) → slice_get xs k ≡ Some x → slice_get (xs ++ y ∷ []) k ≡ Some x
-kept_get [] y x k h = absurd cc
-kept_get (z ∷ xs) y x zero h = h
-kept_get (z ∷ xs) y x (suc k) h = kept_get xs y x k h
-
-last_get : {A : Type 0} (xs : List A) (y : A) → slice_get (xs ++ y ∷ []) (length xs) ≡ Some y
-last_get [] y = refl
-last_get (x ∷ xs) y = last_get xs y
-
 -- What was found is found after one event more.
 kept_found : (heading : Heading) (event : Event) (events : List Event) (found : Option DeedPlace) (made : Option Change)
     → IsFound heading events found made → IsFound heading (event ∷ events) found made
@@ -274,7 +265,8 @@ call_plays heading old new member shard at client seq ask done is stated at_home
     deed = call_with client seq ask done
 
     noted : place.at ≡ length (history member shard events)
-        → (b : Bool) (o : Option Change) (found : Option DeedPlace) (before : Option Change) → done.made ≡ o → IsFound heading events found before
+        → (b : Bool) (o : Option Change) (found : Option DeedPlace) (before : Option Change)
+        → done.made ≡ o → IsFound heading events found before
         → IsFound heading (Did member shard deed ∷ events) (or_else (if b then option_map (λ _. place) o else None) found)
         (or_else (if b then o else None) before)
     noted at_end true (Some change) found before made_is had =
@@ -358,11 +350,6 @@ found_cell heading world client seq place is_found (events, is) =
     subst (λ grid. IsCell grid place.site.member place.site.shard) (sym is.grid_is)
     (is_cell heading events place.site.member place.site.shard stands.member stands.shard)
 
-pub found_nothing : (heading : Heading) (world : World) (client seq : ℕ)
-    → place_of world.made client seq ≡ None → IsChangeOf heading world client seq None
-found_nothing heading world client seq is_found events is =
-    sym (subst (λ found. IsFound heading events found (made_by client seq events)) is_found (is.made_are client seq))
-
 -- What was made is taken in, in the shard of its key.
 pub deliver_plays : (heading : Heading) (old new : World) (to client seq shard : ℕ) (change : Change)
     → IsChangeOf heading old client seq (Some change)
@@ -387,12 +374,6 @@ hear_plays heading old new by of number shard found is within is_found plays eve
     let here : found ≡ numbered number (reports past) =
     is_found ∙ ap (λ ds. numbered number (reports (reverse ds))) deeds ∙ ap (λ ds. numbered number (reports ds)) (reverse-reverse past) in
     subst (λ o. IsWorld heading (hears heading by shard o events) new) here (plays events world)
-
--- A step that made nothing delivers nothing.
-pub nothing_plays : (heading : Heading) (world : World) (to client seq : ℕ) → IsChangeOf heading world client seq None
-    → Plays heading (after heading (Deliver to client seq)) world world
-nothing_plays heading world to client seq is_made events is =
-    subst (λ o. IsWorld heading (delivers heading to o events) world) (is_made events is) is
 
 -- A peek tells what is present.
 pub peek_plays : (heading : Heading) (old new : World) (member shard client seq : ℕ) (key : List ℕ) (seen : Answer)
