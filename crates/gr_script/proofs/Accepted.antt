@@ -30,46 +30,49 @@ pub record Accepts (past : List Saying) (saying : Saying) : Type 0 where
 
 -- ---- what is accepted is read
 
-form_read : (past : List Saying) (saying : Saying) → Accepts past saying → form_at false (stage past) (saying_text saying) ≡ Ok saying.kind
-form_read past saying is =
+form_read : (runs : Bool) (past : List Saying) (saying : Saying) → (runs && is_replayed saying.kind) ≡ false → Accepts past saying
+    → form_at runs (stage past) (saying_text saying) ≡ Ok saying.kind
+form_read runs past saying quiet is =
     let text = saying_text saying in
     let kind = saying.kind in
     let back = read_back (setting past) saying is.suit in
     let ordered : LineKind → Result LineKind Reason = λ form. unless (ltb (rank form) (stage past)) reason.Order form >>= λ form.
     unless (not (fits (fields form) text)) reason.Fields form in
     let named : List ℕ → Result LineKind Reason = λ t. ok_or (form_of t) reason.Word >>= λ form.
-    unless (false && is_replayed form) reason.NotInRun form >>= λ form. unless (ltb (rank form) (stage past)) reason.Order form >>= λ form.
+    unless (runs && is_replayed form) reason.NotInRun form >>= λ form. unless (ltb (rank form) (stage past)) reason.Order form >>= λ form.
     unless (not (fits (fields form) t)) reason.Fields form in
     ap (λ (test : Bool). unless test (reason.Header (stage past + 1)) text >>= named) is.due
     ∙ ap (λ (form : Option LineKind). ok_or form reason.Word >>= λ form. unless
-    (false && is_replayed form) reason.NotInRun form >>= ordered)
+    (runs && is_replayed form) reason.NotInRun form >>= ordered)
     back.form
+    ∙ ap (λ (test : Bool). unless test reason.NotInRun kind >>= ordered) quiet
     ∙ ap (λ (test : Bool). unless test reason.Order kind >>= λ form. unless (not (fits (fields form) text)) reason.Fields form) is.order
     ∙ ap (λ (test : Bool). unless (not test) reason.Fields kind) back.fit
 
-saying_read : (past : List Saying) (saying : Saying) → Accepts past saying → saying_at false past (saying_text saying) ≡ Ok saying
-saying_read past saying is =
+saying_read : (runs : Bool) (past : List Saying) (saying : Saying) → (runs && is_replayed saying.kind) ≡ false → Accepts past saying
+    → saying_at runs past (saying_text saying) ≡ Ok saying
+saying_read runs past saying quiet is =
     let text = saying_text saying in
     let back = read_back (setting past) saying is.suit in
     let with_items : LineKind → Result (List Item) Reason → Result Saying Reason = λ form found. found >>= λ items.
     unless_refused (refusal (tests past form items)) (record { kind = form; items = items }) in
     ap (λ (form : Result LineKind Reason). form >>= λ form. with_items form (items_at (setting past) (fields form) text))
-    (form_read past saying is)
+    (form_read runs past saying quiet is)
     ∙ ap (with_items saying.kind) back.read
     ∙ ap (λ (why : Option Reason). unless_refused why saying) is.passes
 
-pub past_read : (past : List Saying) (saying : Saying) → Accepts past saying
-    → past_with false past (saying_text saying) ≡ Ok (saying ∷ past)
-past_read past saying is =
+pub past_read : (runs : Bool) (past : List Saying) (saying : Saying) → (runs && is_replayed saying.kind) ≡ false → Accepts past saying
+    → past_with runs past (saying_text saying) ≡ Ok (saying ∷ past)
+past_read runs past saying quiet is =
     let text = saying_text saying in
     let back = read_back (setting past) saying is.suit in
     let with : Bool → Result Saying Reason → Result (List Saying) Reason = λ skipped found. cond skipped (Ok past)
     (found >>= λ said. Ok (said ∷ past)) in
-    let rest : List ℕ → Result (List Saying) Reason = λ line. with (is_skipped (text_said line)) (saying_at false past (text_said line)) in
+    let rest : List ℕ → Result (List Saying) Reason = λ line. with (is_skipped (text_said line)) (saying_at runs past (text_said line)) in
     ap (λ (test : Bool). unless (not test) reason.Utf8 text >>= rest) back.readable
-    ∙ ap (λ (t : List ℕ). with (is_skipped t) (saying_at false past t)) back.whole
-    ∙ ap (λ (test : Bool). with test (saying_at false past text)) back.said
-    ∙ ap (λ (found : Result Saying Reason). found >>= λ said. Ok (said ∷ past)) (saying_read past saying is)
+    ∙ ap (λ (t : List ℕ). with (is_skipped t) (saying_at runs past t)) back.whole
+    ∙ ap (λ (test : Bool). with test (saying_at runs past text)) back.said
+    ∙ ap (λ (found : Result Saying Reason). found >>= λ said. Ok (said ∷ past)) (saying_read runs past saying quiet is)
 
 -- ---- tests that no line of a script meets
 

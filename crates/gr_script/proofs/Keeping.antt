@@ -1,5 +1,5 @@
 -- Earlier lines are kept with one more: in the heading while no line stands behind it, or behind it as the line that it is.
-use Rattle.std.proofs.Common.{◌≡◌, ◌∙◌, ℕ, ◌+◌, ◌<◌, List, [], ◌∷◌, ◌++◌, Bool, false, ◌&&◌, cond, eqb, map, reverse}
+use Rattle.std.proofs.Common.{◌≡◌, ◌∙◌, ℕ, ◌+◌, ◌<◌, ◌≤◌, List, [], ◌∷◌, ◌++◌, Bool, false, ◌&&◌, cond, eqb, map, reverse}
 use Rattle.std.proofs.Common.{Option, Some, None, IfNone, option_map, length, drop, refl, sym, ap, arith}
 use Rattle.std.specs.List.{cons_option}
 use Rattle.std.specs.Option.{option_to_list, IsSome}
@@ -40,6 +40,12 @@ late_line (Report member) = refl
 late_line (Hear by of number) = refl
 late_line (Sweep member moment) = refl
 late_line (Join member from) = refl
+
+pub late_rank : (line : Line) → 8 ≤ rank (saying_in line).kind
+late_rank (Report member) = omega arith
+late_rank (Step client seq (Call (ask.Get key))) = omega arith
+late_rank (Step client seq (Query (query.Stop name))) = omega arith
+late_rank _ = omega arith
 
 none_backward : (heading : List Saying) (backward : List Line) → stage (map saying_in backward ++ heading) < 8 → backward ≡ []
 none_backward heading [] low = refl

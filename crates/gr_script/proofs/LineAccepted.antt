@@ -20,6 +20,8 @@ use Rattle.gr_script.specs.declared.reason.Reason.TheVariants as reason
 use Rattle.gr_script.specs.declared.saying.Saying.{Saying}
 use Rattle.gr_script.specs.Forms.{fields, rank}
 use Rattle.gr_script.specs.Past.{setting, region, members, founders, home, steps, reports, joins, count_of, queries, stage}
+use Rattle.gr_value.specs.KeyBytes.{IsKey}
+use Rattle.gr_script.specs.Plain.{IsPlain}
 use Rattle.gr_script.specs.Printed.{saying_in, act_saying, ask_saying, query_saying, IsLineKept, IsActKept, IsAskKept, IsQueryKept}
 use Rattle.gr_script.specs.Printing.{saying_text}
 use Rattle.gr_script.specs.Refusals.{is_full, is_no_join, tests, refusal}
@@ -44,8 +46,7 @@ last_stage (saying ∷ past) =
       | inr le ↦ grind arith
     ]
 
-module _ (past : List Saying) (all : AllFollow past) (head : IsHeading (heading_said past))
-    (named : region past ≡ Some (heading_said past).region) (whole : 4 ≤ stage past) where
+module _ (past : List Saying) (whole : 4 ≤ stage past) where
   accept : (saying : Saying) → rank saying.kind ≡ 8 → AllSuit (setting past) (fields saying.kind) saying.items
       → refusal (tests past saying.kind saying.items) ≡ None → Accepts past saying
   accept saying is suit passes = record {
@@ -54,12 +55,6 @@ module _ (past : List Saying) (all : AllFollow past) (head : IsHeading (heading_
     order = le-ltb (rank saying.kind) (stage past) (omega (arith, is, last_stage past));
     passes = passes;
   }
-
-  client_suits : (client : ℕ) → IsStated client (heading_said past) → IsClient (setting past) client
-  client_suits client is = ((is.0, omega (arith, is.1, head.few_clients)), is.1)
-
-  member_suits : (member : ℕ) → IsWithin 1 (members past) member → IsWithin 1 (members past) member × IsShort member
-  member_suits member is = (is, omega (arith, is.1, head.members.1))
 
   ask_accepts : (client : ℕ) (asked : Ask) → IsClient (setting past) client → IsAskKept asked → Accepts past (ask_saying client asked)
   ask_accepts client (ask.Get key) c kept = accept (ask_saying client (ask.Get key)) refl (c, (tt, (kept, tt))) refl
@@ -74,6 +69,23 @@ module _ (past : List Saying) (all : AllFollow past) (head : IsHeading (heading_
   ask_accepts client (ask.Destroy key) c kept = accept (ask_saying client (ask.Destroy key)) refl (c, (tt, (kept, tt))) refl
   ask_accepts client (ask.Remove key value) c kept =
       accept (ask_saying client (ask.Remove key value)) refl (c, (tt, (kept.0, (kept.1, tt)))) refl
+
+  peek_accepts : (client : ℕ) (key : List ℕ) → IsClient (setting past) client → IsKey key → Accepts past (act_saying client (Peek key))
+  peek_accepts client key c kept = accept (act_saying client (Peek key)) refl (c, (tt, (kept, tt))) refl
+
+  pub plain_accepts : (client : ℕ) (act : Act) → IsClient (setting past) client → IsPlain act → IsActKept act
+      → Accepts past (act_saying client act)
+  plain_accepts client (Call asked) c plain kept = ask_accepts client asked c kept
+  plain_accepts client (Query asked) c plain kept = absurd plain
+  plain_accepts client (Peek key) c plain kept = peek_accepts client key c kept
+
+module _ (past : List Saying) (all : AllFollow past) (head : IsHeading (heading_said past))
+    (named : region past ≡ Some (heading_said past).region) (whole : 4 ≤ stage past) where
+  client_suits : (client : ℕ) → IsStated client (heading_said past) → IsClient (setting past) client
+  client_suits client is = ((is.0, omega (arith, is.1, head.few_clients)), is.1)
+
+  member_suits : (member : ℕ) → IsWithin 1 (members past) member → IsWithin 1 (members past) member × IsShort member
+  member_suits member is = (is, omega (arith, is.1, head.members.1))
 
   few_queries : lines.queries (lines_said past) < 10000 → is_full 10000 (queries past) ≡ false
   few_queries less = room_left 10000 (queries past) _ (tallied (λ m. m.query) 0 past refl all) less
@@ -94,43 +106,43 @@ module _ (past : List Saying) (all : AllFollow past) (head : IsHeading (heading_
         rest = suits.3;
       } in
       let few_open = room_left 16 (count_of kind.Open past) _ (tallied (λ m. m.opened) 0 past refl all) suits.1 in
-      accept (query_saying client (query.Enrol name text)) refl (c, (tt, (kept.0, (own, tt))))
+      accept past whole (query_saying client (query.Enrol name text)) refl (c, (tt, (kept.0, (own, tt))))
       (one_test _ reason.Count (or_from _ _ few_open (few_queries suits.2)))
   query_accepts client (query.Stop name) c suits kept =
-      accept (query_saying client (query.Stop name)) refl (c, (tt, (kept, tt))) (one_test _ reason.Count (few_queries suits))
+      accept past whole (query_saying client (query.Stop name)) refl (c, (tt, (kept, tt))) (one_test _ reason.Count (few_queries suits))
   query_accepts client (query.Close name) c suits kept =
-      accept (query_saying client (query.Close name)) refl (c, (tt, (kept, tt))) (one_test _ reason.Count (few_queries suits))
+      accept past whole (query_saying client (query.Close name)) refl (c, (tt, (kept, tt))) (one_test _ reason.Count (few_queries suits))
   query_accepts client (query.Fetch name) c suits kept =
-      accept (query_saying client (query.Fetch name)) refl (c, (tt, (kept, tt))) (one_test _ reason.Count (few_queries suits))
+      accept past whole (query_saying client (query.Fetch name)) refl (c, (tt, (kept, tt))) (one_test _ reason.Count (few_queries suits))
 
   act_accepts : (client : ℕ) (act : Act) → IsClient (setting past) client → ActSuits (heading_said past) (lines_said past) act
       → IsActKept act
       → Accepts past (act_saying client act)
-  act_accepts client (Call asked) c suits kept = ask_accepts client asked c kept
+  act_accepts client (Call asked) c suits kept = ask_accepts past whole client asked c kept
   act_accepts client (Query asked) c suits kept = query_accepts client asked c suits kept
-  act_accepts client (Peek key) c suits kept = accept (act_saying client (Peek key)) refl (c, (tt, (kept, tt))) refl
+  act_accepts client (Peek key) c suits kept = peek_accepts past whole client key c kept
 
   pub line_accepts : (line : Line) → StandsAfter (heading_said past) (lines_said past) line → IsLineKept line
       → Accepts past (saying_in line)
   line_accepts (Step client seq act) stands kept = act_accepts client act (client_suits client stands.0) stands.2 kept
   line_accepts (Deliver to client seq) stands kept =
-      accept (saying_in (Deliver to client seq)) refl
+      accept past whole (saying_in (Deliver to client seq)) refl
       (tt, (member_suits to stands.0, ((client_suits client stands.1, kept), tt)))
       (two_tests _ _ reason.Later reason.Itself
       (there_is seq (steps client past) _ (tallied (λ m. m.step) client past refl all) stands.2)
       (differing (eqb to (home client past)) stands.3))
   line_accepts (Report member) stands kept =
-      accept (saying_in (Report member)) refl (tt, (member_suits member stands.0, tt))
+      accept past whole (saying_in (Report member)) refl (tt, (member_suits member stands.0, tt))
       (one_test _ reason.Count (room_left 200 (count_of kind.Report past) _ (tallied (λ m. m.report) 0 past refl all) stands.1))
   line_accepts (Hear by of number) stands kept =
-      accept (saying_in (Hear by of number)) refl
+      accept past whole (saying_in (Hear by of number)) refl
       (tt, (member_suits by stands.0, (member_suits of stands.1, (kept, tt))))
       (three_tests _ _ _ reason.Later reason.Itself reason.Count
       (there_is number (reports of past) _ (tallied (λ m. m.report_of) of past refl all) stands.2)
       (differing (eqb by of) stands.3)
       (room_left 1400 (count_of kind.Hear past) _ (tallied (λ m. m.hear) 0 past refl all) stands.4))
   line_accepts (Sweep member moment) stands kept =
-      accept (saying_in (Sweep member moment)) refl
+      accept past whole (saying_in (Sweep member moment)) refl
       (tt, (member_suits member stands.0, (((omega arith, stands.1), omega (arith, stands.1)), tt)))
       (one_test _ reason.Count (room_left 10000 (count_of kind.Sweep past) _ (tallied (λ m. m.sweep) 0 past refl all) stands.2))
   line_accepts (Join member from) stands kept =
@@ -138,7 +150,7 @@ module _ (past : List Saying) (all : AllFollow past) (head : IsHeading (heading_
       let none : joins member past ≡ 0 = sym (tallied (λ m. m.join_of) member past refl all) ∙ stands.3 in
       let test : is_no_join member from past ≡ false = or_from _ _ (or_from _ _ (lt-leb member (founders past) stands.0)
       (ap (λ n. not (eqb n 0)) none)) (le-ltb (founders past) from stands.2.1) in
-      accept (saying_in (Join member from)) refl (
+      accept past whole (saying_in (Join member from)) refl (
         tt,
         (
           member_suits member (omega (arith, stands.0), stands.1),

@@ -57,14 +57,14 @@ pub one_more : (number : ℕ) (past : List Saying) (saying : Saying) (texts : Li
 one_more number past saying texts h lines is rest = record {
   all = rest.all;
   alone = (saying_alone past saying is, rest.alone);
-  read = ap (λ found. go_on number found (λ longer. sayings_from false (number + 1) longer texts)) (past_read past saying is) ∙ rest.read;
+  read = ap (λ found. go_on number found (λ longer. sayings_from false (number + 1) longer texts)) (past_read false past saying refl is) ∙ rest.read;
   headed = rest.headed;
   said = rest.said;
 }
 
 pub follow_more : (past : List Saying) (saying : Saying) → Accepts past saying → AllFollow past → AllFollow (saying ∷ past)
 follow_more past saying is all =
-    past_follows false past (saying_text saying) (saying ∷ past) (saying_alone past saying is) (past_read past saying is) all
+    past_follows false past (saying_text saying) (saying ∷ past) (saying_alone past saying is) (past_read false past saying refl is) all
 
 -- ---- the lines behind the heading
 
@@ -92,7 +92,7 @@ later_stage past (Step client seq (Call (ask.Get key))) = omega arith
 later_stage past (Step client seq (Query (query.Stop name))) = omega arith
 later_stage past _ = omega arith
 
-step_is : (past : List Saying) (client seq : ℕ) (act : Act) → steps client past + 1 ≡ seq
+pub step_is : (past : List Saying) (client seq : ℕ) (act : Act) → steps client past + 1 ≡ seq
     → line_of past (saying_in (Step client seq act)) ≡ Some (Step client seq act)
 step_is past client seq (Peek key) e = ap (λ (n : ℕ). Some (Step client n (Peek key))) e
 step_is past client seq (Call (ask.Get key)) e = ap (λ (n : ℕ). Some (Step client n (Call (ask.Get key)))) e

@@ -11,6 +11,7 @@ pub mod Narrow
 pub mod Numerals
 pub mod Past
 pub mod Pieces
+pub mod Plain
 pub mod Printed
 pub mod Printing
 pub mod ReadBack

@@ -1,5 +1,7 @@
 ghost use Rattle.std.specs.Prelude.{◌≡◌, ◌≤◌, ◌∷◌, ◌++◌, [], bytes_eq, IfOk};
+ghost use Rattle.std.specs.Bool.{OnTrue};
 ghost use Rattle.gr_script.specs.Halts.{Yields};
+ghost use Rattle.gr_script.specs.Suiting.{IsClient};
 ghost use Rattle.gr_script.specs.Items.{number_at, within, number_in, stated_client, dotted_numbers, key_at, value_at, is_own, text_at};
 ghost use Rattle.gr_script.specs.Items.{query_from, question_of, own_query, query_at, region_at, number_item, item_at, items_at};
 ghost use Rattle.gr_script.specs.Texts.{cut};
@@ -75,6 +77,14 @@ fn stated_client(setting: &Setting, number: u128) -> Result<u128, Halt>
     } else {
         Ok(client)
     }
+}
+
+/// Whether a line has stated the client.
+pub(crate) fn is_stated(setting: &Setting, client: u8) -> bool
+    ensures { OnTrue result (IsClient setting.now client) }
+{
+    let client = u128::from(client);
+    1 <= client && client <= MOST_CLIENTS && client <= setting.clients
 }
 
 fn dotted_numbers(text: &[u8]) -> Result<(u128, u128), Halt>

@@ -20,6 +20,7 @@ mod numeral;
 mod parts;
 mod past;
 mod piece;
+mod plain;
 mod print_line;
 mod print_script;
 mod reading;

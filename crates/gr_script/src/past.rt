@@ -1,17 +1,20 @@
-ghost use Rattle.std.specs.Prelude.{◌≡◌, ◌<◌, ◌≤◌, ◌+◌, ◌^◌, ℕ, [], ◌∷◌, List, length, reverse, IfOk, OnOk, OnErr};
+ghost use Rattle.std.specs.Prelude.{◌≡◌, ◌<◌, ◌≤◌, ◌+◌, ◌^◌, ℕ, [], ◌∷◌, List, length, reverse, IfOk, OnOk, OnErr, Some};
 ghost use Rattle.gr_script.specs.Tallies.{count_in, CountsOne, CountsNone};
 ghost use Rattle.gr_script.specs.declared.forms.LineKind.TheVariants as kind;
 ghost use Rattle.gr_script.specs.Forms.{is_kind, is_step, rank};
 ghost use Rattle.gr_script.specs.Index.{most_lines, counted};
 ghost use Rattle.gr_script.specs.Kept.{CanBeKept};
-ghost use Rattle.gr_script.specs.Said.{lines_said};
+ghost use Rattle.gr_script.specs.Plain.{IsPlain};
+ghost use Rattle.gr_script.specs.Printed.{act_saying, saying_in};
+ghost use Rattle.gr_script.specs.Said.{line_of as line_said, lines_said};
 ghost use Rattle.gr_script.specs.declared.saying.Saying.{Saying};
 ghost use Rattle.gr_script.specs.Past.{stage, region, members, founders, clients, steps, reports, joins};
-ghost use Rattle.gr_script.specs.Past.{homes as homes_of, home, setting, sizes};
+ghost use Rattle.gr_script.specs.Past.{homes as homes_of, home, number as number_in, setting, sizes};
 
-use crate::LineList;
+use crate::{Line, LineList};
 use crate::forms::{LineKind, is_kind, is_step, rank};
 use crate::items::Setting;
+use crate::plain::PlainStep;
 use crate::note::{counted, homes_with, is_query, next_rank, region_with, stated_with};
 use crate::said::line_of;
 use crate::saying::{Saying, number};
@@ -81,7 +84,9 @@ impl Model for Past {
     ghost use Rattle.gr_script.specs.declared.saying.Saying.{Saying};
     ghost use Rattle.gr_script.specs.Index.{IsIndex};
     ghost use Rattle.gr_script.specs.Kept.{kept_sayings};
-    ghost use Rattle.gr_script.specs.Said.{lines_said};
+    ghost use Rattle.gr_script.specs.Plain.{IsPlain};
+ghost use Rattle.gr_script.specs.Printed.{act_saying, saying_in};
+ghost use Rattle.gr_script.specs.Said.{line_of as line_said, lines_said};
     ghost use Rattle.std.specs.Coded.{codes};
     ghost use Rattle.gr_oql.specs.Code.{tree_code};
 
@@ -243,9 +248,46 @@ impl Past {
     {
         let kind = saying.kind;
         let first = number(0, saying.items.as_slice());
-        let counted = counted_with(&saying, self.counted);
+        let line = self.line_said(first, saying);
+        self.put(kind, first, line)
+    }
+
+    // The line that is said, where the saying has this number first.
+    fn line_said(&self, first: u128, saying: Saying) -> Line
+        requires first { first ≡ number_in 0 saying.items }
+        requires kept { CanBeKept self.now saying }
+        requires late { 8 ≤ rank saying.kind }
+        ensures says { saying_in result ≡ saying }
+        ensures line { line_said self.now (saying_in result) ≡ Some result }
+    {
         let seq = count_of(&self.steps, first) + 1;
-        self.lines.push(line_of(seq, saying).unwrap())?;
+        line_of(seq, saying).unwrap()
+    }
+
+    /// Puts one step more behind these, which is a call or a peek. Where memory is refused, no line
+    /// stands for sure.
+    pub(crate) fn push_step(&mut self, step: PlainStep) -> Result<(), Memory>
+        requires room { length self.old < most_lines }
+        requires kind { (act_saying step.client step.act).kind ≡ step.kind }
+        requires plain { IsPlain step.act }
+        ensures { OnOk result (self.new ≡ act_saying step.client step.act ∷ self.old) }
+    {
+        let PlainStep { kind, client, act } = step;
+        let first = u128::from(client);
+        let seq = count_of(&self.steps, first) + 1;
+        self.put(kind, first, Line::Step { client, seq, act })
+    }
+
+    // Puts a line of this kind, which has this number first, behind these.
+    fn put(&mut self, kind: LineKind, first: u128, line: Line) -> Result<(), Memory>
+        requires room { length self.old < most_lines }
+        requires kind { kind ≡ (saying_in line).kind }
+        requires first { first ≡ number_in 0 (saying_in line).items }
+        requires line { line_said self.old (saying_in line) ≡ Some line }
+        ensures { OnOk result (self.new ≡ saying_in line ∷ self.old) }
+    {
+        let counted = counted_with(kind, self.counted);
+        self.lines.push(line)?;
         match count_line(
             kind,
             first,
@@ -277,7 +319,7 @@ impl Past {
         let setting = setting_with(alloc, &line, self.setting, &homes)?;
         let founders = stated_with(LineKind::Members, 1, &line, self.founders);
         let sizes = sizes_with(&line, self.sizes);
-        let counted = counted_with(&line, self.counted);
+        let counted = counted_with(kind, self.counted);
         let mut heading = self.heading;
         heading.push(line)?;
         Ok(Past {
@@ -340,11 +382,10 @@ fn setting_with(
     })
 }
 
-fn counted_with(line: &Saying, counts: Counted) -> Counted
+fn counted_with(kind: LineKind, counts: Counted) -> Counted
     requires { (past : List Saying) × (counts ≡ counted past) × (length past < most_lines) }
-    ensures { (past : List Saying) → counts ≡ counted past → result ≡ counted (line.now ∷ past) }
+    ensures { (past : List Saying) → (line : Saying) → counts ≡ counted past → kind ≡ line.kind → result ≡ counted (line ∷ past) }
 {
-    let kind = line.kind;
     Counted {
         reports: counted(is_kind(LineKind::Report, kind), counts.reports),
         hears: counted(is_kind(LineKind::Hear, kind), counts.hears),

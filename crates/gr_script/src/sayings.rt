@@ -1,4 +1,5 @@
-ghost use Rattle.std.specs.Prelude.{◌≡◌, ◌≤◌, ◌<◌, ◌+◌, ◌∷◌, [], length, Ok, OnOk};
+ghost use Rattle.std.specs.Prelude.{◌≡◌, ◌≤◌, ◌<◌, ◌+◌, ◌∷◌, [], Bool, length, Ok, IfOk, OnOk};
+ghost use Rattle.std.specs.Bool.{MatchBool};
 ghost use Rattle.gr_script.specs.declared.saying.Saying.{Saying};
 ghost use Rattle.gr_script.specs.Cuts.{line_count};
 ghost use Rattle.gr_script.specs.Halts.{Yields};
@@ -11,11 +12,13 @@ ghost use Rattle.gr_script.specs.Texts.{lines_of};
 use crate::cuts::{is_skipped, line_count, text_said};
 use crate::ending::{ScriptEnd, ScriptFault, end_at};
 use crate::halt::Halt;
-use crate::items::text_at;
+use crate::items::{is_stated, text_at};
 use crate::past::Past;
+use crate::plain::step_in;
 use crate::reason::Reason;
 use crate::refusal::saying_at;
 use crate::text::next_line;
+use gr_value::Memory;
 use std::alloc::Global;
 
 /// The most lines of a script.
@@ -24,6 +27,25 @@ const MOST_LINES: u64 = 200000;
 /// How many lines the heading cannot lack.
 const REQUIRED_LINES: u8 = 4;
 
+// Takes in a line that is printed for a client's call or peek, and tells whether it is one.
+fn take_step(alloc: Global, past: &mut Past, line: &[u8]) -> Result<bool, Memory>
+    requires { length past.old < most_lines }
+    ensures taken { IfOk result
+        (λ taken. MatchBool taken ((runs : Bool) → past_with runs past.old line.now ≡ Ok past.new) (past.new ≡ past.old)) }
+    ensures longer { OnOk result (length past.new ≤ length past.old + 1) }
+{
+    if past.stage() < REQUIRED_LINES {
+        return Ok(false);
+    }
+    match step_in(alloc, line)? {
+        Some(step) if is_stated(past.setting(), step.client) => {
+            past.push_step(step)?;
+            Ok(true)
+        }
+        _ => Ok(false),
+    }
+}
+
 // Takes in one line more, which may be skipped.
 fn take_line(alloc: Global, runs: bool, past: &mut Past, line: &[u8]) -> Result<(), Halt>
     requires room { length past.old < most_lines }
@@ -31,6 +53,9 @@ fn take_line(alloc: Global, runs: bool, past: &mut Past, line: &[u8]) -> Result<
     ensures exact { Yields (λ _. past.new) result (past_with runs past.old line.now) }
     ensures longer { OnOk result (length past.new ≤ length past.old + 1) }
 {
+    if take_step(alloc, past, line)? {
+        return Ok(());
+    }
     let text = text_said(text_at(line)?.as_bytes());
     if is_skipped(text) {
         return Ok(());

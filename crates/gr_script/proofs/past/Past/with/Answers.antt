@@ -42,7 +42,7 @@ invariant_of-result c =
         stepped = λ n. old.stepped n ∙ uncounted is_step n past c.args.line no_step;
         reported = λ n. old.reported n ∙ uncounted (is_kind kind.Report) n past c.args.line no_report;
         joined = λ n. old.joined n ∙ uncounted (is_kind kind.Join) n past c.args.line no_join;
-        counts = c.counted_with-counted.ensures past old.counts;
+        counts = c.counted_with-counted.ensures past c.args.line old.counts refl;
         few = let few : length past < most_lines =
             subst (λ (all : List Saying). length all < most_lines) (sym c.self.view_is) c.requires.room in
             omega (arith, few);

@@ -1,0 +1,193 @@
+-- A step whose line is spelled as it is printed.
+use Rattle.std.proofs.Common.{◌≡◌, ◌∙◌, ℕ, ◌+◌, ◌*◌, ◌-◌, ◌/◌, ◌%◌, ◌≤◌, ◌<◌, List, [], ◌∷◌, ◌++◌, Bool, true, false, ◌&&◌, eqb, cond, Option, Some, None}
+use Rattle.std.proofs.Common.{option_map, refl, sym, ap, subst, arith, inl, inr, decimal, length, take, drop, slice_index_or}
+use Rattle.std.specs.Prelude.{bytes_eq, find, IfSome, ⊤}
+use Rattle.std.proofs.lemmas.Bool.{cases_Bool, eqb-true, cond-true, cond-false}
+use Rattle.std.proofs.lemmas.Fmt.{decimal_digit}
+use Rattle.std.proofs.lemmas.List.{append-nil}
+use Rattle.std.proofs.lemmas.Slice.Eq.{bytes_eq-Decides}
+use Rattle.itoa.proofs.Decimal.{decimal_two, pair}
+use Rattle.std.proofs.Math.Seq.{take-length}
+use Rattle.gr_value.specs.KeyBytes.{IsKey}
+use Rattle.gr_value.specs.declared.value.Field.{Field}
+use Rattle.gr_value.specs.Values.{IsValue}
+use Rattle.gr_value.specs.ValueText.{value_text}
+use Rattle.gr_history.specs.declared.ask.Ask.TheVariants as ask
+use Rattle.gr_script.specs.declared.forms.LineKind.{LineKind}
+use Rattle.gr_script.specs.declared.forms.LineKind.TheVariants as kind
+use Rattle.gr_script.specs.declared.line.Act.{Act}
+use Rattle.gr_script.specs.declared.line.Act.TheVariants.{Call, Query, Peek}
+use Rattle.gr_script.specs.declared.plain.PlainStep.{PlainStep}
+use Rattle.gr_script.specs.Forms.{word, kind_of, step_kinds}
+use Rattle.gr_script.specs.Plain.{IsPrinted, IsSpelled, IsPlain}
+use Rattle.gr_script.specs.Printed.{act_saying, IsActKept}
+use Rattle.gr_script.specs.Printing.{saying_text, spaced}
+use Rattle.gr_script.specs.Refusals.{is_replayed}
+use Rattle.gr_script.specs.Texts.{cut}
+use Rattle.gr_script.proofs.Texts.{with_first, cut_there}
+
+-- ---- what is cut is joined again
+
+pub record AreJoined (mark : ℕ) (bytes : List ℕ) (parts : List ℕ × List ℕ) : Type 0 where
+  pub joined : bytes ≡ parts.0 ++ mark ∷ parts.1
+
+joined_more : (mark byte : ℕ) (bytes : List ℕ) (parts : Option (List ℕ × List ℕ))
+    → IfSome parts (λ p. bytes ≡ p.0 ++ mark ∷ p.1)
+    → IfSome (with_first byte parts) (λ p. byte ∷ bytes ≡ p.0 ++ mark ∷ p.1)
+joined_more mark byte bytes None are = are
+joined_more mark byte bytes (Some p) are = ap (λ (b : List ℕ). byte ∷ b) are
+
+pub cut_joined : (mark : ℕ) (bytes : List ℕ) → IfSome (cut mark bytes) (λ p. bytes ≡ p.0 ++ mark ∷ p.1)
+cut_joined mark [] = tt
+cut_joined mark (byte ∷ bytes) =
+    elim (cases_Bool (eqb byte mark)) [
+      | inl is ↦
+          subst (λ (found : Option (List ℕ × List ℕ)). IfSome found (λ p. byte ∷ bytes ≡ p.0 ++ mark ∷ p.1))
+          (sym (cond-true (eqb byte mark) (Some ([], bytes)) (with_first byte (cut mark bytes)) is))
+          (ap (λ (b : ℕ). b ∷ bytes) (eqb-true byte mark is))
+      | inr isnt ↦
+          subst (λ (found : Option (List ℕ × List ℕ)). IfSome found (λ p. byte ∷ bytes ≡ p.0 ++ mark ∷ p.1))
+          (sym (cut_there mark byte bytes isnt))
+          (joined_more mark byte bytes (cut mark bytes) (cut_joined mark bytes))
+    ]
+
+-- ---- the client
+
+all_taken : (few : ℕ) (rest : List ℕ) (all : ℕ) → all ≡ few + length rest → take (all - few) rest ≡ rest
+all_taken few rest all is =
+    let count : all - few ≡ length rest = omega (arith, is) in
+    ap (λ (n : ℕ). take n rest) count ∙ take-length rest
+
+pub one_digit : (text : List ℕ) (n : ℕ) → 2 ≤ length text → slice_index_or text 0 0 ≡ 48 + n → slice_index_or text 1 0 ≡ 0x20 → n < 10
+    → text ≡ decimal n ++ 0x20 ∷ take (length text - 2) (drop 2 text)
+one_digit [] n long ones space few = absurd (omega (arith, long))
+one_digit (a ∷ []) n long ones space few = absurd (omega (arith, long))
+one_digit (a ∷ b ∷ rest) n long ones space few =
+    let whole : take (length (a ∷ b ∷ rest) - 2) rest ≡ rest = all_taken 2 rest (length (a ∷ b ∷ rest)) (omega arith) in
+    (λ i. ones i ∷ space i ∷ sym whole i)
+    ∙ ap (λ (digits : List ℕ). digits ++ 0x20 ∷ take (length (a ∷ b ∷ rest) - 2) rest) (sym (decimal_digit n few))
+
+two_pair : (tens ones : ℕ) → ones < 10 → pair (tens * 10 + ones) ≡ (48 + tens) ∷ (48 + ones) ∷ []
+two_pair tens ones few =
+    let high : (tens * 10 + ones) / 10 ≡ tens = omega (arith, few) in
+    let low : (tens * 10 + ones) % 10 ≡ ones = omega (arith, few) in
+    (λ i. (48 + high i) ∷ (48 + low i) ∷ [])
+
+pub two_digits : (text : List ℕ) (tens ones : ℕ) → 3 ≤ length text → slice_index_or text 0 0 ≡ 48 + tens
+    → slice_index_or text 1 0 ≡ 48 + ones → slice_index_or text 2 0 ≡ 0x20 → 0 < tens → tens < 10 → ones < 10
+    → text ≡ decimal (tens * 10 + ones) ++ 0x20 ∷ take (length text - 3) (drop 3 text)
+two_digits [] tens ones long a_is b_is space some few small = absurd (omega (arith, long))
+two_digits (a ∷ []) tens ones long a_is b_is space some few small = absurd (omega (arith, long))
+two_digits (a ∷ b ∷ []) tens ones long a_is b_is space some few small = absurd (omega (arith, long))
+two_digits (a ∷ b ∷ c ∷ rest) tens ones long a_is b_is space some few small =
+    let whole : take (length (a ∷ b ∷ c ∷ rest) - 3) rest ≡ rest = all_taken 3 rest (length (a ∷ b ∷ c ∷ rest)) (omega arith) in
+    (λ i. a_is i ∷ b_is i ∷ space i ∷ sym whole i)
+    ∙ ap (λ (digits : List ℕ). digits ++ 0x20 ∷ take (length (a ∷ b ∷ c ∷ rest) - 3) rest)
+    (sym (decimal_two (tens * 10 + ones) (omega (arith, some)) (omega (arith, few, small)) ∙ two_pair tens ones small))
+
+-- ---- the word
+
+word_is : (text : List ℕ) (form : LineKind) → bytes_eq text (word form) ≡ true → text ≡ word form
+word_is text form same = (bytes_eq-Decides text (word form)).0 same
+
+worded : (text : List ℕ) (kinds : List LineKind) → IfSome (kind_of kinds text) (λ form. text ≡ word form)
+worded text [] = tt
+worded text (form ∷ kinds) =
+    elim (cases_Bool (bytes_eq text (word form))) [
+      | inl same ↦
+          subst (λ (found : Option LineKind). IfSome found (λ form. text ≡ word form))
+          (sym (cond-true (bytes_eq text (word form)) (Some form) (kind_of kinds text) same)) (word_is text form same)
+      | inr other ↦
+          subst (λ (found : Option LineKind). IfSome found (λ form. text ≡ word form))
+          (sym (cond-false (bytes_eq text (word form)) (Some form) (kind_of kinds text) other)) (worded text kinds)
+    ]
+
+-- what stands behind the word of a kind
+pub word_joined : (text front rest : List ℕ) (form : LineKind) → text ≡ front ++ 0x20 ∷ rest → kind_of step_kinds front ≡ Some form
+    → text ≡ word form ++ 0x20 ∷ rest
+word_joined text front rest form is found =
+    let spelled = subst (λ (k : Option LineKind). IfSome k (λ form. front ≡ word form)) found (worded front step_kinds) in
+    is ∙ ap (λ (f : List ℕ). f ++ 0x20 ∷ rest) spelled
+
+pub space_joined : (text : List ℕ) (parts : List ℕ × List ℕ) → cut 0x20 text ≡ Some parts → text ≡ parts.0 ++ 0x20 ∷ parts.1
+space_joined text parts is =
+    subst (λ (found : Option (List ℕ × List ℕ)). IfSome found (λ p. text ≡ p.0 ++ 0x20 ∷ p.1)) is (cut_joined 0x20 text)
+
+-- ---- what is printed for a step
+
+module _ (key : List ℕ) (kept : IsKey key) where
+  pub get_spelled : IsSpelled kind.Get key (Call (ask.Get key))
+  get_spelled = record {
+    text = λ client. ap (λ (k : List ℕ). decimal client ++ 0x20 ∷ (word kind.Get ++ 0x20 ∷ k)) (append-nil key);
+    is = λ client. refl;
+    kept = kept;
+    plain = tt;
+  }
+
+  pub destroy_spelled : IsSpelled kind.Destroy key (Call (ask.Destroy key))
+  destroy_spelled = record {
+    text = λ client. ap (λ (k : List ℕ). decimal client ++ 0x20 ∷ (word kind.Destroy ++ 0x20 ∷ k)) (append-nil key);
+    is = λ client. refl;
+    kept = kept;
+    plain = tt;
+  }
+
+  pub peek_spelled : IsSpelled kind.Peek key (Peek key)
+  peek_spelled = record {
+    text = λ client. ap (λ (k : List ℕ). decimal client ++ 0x20 ∷ (word kind.Peek ++ 0x20 ∷ k)) (append-nil key);
+    is = λ client. refl;
+    kept = kept;
+    plain = tt;
+  }
+
+module _ (key : List ℕ) (value : List Field) (is_key : IsKey key) (is_value : IsValue value) where
+  behind : (form : LineKind) (client : ℕ)
+      → decimal client ++ 0x20 ∷ (word form ++ 0x20 ∷ (key ++ 0x20 ∷ (value_text value ++ [])))
+      ≡ decimal client ++ 0x20 ∷ (word form ++ 0x20 ∷ (key ++ 0x20 ∷ value_text value))
+  behind form client =
+      ap (λ (v : List ℕ). decimal client ++ 0x20 ∷ (word form ++ 0x20 ∷ (key ++ 0x20 ∷ v))) (append-nil (value_text value))
+
+  pub put_spelled : IsSpelled kind.Put (key ++ 0x20 ∷ value_text value) (Call (ask.Put key value))
+  put_spelled = record { text = behind kind.Put; is = λ client. refl; kept = (is_key, is_value); plain = tt }
+
+  pub absent_spelled : IsSpelled kind.PutIfAbsent (key ++ 0x20 ∷ value_text value) (Call (ask.PutIfAbsent key value))
+  absent_spelled = record { text = behind kind.PutIfAbsent; is = λ client. refl; kept = (is_key, is_value); plain = tt }
+
+  pub replace_spelled : IsSpelled kind.Replace (key ++ 0x20 ∷ value_text value) (Call (ask.Replace key value))
+  replace_spelled = record { text = behind kind.Replace; is = λ client. refl; kept = (is_key, is_value); plain = tt }
+
+  pub remove_spelled : IsSpelled kind.Remove (key ++ 0x20 ∷ value_text value) (Call (ask.Remove key value))
+  remove_spelled = record { text = behind kind.Remove; is = λ client. refl; kept = (is_key, is_value); plain = tt }
+
+pub swapped_spelled : (key : List ℕ) (old new : List Field) → IsKey key → IsValue old → IsValue new
+    → IsSpelled kind.ReplaceIf (key ++ 0x20 ∷ (value_text old ++ 0x20 ∷ value_text new)) (Call (ask.ReplaceIf key old new))
+swapped_spelled key old new is_key is_old is_new = record {
+  text = λ client.
+      ap (λ (v : List ℕ). decimal client ++ 0x20 ∷ (word kind.ReplaceIf ++ 0x20 ∷ (key ++ 0x20 ∷ (value_text old ++ 0x20 ∷ v))))
+      (append-nil (value_text new));
+  is = λ client. refl;
+  kept = (is_key, is_old, is_new);
+  plain = tt;
+}
+
+-- the same behind what is said of the rest otherwise
+pub spelled_as : (form : LineKind) (rest other : List ℕ) (act : Act) → rest ≡ other → IsSpelled form other act → IsSpelled form rest act
+spelled_as form rest other act same is = subst (λ (text : List ℕ). IsSpelled form text act) (sym same) is
+
+pub printed : (line rest behind : List ℕ) (form : LineKind) (client : ℕ) (act : Act) → line ≡ decimal client ++ 0x20 ∷ rest
+    → rest ≡ word form ++ 0x20 ∷ behind → IsSpelled form behind act
+    → IsPrinted line (record { kind = form; client = client; act = act })
+printed line rest behind form client act line_is rest_is is = record {
+  text = line_is ∙ ap (λ (r : List ℕ). decimal client ++ 0x20 ∷ r) rest_is ∙ sym (is.text client);
+  is = is.is client;
+  kept = is.kept;
+  plain = is.plain;
+}
+
+-- It stands in runs, too.
+pub quiet : (runs : Bool) (client : ℕ) (act : Act) → IsPlain act → (runs && is_replayed (act_saying client act).kind) ≡ false
+quiet false client act plain = refl
+quiet true client (Query asked) plain = absurd plain
+quiet true client (Peek key) plain = refl
+quiet true client (Call (ask.Get key)) plain = refl
+quiet true client (Call _) plain = refl

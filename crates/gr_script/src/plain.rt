@@ -1,0 +1,222 @@
+// Most lines are calls and peeks that are spelled just as they are printed. Such a line is read in one
+// pass, without the list of its fields. That is right since what is printed is read as the step that it
+// is printed for; any other line is left to the reading of fields.
+ghost use Rattle.std.specs.Prelude.{◌≡◌, ◌<◌, ◌+◌, ◌∷◌, ◌++◌, [], IfOk, IfSome};
+ghost use Rattle.std.specs.Fmt.{decimal};
+ghost use Rattle.gr_value.specs.KeyBytes.{IsKey};
+ghost use Rattle.gr_value.specs.Values.{IsValue};
+ghost use Rattle.gr_value.specs.ValueText.{value_text};
+ghost use Rattle.gr_script.specs.declared.forms.LineKind.TheVariants as kind;
+ghost use Rattle.gr_script.specs.Forms.{word};
+ghost use Rattle.gr_script.specs.Plain.{IsPrinted, IsSpelled};
+
+use crate::Act;
+use crate::forms::{LineKind, kind_of};
+use crate::text::cut;
+use gr_history::Ask;
+use gr_value::{Key, KeyFault, Memory, Value};
+use std::alloc::Global;
+
+/// A client's call or peek, with the kind of its line.
+#[derive(Drop)]
+pub(crate) struct PlainStep {
+    pub(crate) kind: LineKind,
+    pub(crate) client: u8,
+    pub(crate) act: Act,
+}
+
+fn digit(byte: u8) -> Option<u8>
+    ensures { IfSome result (λ digit. (byte ≡ 48 + digit) × (digit < 10)) }
+{
+    byte.is_ascii_digit().then(|| byte - b'0')
+}
+
+#[tactic(auto, using(crate::proofs::Plainly::one_digit))]
+fn of_one_digit(text: &[u8]) -> Option<(u8, &[u8])>
+    ensures { IfSome result (λ parts. text.now ≡ decimal parts.0 ++ 0x20 ∷ parts.1.now) }
+{
+    let [ones, b' ', rest @ ..] = text else {
+        return None;
+    };
+    Some((digit(*ones)?, rest))
+}
+
+#[tactic(auto, using(crate::proofs::Plainly::two_digits))]
+fn of_two_digits(text: &[u8]) -> Option<(u8, &[u8])>
+    ensures { IfSome result (λ parts. text.now ≡ decimal parts.0 ++ 0x20 ∷ parts.1.now) }
+{
+    let [tens, ones, b' ', rest @ ..] = text else {
+        return None;
+    };
+    let (tens, ones) = (digit(*tens)?, digit(*ones)?);
+    (tens != 0).then_some((tens * 10 + ones, rest))
+}
+
+// The number in front, which has one digit or two, and what stands behind the space that follows it.
+fn client_in(text: &[u8]) -> Option<(u8, &[u8])>
+    ensures { IfSome result (λ parts. text.now ≡ decimal parts.0 ++ 0x20 ∷ parts.1.now) }
+{
+    match of_one_digit(text) {
+        None => of_two_digits(text),
+        found => found,
+    }
+}
+
+// What stands in front of the first space, and what stands behind it.
+fn spaced(text: &[u8]) -> Option<(&[u8], &[u8])>
+    ensures { IfSome result (λ parts. text.now ≡ parts.0.now ++ 0x20 ∷ parts.1.now) }
+{
+    let (front, rest) = cut(b' ', text)?;
+    Some((front, rest))
+}
+
+// The kind whose word stands in front, and what stands behind the space that follows it.
+#[tactic(auto, using(crate::proofs::Plainly::word_joined))]
+fn kind_in(text: &[u8]) -> Option<(LineKind, &[u8])>
+    ensures { IfSome result (λ parts. text.now ≡ word parts.0 ++ 0x20 ∷ parts.1.now) }
+{
+    let (word, rest) = spaced(text)?;
+    Some((kind_of(true, word)?, rest))
+}
+
+// The key that these bytes are.
+fn key_of(alloc: Global, bytes: &[u8]) -> Result<Option<Key>, Memory>
+    ensures { IfOk result (λ found. IfSome found (λ key. (key ≡ bytes.now) × IsKey key)) }
+{
+    match Key::read(alloc, bytes) {
+        Ok(key) => Ok(Some(key)),
+        Err(KeyFault::Memory) => Err(Memory),
+        Err(_) => Ok(None),
+    }
+}
+
+// The value that all these bytes are printed for.
+fn value_of(alloc: Global, bytes: &[u8]) -> Result<Option<Value>, Memory>
+    ensures { IfOk result (λ found. IfSome found (λ value. (bytes.now ≡ value_text value) × IsValue value)) }
+{
+    match begun(alloc, bytes)? {
+        Some((value, [])) => Ok(Some(value)),
+        _ => Ok(None),
+    }
+}
+
+// The values that these bytes are printed for, with a space between them.
+fn values_of(alloc: Global, bytes: &[u8]) -> Result<Option<(Value, Value)>, Memory>
+    ensures { IfOk result (λ found. IfSome found (λ values.
+        (bytes.now ≡ value_text values.0 ++ 0x20 ∷ value_text values.1) × IsValue values.0 × IsValue values.1)) }
+{
+    match begun(alloc, bytes)? {
+        Some((first, [b' ', rest @ ..])) => match value_of(alloc, rest)? {
+            Some(second) => Ok(Some((first, second))),
+            None => Ok(None),
+        },
+        _ => Ok(None),
+    }
+}
+
+fn begun(alloc: Global, bytes: &[u8]) -> Result<Option<(Value, &[u8])>, Memory>
+    ensures text { IfOk result (λ found. IfSome found (λ parts. bytes.now ≡ value_text parts.0 ++ parts.1.now)) }
+    ensures value { IfOk result (λ found. IfSome found (λ parts. IsValue parts.0)) }
+{
+    Ok(None)
+}
+
+// What a client does at a line of this kind that has no more than a key.
+#[tactic(auto, using(crate::proofs::Plainly::get_spelled, crate::proofs::Plainly::destroy_spelled, crate::proofs::Plainly::peek_spelled))]
+fn keyed(kind: LineKind, key: Key) -> Option<Act>
+    requires { IsKey key }
+    ensures { IfSome result (IsSpelled kind key) }
+{
+    match kind {
+        LineKind::Get => Some(Act::Call(Ask::Get { key })),
+        LineKind::Destroy => Some(Act::Call(Ask::Destroy { key })),
+        LineKind::Peek => Some(Act::Peek(key)),
+        _ => None,
+    }
+}
+
+// What a client does at a line of this kind that has a key and a value.
+#[tactic(auto, using(crate::proofs::Plainly::put_spelled, crate::proofs::Plainly::absent_spelled, crate::proofs::Plainly::replace_spelled, crate::proofs::Plainly::remove_spelled))]
+fn valued(kind: LineKind, key: Key, value: Value) -> Option<Act>
+    requires key { IsKey key }
+    requires value { IsValue value }
+    ensures { IfSome result (IsSpelled kind (key ++ 0x20 ∷ value_text value)) }
+{
+    match kind {
+        LineKind::Put => Some(Act::Call(Ask::Put { key, value })),
+        LineKind::PutIfAbsent => Some(Act::Call(Ask::PutIfAbsent { key, value })),
+        LineKind::Replace => Some(Act::Call(Ask::Replace { key, value })),
+        LineKind::Remove => Some(Act::Call(Ask::Remove { key, value })),
+        _ => None,
+    }
+}
+
+#[tactic(auto, using(crate::proofs::Plainly::spelled_as))]
+fn keyed_in(alloc: Global, kind: LineKind, rest: &[u8]) -> Result<Option<Act>, Memory>
+    ensures { IfOk result (λ found. IfSome found (IsSpelled kind rest.now)) }
+{
+    match key_of(alloc, rest)? {
+        Some(key) => Ok(keyed(kind, key)),
+        None => Ok(None),
+    }
+}
+
+#[tactic(auto, using(crate::proofs::Plainly::spelled_as))]
+fn valued_in(alloc: Global, kind: LineKind, rest: &[u8]) -> Result<Option<Act>, Memory>
+    ensures { IfOk result (λ found. IfSome found (IsSpelled kind rest.now)) }
+{
+    let Some((key, rest)) = spaced(rest) else {
+        return Ok(None);
+    };
+    let Some(key) = key_of(alloc, key)? else {
+        return Ok(None);
+    };
+    match value_of(alloc, rest)? {
+        Some(value) => Ok(valued(kind, key, value)),
+        None => Ok(None),
+    }
+}
+
+fn swapped_in(alloc: Global, rest: &[u8]) -> Result<Option<Act>, Memory>
+    ensures { IfOk result (λ found. IfSome found (IsSpelled kind.ReplaceIf rest.now)) }
+{
+    let Some((key, rest)) = spaced(rest) else {
+        return Ok(None);
+    };
+    let Some(key) = key_of(alloc, key)? else {
+        return Ok(None);
+    };
+    match values_of(alloc, rest)? {
+        Some((old, new)) => Ok(Some(Act::Call(Ask::ReplaceIf { key, old, new }))),
+        None => Ok(None),
+    }
+}
+
+// What a client does at a line of this kind, with this behind its word.
+fn act_in(alloc: Global, kind: LineKind, rest: &[u8]) -> Result<Option<Act>, Memory>
+    ensures { IfOk result (λ found. IfSome found (IsSpelled kind rest.now)) }
+{
+    match kind {
+        LineKind::Get | LineKind::Destroy | LineKind::Peek => keyed_in(alloc, kind, rest),
+        LineKind::ReplaceIf => swapped_in(alloc, rest),
+        _ => valued_in(alloc, kind, rest),
+    }
+}
+
+/// The call or peek that the line is printed for. None of another line, and of one that is spelled
+/// otherwise, as with more spaces.
+#[tactic(auto, using(crate::proofs::Plainly::printed))]
+pub(crate) fn step_in(alloc: Global, line: &[u8]) -> Result<Option<PlainStep>, Memory>
+    ensures { IfOk result (λ found. IfSome found (IsPrinted line.now)) }
+{
+    let Some((client, rest)) = client_in(line) else {
+        return Ok(None);
+    };
+    let Some((kind, rest)) = kind_in(rest) else {
+        return Ok(None);
+    };
+    match act_in(alloc, kind, rest)? {
+        Some(act) => Ok(Some(PlainStep { kind, client, act })),
+        None => Ok(None),
+    }
+}
