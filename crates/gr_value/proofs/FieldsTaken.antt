@@ -1,13 +1,13 @@
 -- Fields that a text begins with.
 use Rattle.std.proofs.Common.{◌≡◌, ◌∙◌, ap, ℕ, ◌+◌, ◌<◌, ◌≤◌, arith, List, [], ◌∷◌, ◌++◌, length, get_or, Ordering, Less, Equal, Greater}
-use Rattle.std.proofs.Common.{true, false, bytes_eq, is_ge, nat_cmp, ◌-◌, ◌⊎◌, inl, inr, refl, sym, append_assoc, append-nil}
+use Rattle.std.proofs.Common.{false, take, drop, is_ge, nat_cmp, ◌-◌, ◌⊎◌, inl, inr, refl, sym, append_assoc, append-nil}
 use Rattle.std.proofs.Common.{length-append}
-use Rattle.std.proofs.lemmas.List.{get_or-map}
+use Rattle.std.proofs.Math.Seq.{drop-append_seam}
+use Rattle.std.proofs.lemmas.List.{get_or-map, take_all, take-append-drop, length-drop}
 use Rattle.std.proofs.lemmas.Bool.{cases_lt, true≢false}
 use Rattle.std.proofs.lemmas.Cmp.{nat_list_cmp_total}
 use Rattle.std.proofs.lemmas.Grind.{flat_map-append}
 use Rattle.std.proofs.lemmas.Map.Keys.{sorted_from_all_adjacent}
-use Rattle.std.proofs.lemmas.Slice.Eq.{bytes_eq-Decides}
 use Rattle.std.specs.List.Sorted.{IsStrictlySortedBy}
 use Rattle.std.specs.Cmp.Lexicographic.{slice_cmp}
 use Rattle.std.specs.List.{AllByRecursion, join_by}
@@ -89,21 +89,30 @@ pub ascending : (n : ℕ) (fields : List Field) → length fields ≤ n → AreB
 ascending n fields h below = sorted_from_all_adjacent nat_list_cmp_total (names fields) []
     (λ k less. below k (omega (arith, length-names fields)))
 
-no_bytes : (bytes : List ℕ) → length bytes ≡ 0 → bytes ≡ []
-no_bytes [] e = refl
-no_bytes (x ∷ xs) e = absurd (omega arith)
-
-pub value_taken : (text first second last : List ℕ) (fields : List Field) → text ≡ 123 ∷ first
-    → first ≡ join_by field_text (codes ",") fields ++ second → second ≡ 125 ∷ last → length last ≡ 0 → text ≡ value_text fields
+pub braced_taken : (text first second rest : List ℕ) (fields : List Field) → text ≡ 123 ∷ first
+    → first ≡ join_by field_text (codes ",") fields ++ second → second ≡ 125 ∷ rest → text ≡ value_text fields ++ rest
 unfolding value_text
-value_taken text first second last fields open_brace taken close_brace none =
-    open_brace ∙ ap (λ rest. 123 ∷ rest) (taken
-    ∙ ap (λ rest. join_by field_text (codes ",") fields ++ rest) (close_brace ∙ ap (λ rest. 125 ∷ rest) (no_bytes last none)))
+braced_taken text first second rest fields open_brace taken close_brace =
+    let joined = join_by field_text (codes ",") fields in
+    open_brace ∙ ap (λ left. 123 ∷ left) (taken ∙ ap (λ left. joined ++ left) close_brace ∙ sym (append_assoc joined (125 ∷ []) rest))
 
 -- the value with no fields
-pub braces_taken : (text braces : List ℕ) → braces ≡ 123 ∷ 125 ∷ [] → true ≡ bytes_eq text braces → text ≡ value_text []
+pub braces_taken : (text rest : List ℕ) → text ≡ 123 ∷ 125 ∷ rest → text ≡ value_text [] ++ rest
 unfolding value_text
-braces_taken text braces is same = (bytes_eq-Decides text braces).0 (sym same) ∙ is
+braces_taken text rest e = e
+
+-- what was taken of the first bytes is what all of them begin with
+pub begun : (bytes text left : List ℕ) (most : ℕ) → take most bytes ≡ text ++ left
+    → bytes ≡ text ++ take (length bytes - (length (take most bytes) - length left)) (drop (length (take most bytes) - length left) bytes)
+begun bytes text left most e =
+    let behind = left ++ drop most bytes in
+    let all : bytes ≡ text ++ behind = sym (take-append-drop most bytes) ∙ ap (λ front. front ++ drop most bytes) e
+    ∙ append_assoc text left (drop most bytes) in
+    let taken : length (take most bytes) - length left ≡ length text = omega (arith, ap length e, length-append text left) in
+    all
+    ∙ ap (λ rest. text ++ rest) (sym (ap (drop (length text)) all ∙ drop-append_seam text behind)
+    ∙ sym (take_all (length bytes - length text) (drop (length text) bytes) (omega (arith, length-drop (length text) bytes)))
+    ∙ ap (λ (k : ℕ). take (length bytes - k) (drop k bytes)) (sym taken))
 
 pub none_ascend : HasAscendingNames []
 unfolding IsStrictlySortedBy

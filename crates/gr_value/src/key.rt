@@ -61,6 +61,21 @@ fn fault_of(bytes: &[u8]) -> Option<KeyFault>
     }
 }
 
+// Of two keys that stand near, the first and the last eight bytes tell the order.
+#[inline(always)]
+fn cmp_near(one: &Near, two: &Near) -> Ordering
+    requires one { IsKey one.now }
+    requires two { IsKey two.now }
+    ensures { result ≡ slice_cmp nat_cmp one.now two.now }
+{
+    let (front, other) = (one.front(), two.front());
+    if front == other {
+        one.back().cmp(&two.back())
+    } else {
+        front.cmp(&other)
+    }
+}
+
 impl Key {
     /// Reads a key. Its faults are looked for in the order of `KeyFault`.
     pub fn read(alloc: Global, bytes: &[u8]) -> Result<Key, KeyFault>
@@ -106,14 +121,17 @@ impl Key {
         }
     }
 
-    // The order of keys whose fronts are equal.
-    fn cmp_behind(&self, other: &Key) -> Ordering
-        requires { front_of self.now ≡ front_of other.now }
+    // The order of keys of which one stands elsewhere, which few do.
+    #[cold]
+    #[inline(never)]
+    fn cmp_far(&self, other: &Key) -> Ordering
         ensures { result ≡ slice_cmp nat_cmp self.now other.now }
     {
-        match (&self.held, &other.held) {
-            (Held::Near(one), Held::Near(two)) => one.back().cmp(&two.back()),
-            _ => self.bytes().cmp(other.bytes()),
+        let (one, two) = (self.front(), other.front());
+        if one == two {
+            self.bytes().cmp(other.bytes())
+        } else {
+            one.cmp(&two)
         }
     }
 
@@ -140,8 +158,9 @@ impl PartialEq for Key {
 
     ghost laws = { Prim.search (comparing, rules) };
 
+    #[inline(always)]
     fn eq(&self, other: &Key) -> bool {
-        self.front() == other.front() && self.bytes() == other.bytes()
+        self.cmp(other).is_eq()
     }
 }
 
@@ -183,12 +202,11 @@ impl Ord for Key {
 
     ghost matches_eq = { Prim.search (comparing, rules) };
 
+    #[inline(always)]
     fn cmp(&self, other: &Key) -> Ordering {
-        let (one, two) = (self.front(), other.front());
-        if one == two {
-            self.cmp_behind(other)
-        } else {
-            one.cmp(&two)
+        match (&self.held, &other.held) {
+            (Held::Near(one), Held::Near(two)) => cmp_near(one, two),
+            _ => self.cmp_far(other),
         }
     }
 }

@@ -7,10 +7,11 @@ ghost use Rattle.std.specs.Fmt.{signed_decimal};
 ghost use Rattle.std.specs.List.{AllByRecursion, join_by};
 ghost use Rattle.std.specs.Str.{is_utf8};
 ghost use Rattle.gr_value.specs.ValueText.{escaped, quoted, scalar_text, field_text, value_text};
-ghost use Rattle.gr_value.specs.Values.{IsScalar, IsField, HasAscendingNames};
+ghost use Rattle.gr_value.specs.Values.{IsScalar, IsField, IsValue, HasAscendingNames};
 
 use crate::fields::Fields;
-use crate::{Field, Memory, Scalar, Text};
+use crate::value::MOST_BYTES;
+use crate::{Field, Memory, Scalar, Text, Value};
 use itoa::Buffer;
 use std::alloc::Global;
 use std::marker::Model;
@@ -43,13 +44,17 @@ pub(crate) fn plain_len(bytes: &[u8]) -> usize
     bytes.len()
 }
 
-// How often a comma stands before a quote, so room for so many fields is seldom too much.
+// How often a comma stands before a quote, up to the first closing brace, so room for so many fields
+// is seldom too much.
 fn further_fields(bytes: &[u8]) -> usize
     ensures { result ≤ length bytes.now }
 {
     let mut count = 0;
     let mut after_comma = false;
     for byte in bytes {
+        if *byte == b'}' {
+            return count;
+        }
         if after_comma && *byte == b'"' {
             count += 1;
         }
@@ -190,10 +195,10 @@ impl<'a> Cursor<'a> {
         }
     }
 
-    // The fields of all that is left, unless that is another text than the value prints.
-    fn take_value(&mut self, alloc: Global) -> Result<Option<Fields>, Memory>
+    // Takes fields in braces, one at least.
+    fn take_braced(&mut self, alloc: Global) -> Result<Option<Fields>, Memory>
         ensures { IfOk result (λ found. IfSome found (λ fields.
-            (self.old ≡ value_text fields) × AllByRecursion IsField fields)) }
+            (self.old ≡ value_text fields ++ self.new) × AllByRecursion IsField fields)) }
     {
         if !self.take(b"{") {
             return Ok(None);
@@ -201,7 +206,28 @@ impl<'a> Cursor<'a> {
         let Some(fields) = self.take_fields(alloc)? else {
             return Ok(None);
         };
-        if self.take(b"}") && self.rest.is_empty() {
+        if self.take(b"}") {
+            Ok(Some(fields))
+        } else {
+            Ok(None)
+        }
+    }
+
+    fn take_value(&mut self, alloc: Global) -> Result<Option<Fields>, Memory>
+        ensures text { IfOk result (λ found. IfSome found (λ fields.
+            self.old ≡ value_text fields ++ self.new)) }
+        ensures ascending { IfOk result (λ found. IfSome found (λ fields.
+            HasAscendingNames fields)) }
+        ensures readable { IfOk result (λ found. IfSome found (λ fields.
+            AllByRecursion IsField fields)) }
+    {
+        if self.take(b"{}") {
+            return Ok(Some(Fields::none(alloc)));
+        }
+        let Some(fields) = self.take_braced(alloc)? else {
+            return Ok(None);
+        };
+        if names_ascend(fields.as_slice()) {
             Ok(Some(fields))
         } else {
             Ok(None)
@@ -230,16 +256,32 @@ pub(crate) fn fields_by_text(alloc: Global, bytes: &[u8]) -> Result<Option<Field
     ensures readable { IfOk result (λ found. IfSome found (λ fields.
         AllByRecursion IsField fields)) }
 {
-    if bytes == b"{}".as_slice() {
-        return Ok(Some(Fields::none(alloc)));
-    }
     let mut cursor = Cursor { rest: bytes };
     let Some(fields) = cursor.take_value(alloc)? else {
         return Ok(None);
     };
-    if names_ascend(fields.as_slice()) {
+    if cursor.rest.is_empty() {
         Ok(Some(fields))
     } else {
         Ok(None)
+    }
+}
+
+impl Value {
+    /// The value whose own text the bytes begin with, and what is left behind it. None where they
+    /// begin otherwise than a value prints, as with spaces: `read` tells what such bytes are.
+    pub fn begun(alloc: Global, bytes: &[u8]) -> Result<Option<(Value, &[u8])>, Memory>
+        ensures text { IfOk result (λ found. IfSome found (λ parts.
+            bytes.now ≡ value_text parts.0 ++ parts.1.now)) }
+        ensures value { IfOk result (λ found. IfSome found (λ parts. IsValue parts.0)) }
+    {
+        let front = &bytes[..bytes.len().min(MOST_BYTES)];
+        let mut cursor = Cursor { rest: front };
+        let Some(fields) = cursor.take_value(alloc)? else {
+            return Ok(None);
+        };
+        let rest = &bytes[front.len() - cursor.rest.len()..];
+        let value = Value::of_fields(alloc, fields)?;
+        Ok(Some((value, rest)))
     }
 }

@@ -12,12 +12,10 @@ ghost use Rattle.serde_json.specs.View.{view, members_view};
 
 use crate::fields::Fields;
 use crate::plain::fields_by_text;
+use crate::value::MOST_BYTES;
 use crate::{Field, ItemList, Scalar, Text, Value, ValueFault};
 use serde_json::Map;
 use std::alloc::Global;
-
-/// The most bytes of the text of a value.
-const MOST_BYTES: usize = 1024;
 
 fn scalar_at(alloc: Global, place: u32, json: serde_json::Value) -> Result<Scalar, ValueFault>
     ensures value { MatchResult result (λ scalar. scalar_at place (view json) ≡ Ok scalar)

@@ -8,6 +8,9 @@ use std::alloc::Global;
 use std::marker::Model;
 use std::sync::Arc;
 
+/// The most bytes of the text of a value.
+pub(crate) const MOST_BYTES: usize = 1024;
+
 /// A field of a value.
 #[derive(Drop)]
 pub struct Field {
