@@ -94,7 +94,7 @@ fn key_of(alloc: Global, bytes: &[u8]) -> Result<Option<Key>, Memory>
 fn value_of(alloc: Global, bytes: &[u8]) -> Result<Option<Value>, Memory>
     ensures { IfOk result (λ found. IfSome found (λ value. (bytes.now ≡ value_text value) × IsValue value)) }
 {
-    match begun(alloc, bytes)? {
+    match Value::begun(alloc, bytes)? {
         Some((value, [])) => Ok(Some(value)),
         _ => Ok(None),
     }
@@ -105,20 +105,13 @@ fn values_of(alloc: Global, bytes: &[u8]) -> Result<Option<(Value, Value)>, Memo
     ensures { IfOk result (λ found. IfSome found (λ values.
         (bytes.now ≡ value_text values.0 ++ 0x20 ∷ value_text values.1) × IsValue values.0 × IsValue values.1)) }
 {
-    match begun(alloc, bytes)? {
+    match Value::begun(alloc, bytes)? {
         Some((first, [b' ', rest @ ..])) => match value_of(alloc, rest)? {
             Some(second) => Ok(Some((first, second))),
             None => Ok(None),
         },
         _ => Ok(None),
     }
-}
-
-fn begun(alloc: Global, bytes: &[u8]) -> Result<Option<(Value, &[u8])>, Memory>
-    ensures text { IfOk result (λ found. IfSome found (λ parts. bytes.now ≡ value_text parts.0 ++ parts.1.now)) }
-    ensures value { IfOk result (λ found. IfSome found (λ parts. IsValue parts.0)) }
-{
-    Ok(None)
 }
 
 // What a client does at a line of this kind that has no more than a key.

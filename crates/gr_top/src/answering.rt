@@ -12,7 +12,7 @@ use gr_io::{Sink, Source, write_all};
 use gr_report::report;
 use gr_script::print;
 use gr_value::Memory;
-use gr_world::replay;
+use gr_world::play_out;
 use std::alloc::Global;
 
 fn hand_out<K: Sink>(sink: &mut K, text: &[u8]) -> Cause
@@ -47,7 +47,7 @@ fn record_from<S: Source>(alloc: Global, source: &mut S) -> Result<Record, Cause
         (Stops (mode.Replay histories) (stream (S.left source.old) (S.left source.new) (S.faults source.old) (S.faults source.new))) }
 {
     let script = script_from(alloc, source)?;
-    match replay(alloc, &script) {
+    match play_out(alloc, script) {
         Ok(record_of) => Ok(record_of),
         Err(Memory) => Err(Cause::Memory),
     }

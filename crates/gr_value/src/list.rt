@@ -1,4 +1,4 @@
-ghost use Rattle.std.specs.Prelude.{◌≡◌, ◌==◌, [], ◌∷◌, ◌++◌, length, slice_get, IfOk, IfNone, OnOk, OnErr, option_copied};
+ghost use Rattle.std.specs.Prelude.{◌≡◌, ◌==◌, [], ◌∷◌, ◌++◌, length, slice_get, IfOk, IfNone, OnOk, OnErr, option_copied, reverse};
 ghost use Rattle.std.specs.Option.{option_to_list};
 
 use crate::{Copied, Memory};
@@ -79,6 +79,20 @@ impl<T> ItemList<T> {
         ensures { result.now ≡ self.now }
     {
         self.entries.as_slice()
+    }
+
+    /// Puts the items in the other order.
+    pub fn reverse(&mut self)
+        ensures { self.new ≡ reverse self.old }
+    {
+        self.entries.reverse();
+    }
+
+    /// Gives back the memory of items that were taken out, where that is possible.
+    pub fn shrink(&mut self)
+        ensures { self.new ≡ self.old }
+    {
+        self.entries.shrink_to_fit();
     }
 
     /// Takes the last item out.

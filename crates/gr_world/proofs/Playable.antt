@@ -40,3 +40,14 @@ lines_playable heading lines is =
 pub can_play : (heading : Heading) (lines : List Line) → IsScript heading lines
     → (i : ℕ) (line : Line) → i < length lines → line ≡ get_or lines i line → CanPlay heading line
 can_play heading lines is i line less at = subst (CanPlay heading) (sym at) (lines_playable heading lines is i line less)
+
+behind_stands : (heading : Heading) (front past : List Line) → AllStand heading (front ++ past) → AllStand heading past
+behind_stands heading [] past all = all
+behind_stands heading (line ∷ front) past all = behind_stands heading front past all.1
+
+-- the line that follows those that were played
+pub next_playable : (heading : Heading) (lines rest played : List Line) (line : Line) → IsScript heading lines
+    → rest ++ line ∷ played ≡ reverse lines → CanPlay heading line
+next_playable heading lines rest played line is parted =
+    let stand = subst (AllStand heading) (sym parted) is.lines_stand in
+    line_playable heading line played (behind_stands heading rest (line ∷ played) stand).0

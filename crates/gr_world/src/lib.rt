@@ -8,6 +8,7 @@ mod laws;
 mod made;
 mod noted;
 mod place;
+mod playing_out;
 mod querying;
 mod replaying;
 mod row;
@@ -20,5 +21,6 @@ mod tellings;
 mod world;
 
 pub use laws::laws_of_courses;
+pub use playing_out::play_out;
 pub use replaying::replay;
 pub use rows::{a_repeat_is_told, an_image_drops_a_tombstone, concurrent_puts_meet};
