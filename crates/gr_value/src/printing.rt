@@ -4,24 +4,13 @@ ghost use Rattle.gr_value.specs.ValueText.{escaped, quoted, scalar_text, field_t
 ghost use Rattle.gr_value.specs.Values.{IsValue};
 ghost use Rattle.gr_value.specs.declared.value.Field.{Field as AField};
 
-use crate::plain::plain_len;
+use crate::escapes::{hex_digit, plain_len};
 use crate::{Field, Memory, Scalar, Value};
 use itoa::Buffer;
 use std::alloc::Global;
 
 /// Most values have no longer text.
 const USUAL_BYTES: usize = 64;
-
-fn hex_digit(digit: u8) -> u8
-    requires { digit < 16 }
-    ensures { result ≡ digit_char digit }
-{
-    if digit < 10 {
-        b'0' + digit
-    } else {
-        b'a' - 10 + digit
-    }
-}
 
 fn put_control(byte: u8, out: &mut Vec<u8>) -> Result<(), Memory>
     ensures { OnOk result (out.new.items
