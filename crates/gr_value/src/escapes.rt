@@ -6,6 +6,9 @@ ghost use Rattle.gr_value.specs.ValueText.{escaped};
 /// So many bytes are looked at together.
 const BLOCK: usize = 16;
 
+/// So many bytes are looked at one by one before whole blocks are, since most runs are short.
+const FEW: usize = 8;
+
 #[tactic(auto, using(crate::proofs::PlainBytes::escaped_plain))]
 #[inline]
 fn is_plain(byte: u8) -> bool
@@ -51,18 +54,35 @@ fn plain_blocks_len(bytes: &[u8]) -> usize
     len
 }
 
-/// How many bytes stand for themselves in a quoted text, up to the first that doesn't.
+// The place of the first byte from `start` on that doesn't stand for itself, or the end.
 #[tactic(auto, using(crate::proofs::PlainBytes::plain_more))]
-pub(crate) fn plain_len(bytes: &[u8]) -> usize
-    ensures within { result ≤ length bytes.now }
+#[inline]
+fn plain_until(bytes: &[u8], start: usize, end: usize) -> usize
+    requires order { start ≤ end }
+    requires within { end ≤ length bytes.now }
+    requires plain { flat_map escaped (take start bytes.now) ≡ take start bytes.now }
+    ensures within { result ≤ end }
     ensures plain { flat_map escaped (take result bytes.now) ≡ take result bytes.now }
 {
-    for place in plain_blocks_len(bytes)..bytes.len() {
+    for place in start..end {
         if !is_plain(bytes[place]) {
             return place;
         }
     }
-    bytes.len()
+    end
+}
+
+/// How many bytes stand for themselves in a quoted text, up to the first that doesn't.
+pub(crate) fn plain_len(bytes: &[u8]) -> usize
+    ensures within { result ≤ length bytes.now }
+    ensures plain { flat_map escaped (take result bytes.now) ≡ take result bytes.now }
+{
+    let few = bytes.len().min(FEW);
+    let len = plain_until(bytes, 0, few);
+    if len < few {
+        return len;
+    }
+    plain_until(bytes, plain_blocks_len(bytes), bytes.len())
 }
 
 /// The digit below 16, as a byte of text.
