@@ -3,7 +3,7 @@ use Rattle.std.proofs.Common.{◌≡◌, ◌∙◌, ap, refl, sym, ℕ, zero, su
 use Rattle.std.proofs.Common.{length, take, drop, get_or, true, Ordering, Less, Equal, Greater}
 use Rattle.std.proofs.Math.Nat.{pow-succ', mul-le-mul_left}
 use Rattle.std.proofs.Math.ListN.{replicate}
-use Rattle.std.proofs.lemmas.List.{take-append-drop, drop-replicate, drop_all, length-drop}
+use Rattle.std.proofs.lemmas.List.{take-append-drop, drop-replicate, drop_all, length-drop, length-take-le}
 use Rattle.std.proofs.lemmas.Bool.{and_parts}
 use Rattle.std.specs.List.{list_all}
 use Rattle.std.specs.Cmp.{nat_cmp_is, ranks}
@@ -170,3 +170,8 @@ pub eight_digits : (bytes : List ℕ) → 8 ≤ length bytes → front_from 8 by
 unfolding front_from
 eight_digits (a ∷ b ∷ c ∷ d ∷ e ∷ f ∷ g ∷ h ∷ more) long = refl
 eight_digits _ long = absurd (omega arith)
+
+pub eight_taken : (bytes first : List ℕ) → 8 ≤ length bytes → first ≡ take 8 bytes
+    → (8 ≤ length first) × (front_from 8 first ≡ front_from 8 bytes)
+eight_taken bytes first long e =
+    (omega (arith, ap length e, length-take-le 8 bytes long), ap (front_from 8) e ∙ front_taken 8 bytes)

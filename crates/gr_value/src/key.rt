@@ -121,8 +121,7 @@ impl Key {
         }
     }
 
-    // The order of keys of which one stands elsewhere, which few do.
-    #[cold]
+    // The order of keys of which one at least stands elsewhere.
     #[inline(never)]
     fn cmp_far(&self, other: &Key) -> Ordering
         ensures { result ≡ slice_cmp nat_cmp self.now other.now }

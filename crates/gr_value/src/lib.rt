@@ -2,6 +2,7 @@
 #![tactic(auto)]
 
 mod copied;
+mod escapes;
 mod fault;
 mod fields;
 mod key;

@@ -89,7 +89,5 @@ pub fn front_of(bytes: &[u8]) -> u64
     requires { 8 ≤ length bytes.now }
     ensures { result ≡ front_of bytes.now }
 {
-    u64::from_be_bytes([
-        bytes[0], bytes[1], bytes[2], bytes[3], bytes[4], bytes[5], bytes[6], bytes[7],
-    ])
+    u64::from_be_bytes(*bytes.first_chunk::<8>().unwrap())
 }

@@ -1,7 +1,7 @@
 // A text that is just what its value prints is read without the JSON reader, which costs several
 // times as much. That is right since a value's text reads as that value: each call here shows that
 // what it took is the text of what it answers, and any other text is left to the JSON reader.
-ghost use Rattle.std.specs.Prelude.{◌≡◌, ◌<◌, ◌≤◌, ◌++◌, length, take, flat_map, codes, IsTrue, IfSome, IfOk};
+ghost use Rattle.std.specs.Prelude.{◌≡◌, ◌≤◌, ◌++◌, length, flat_map, codes, IsTrue, IfSome, IfOk};
 ghost use Rattle.std.specs.Bool.{MatchBool};
 ghost use Rattle.std.specs.Fmt.{signed_decimal};
 ghost use Rattle.std.specs.List.{AllByRecursion, join_by};
@@ -9,6 +9,7 @@ ghost use Rattle.std.specs.Str.{is_utf8};
 ghost use Rattle.gr_value.specs.ValueText.{escaped, quoted, scalar_text, field_text, value_text};
 ghost use Rattle.gr_value.specs.Values.{IsScalar, IsField, IsValue, HasAscendingNames};
 
+use crate::escapes::{escape_begun, plain_len};
 use crate::fields::Fields;
 use crate::value::MOST_BYTES;
 use crate::{Field, Memory, Scalar, Text, Value};
@@ -28,20 +29,6 @@ impl<'a> Model for Cursor<'a> {
     ghost Value = { List ℕ };
 
     ghost view = { λ cursor. cursor.rest.now };
-}
-
-/// How many bytes stand for themselves in a quoted text, up to the first that doesn't.
-#[tactic(auto, using(crate::proofs::PlainBytes::plain_more))]
-pub(crate) fn plain_len(bytes: &[u8]) -> usize
-    ensures within { result ≤ length bytes.now }
-    ensures plain { flat_map escaped (take result bytes.now) ≡ take result bytes.now }
-{
-    for (place, byte) in bytes.iter().enumerate() {
-        if *byte < 0x20 || *byte == b'"' || *byte == b'\\' {
-            return place;
-        }
-    }
-    bytes.len()
 }
 
 // How often a comma stands before a quote, up to the first closing brace, so room for so many fields
@@ -85,6 +72,15 @@ fn number_guess(bytes: &[u8]) -> i64 {
     }
 }
 
+fn text_of(alloc: Global, bytes: &[u8]) -> Result<Option<Text>, Memory>
+    ensures { IfOk result (λ found. IfSome found (λ text. (text ≡ bytes.now) × IsTrue (is_utf8 text))) }
+{
+    match str::from_utf8(bytes) {
+        Ok(text) => Ok(Some(Text::new(alloc, text)?)),
+        Err(_) => Ok(None),
+    }
+}
+
 impl<'a> Cursor<'a> {
     // Takes these bytes, if the text goes on with them.
     fn take(&mut self, front: &[u8]) -> bool
@@ -99,18 +95,38 @@ impl<'a> Cursor<'a> {
         }
     }
 
-    fn take_quoted(&mut self) -> Option<&'a str>
-        ensures { IfSome result (λ text. self.old ≡ quoted text.now ++ self.new) }
+    // Takes the bytes that stand for themselves.
+    fn take_plain(&mut self) -> &'a [u8]
+        ensures { self.old ≡ flat_map escaped result.now ++ self.new }
     {
-        if !self.take(b"\"") {
-            return None;
-        }
-        let (text, rest) = self.rest.split_at(plain_len(self.rest));
+        let (plain, rest) = self.rest.split_at(plain_len(self.rest));
         self.rest = rest;
-        if !self.take(b"\"") {
-            return None;
+        plain
+    }
+
+    fn take_escape(&mut self) -> Option<u8>
+        ensures { IfSome result (λ byte. self.old ≡ escaped byte ++ self.new) }
+    {
+        let (byte, rest) = escape_begun(self.rest)?;
+        self.rest = rest;
+        Some(byte)
+    }
+
+    // Takes the rest of a quoted text that has begun with bytes that stand for themselves.
+    fn take_escaped(&mut self, alloc: Global, front: &[u8]) -> Result<Option<Vec<u8>>, Memory>
+        ensures { IfOk result (λ found. IfSome found (λ text.
+            flat_map escaped front.now ++ self.old ≡ flat_map escaped text.items ++ (codes "\"" ++ self.new))) }
+    {
+        let mut text = Vec::with_capacity(alloc, front.len() + self.rest.len().min(MOST_BYTES))?;
+        text.extend_from_slice(front)?;
+        'escapes: while !self.take(b"\"") {
+            let Some(byte) = self.take_escape() else {
+                return Ok(None);
+            };
+            text.push(byte)?;
+            text.extend_from_slice(self.take_plain())?;
         }
-        str::from_utf8(text).ok()
+        Ok(Some(text))
     }
 
     fn take_number(&mut self) -> Option<i64>
@@ -126,8 +142,15 @@ impl<'a> Cursor<'a> {
         ensures { IfOk result (λ found. IfSome found (λ text.
             (self.old ≡ quoted text ++ self.new) × IsTrue (is_utf8 text))) }
     {
-        match self.take_quoted() {
-            Some(text) => Ok(Some(Text::new(alloc, text)?)),
+        if !self.take(b"\"") {
+            return Ok(None);
+        }
+        let front = self.take_plain();
+        if self.take(b"\"") {
+            return text_of(alloc, front);
+        }
+        match self.take_escaped(alloc, front)? {
+            Some(text) => text_of(alloc, &text),
             None => Ok(None),
         }
     }

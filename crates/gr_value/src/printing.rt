@@ -1,27 +1,16 @@
-ghost use Rattle.std.specs.Prelude.{◌≤◌, List, slice_index, All, ◌≡◌, ◌<◌, ◌/◌, ◌%◌, [], ◌∷◌, ◌++◌, codes, flat_map, OnOk, OnErr};
+ghost use Rattle.std.specs.Prelude.{◌≤◌, List, slice_index, All, ◌≡◌, ◌<◌, ◌/◌, ◌%◌, [], ◌∷◌, ◌++◌, codes, flat_map, length, IfOk, OnOk, OnErr};
 ghost use Rattle.std.specs.Char.{digit_char};
 ghost use Rattle.gr_value.specs.ValueText.{escaped, quoted, scalar_text, field_text, value_text};
 ghost use Rattle.gr_value.specs.Values.{IsValue};
 ghost use Rattle.gr_value.specs.declared.value.Field.{Field as AField};
 
-use crate::plain::plain_len;
+use crate::escapes::{hex_digit, plain_len};
 use crate::{Field, Memory, Scalar, Value};
 use itoa::Buffer;
 use std::alloc::Global;
 
 /// Most values have no longer text.
 const USUAL_BYTES: usize = 64;
-
-fn hex_digit(digit: u8) -> u8
-    requires { digit < 16 }
-    ensures { result ≡ digit_char digit }
-{
-    if digit < 10 {
-        b'0' + digit
-    } else {
-        b'a' - 10 + digit
-    }
-}
 
 fn put_control(byte: u8, out: &mut Vec<u8>) -> Result<(), Memory>
     ensures { OnOk result (out.new.items
@@ -51,23 +40,33 @@ fn put_escaped(byte: u8, out: &mut Vec<u8>) -> Result<(), Memory>
     Ok(())
 }
 
-fn put_escapes(text: &[u8], out: &mut Vec<u8>) -> Result<(), Memory>
+// Puts the bytes in front that stand for themselves, and answers the others.
+fn put_plain<'a>(text: &'a [u8], out: &mut Vec<u8>) -> Result<&'a [u8], Memory>
+    ensures put { IfOk result (λ rest.
+        out.new.items ++ flat_map escaped rest.now ≡ out.old.items ++ flat_map escaped text.now) }
+    ensures shorter { IfOk result (λ rest. length rest.now ≤ length text.now) }
+{
+    let (plain, rest) = text.split_at(plain_len(text));
+    out.extend_from_slice(plain)?;
+    Ok(rest)
+}
+
+fn put_text(text: &[u8], out: &mut Vec<u8>) -> Result<(), Memory>
     ensures { OnOk result (out.new.items ≡ out.old.items ++ flat_map escaped text.now) }
 {
-    for byte in text {
+    let mut rest = put_plain(text, out)?;
+    'others: while let [byte, behind @ ..] = rest {
         put_escaped(*byte, out)?;
+        rest = put_plain(behind, out)?;
     }
     Ok(())
 }
 
-// The bytes in front that stand for themselves are put at once: few texts have others.
 fn put_quoted(text: &[u8], out: &mut Vec<u8>) -> Result<(), Memory>
     ensures { OnOk result (out.new.items ≡ out.old.items ++ quoted text.now) }
 {
-    let (plain, rest) = text.split_at(plain_len(text));
     out.push(b'"')?;
-    out.extend_from_slice(plain)?;
-    put_escapes(rest, out)?;
+    put_text(text, out)?;
     out.push(b'"')?;
     Ok(())
 }

@@ -1,0 +1,144 @@
+// Which bytes stand for themselves in a quoted text, and what stands for the others.
+ghost use Rattle.std.specs.Prelude.{◌≡◌, ◌<◌, ◌≤◌, [], ◌∷◌, ◌++◌, length, take, flat_map, codes, IsTrue, IfSome};
+ghost use Rattle.std.specs.Char.{digit_char};
+ghost use Rattle.gr_value.specs.ValueText.{escaped};
+
+/// So many bytes are looked at together.
+const BLOCK: usize = 16;
+
+/// So many bytes are looked at one by one before whole blocks are, since most runs are short.
+const FEW: usize = 8;
+
+#[tactic(auto, using(crate::proofs::PlainBytes::escaped_plain))]
+#[inline]
+fn is_plain(byte: u8) -> bool
+    ensures { IsTrue result → escaped byte ≡ byte ∷ [] }
+{
+    byte >= 0x20 && byte != b'"' && byte != b'\\'
+}
+
+// The bytes are tested side by side since none of them ends the loop.
+#[tactic(auto, using(crate::proofs::PlainBytes::plain_more))]
+#[inline]
+fn is_plain_block(block: &[u8; BLOCK]) -> bool
+    ensures { IsTrue result → flat_map escaped block.now ≡ block.now }
+{
+    let mut plain = true;
+    for byte in block {
+        plain &= is_plain(*byte);
+    }
+    plain
+}
+
+// Whether the bytes begin with a whole block of such bytes.
+#[inline]
+fn begins_plain(bytes: &[u8]) -> bool
+    ensures within { IsTrue result → 16 ≤ length bytes.now }
+    ensures plain { IsTrue result → flat_map escaped (take 16 bytes.now) ≡ take 16 bytes.now }
+{
+    match bytes.first_chunk::<BLOCK>() {
+        Some(block) => is_plain_block(block),
+        None => false,
+    }
+}
+
+// How many bytes stand in whole blocks, up to the first block with a byte that doesn't stand for itself.
+fn plain_blocks_len(bytes: &[u8]) -> usize
+    ensures within { result ≤ length bytes.now }
+    ensures plain { flat_map escaped (take result bytes.now) ≡ take result bytes.now }
+{
+    let mut len = 0;
+    'further: while begins_plain(&bytes[len..]) {
+        len += BLOCK;
+    }
+    len
+}
+
+// The place of the first byte from `start` on that doesn't stand for itself, or the end.
+#[tactic(auto, using(crate::proofs::PlainBytes::plain_more))]
+#[inline]
+fn plain_until(bytes: &[u8], start: usize, end: usize) -> usize
+    requires order { start ≤ end }
+    requires within { end ≤ length bytes.now }
+    requires plain { flat_map escaped (take start bytes.now) ≡ take start bytes.now }
+    ensures within { result ≤ end }
+    ensures plain { flat_map escaped (take result bytes.now) ≡ take result bytes.now }
+{
+    for place in start..end {
+        if !is_plain(bytes[place]) {
+            return place;
+        }
+    }
+    end
+}
+
+/// How many bytes stand for themselves in a quoted text, up to the first that doesn't.
+pub(crate) fn plain_len(bytes: &[u8]) -> usize
+    ensures within { result ≤ length bytes.now }
+    ensures plain { flat_map escaped (take result bytes.now) ≡ take result bytes.now }
+{
+    let few = bytes.len().min(FEW);
+    let len = plain_until(bytes, 0, few);
+    if len < few {
+        return len;
+    }
+    plain_until(bytes, plain_blocks_len(bytes), bytes.len())
+}
+
+/// The digit below 16, as a byte of text.
+pub(crate) fn hex_digit(digit: u8) -> u8
+    requires { digit < 16 }
+    ensures { result ≡ digit_char digit }
+{
+    if digit < 10 {
+        b'0' + digit
+    } else {
+        b'a' - 10 + digit
+    }
+}
+
+// The byte that a letter behind a backslash stands for.
+#[tactic(auto, unfolding(crate::specs::ValueText::escaped))]
+fn byte_of_letter(letter: u8) -> Option<u8>
+    ensures { IfSome result (λ byte. escaped byte ≡ 0x5C ∷ letter ∷ []) }
+{
+    match letter {
+        b'"' | b'\\' => Some(letter),
+        b'b' => Some(0x08),
+        b't' => Some(0x09),
+        b'n' => Some(0x0A),
+        b'f' => Some(0x0C),
+        b'r' => Some(0x0D),
+        _ => None,
+    }
+}
+
+// The byte that `\u00` and two digits stand for, if it has no letter.
+#[tactic(auto, unfolding(crate::specs::ValueText::escaped))]
+fn byte_of_digits(high: u8, low: u8) -> Option<u8>
+    ensures { IfSome result (λ byte. escaped byte ≡ codes "\\u00" ++ high ∷ low ∷ []) }
+{
+    let above_nine = if low > b'9' { 9 } else { 0 };
+    let byte = (high & 1) * 16 + (low & 0x0F) + above_nine;
+    match byte {
+        0x08 | 0x09 | 0x0A | 0x0C | 0x0D => None,
+        _ if byte < 0x20 && hex_digit(byte / 16) == high && hex_digit(byte % 16) == low => Some(
+            byte,
+        ),
+        _ => None,
+    }
+}
+
+/// The byte whose escape the bytes begin with, and what is left behind it.
+pub(crate) fn escape_begun(bytes: &[u8]) -> Option<(u8, &[u8])>
+    ensures { IfSome result (λ parts. bytes.now ≡ escaped parts.0 ++ parts.1.now) }
+{
+    match bytes {
+        [b'\\', b'u', b'0', b'0', high, low, rest @ ..] => Some((
+            byte_of_digits(*high, *low)?,
+            rest,
+        )),
+        [b'\\', letter, rest @ ..] => Some((byte_of_letter(*letter)?, rest)),
+        _ => None,
+    }
+}
