@@ -27,6 +27,7 @@ pub fn ver_of(slot: Option<&Slot>) -> u64
 }
 
 /// Sets what came in at this clock, if anything did. Where memory is refused the slots are as before.
+#[inline(always)]
 pub fn enter(
     alloc: Global,
     slots: &mut Slots,

@@ -9,6 +9,7 @@ mod making;
 mod merging;
 mod opening;
 mod regions;
+mod served;
 mod shard;
 mod sweeping;
 mod telling;
@@ -16,4 +17,5 @@ mod told;
 
 pub use gr_history::{Done, Identity};
 pub use in_step::queries_stay_in_step;
+pub use served::Served;
 pub use shard::Shard;

@@ -1,10 +1,11 @@
 ghost use Rattle.std.specs.Prelude.{◌≡◌, ◌≤◌, [], IfOk, option_copied};
-ghost use Rattle.gr_history.specs.declared.deed.Deed.TheVariants as deed;
 ghost use Rattle.gr_history.specs.Recipients.{member_bits};
 ghost use Rattle.gr_history.specs.Calls.{nothing_made};
 ghost use Rattle.gr_shard.specs.Entries.{with_made};
 ghost use Rattle.gr_shard.specs.Gifts.{goes_to};
+ghost use Rattle.gr_shard.specs.Calls.{call_with, served};
 
+use crate::served::Served;
 use gr_history::{Ask, Deed, Done, Identity, Reply};
 use gr_stamp::Change;
 use gr_value::{Copied, Memory};
@@ -35,6 +36,7 @@ pub fn recipients(id: Identity, given: &[bool; 8]) -> u8
 }
 
 /// Notes what was made or taken in, for which there is room.
+#[inline(always)]
 pub fn note(vector: &mut Vector, made: Option<&Change>)
     requires { 1 ≤ vector.old.spare }
     ensures { vector.new.ids ≡ with_made (option_copied made.entry) vector.old.ids }
@@ -55,16 +57,37 @@ pub fn nothing_made(reply: Reply) -> Done
     }
 }
 
-/// The deed that says what a call gave.
-pub fn deed_of(alloc: Global, client: u8, seq: u32, ask: &Ask, done: &Done) -> Result<Deed, Memory>
-    ensures { IfOk result (λ said. said ≡ deed.Call client seq ask.now done.now.reply done.now.made done.now.to) }
+/// The deed of a call that gave this.
+pub fn deed_of(client: u8, seq: u32, ask: Ask, done: Done) -> Deed
+    ensures { result ≡ call_with client seq ask done }
 {
-    Ok(Deed::Call {
+    Deed::Call {
         client,
         seq,
-        ask: ask.copy(alloc)?,
+        ask,
+        reply: done.reply,
+        made: done.made,
+        to: done.to,
+    }
+}
+
+/// The same once more.
+pub fn copy_of(alloc: Global, done: &Done) -> Result<Done, Memory>
+    ensures { IfOk result (λ copy. copy ≡ done.now) }
+{
+    Ok(Done {
         reply: done.reply.copy(alloc)?,
         made: done.made.copy(alloc)?,
         to: done.to,
+    })
+}
+
+/// What the client is told of it.
+pub fn served(alloc: Global, done: &Done) -> Result<Served, Memory>
+    ensures { IfOk result (λ told. told ≡ served done.now) }
+{
+    Ok(Served {
+        reply: done.reply.copy(alloc)?,
+        made: done.made.is_some(),
     })
 }

@@ -21,13 +21,15 @@ ghost use Rattle.gr_shard.specs.Merges.{IsGiftFor, IsImageFor};
 ghost use Rattle.gr_shard.specs.Records.{IsRecordOf};
 ghost use Rattle.gr_shard.specs.Sweeps.{stands_stable};
 ghost use Rattle.gr_shard.specs.View.{IsPlace};
+ghost use Rattle.gr_shard.specs.Calls.{call_with, served};
 
 use crate::asking::{Replies, answer};
 use crate::entering::{applied, value_of, ver_of, verdict_at};
 use crate::giving::{own_changes, standing};
-use crate::making::{deed_of, note, nothing_made, recipients};
+use crate::making::{copy_of, deed_of, note, nothing_made, recipients, served};
 use crate::merging::merged;
 use crate::regions::region;
+use crate::served::Served;
 use crate::sweeping::{drop_all, risen};
 use crate::telling::{come_in, take_over};
 use crate::told::tells;
@@ -111,14 +113,32 @@ impl Shard {
         ensures err { OnErr result (self.new ≡ self.old) }
     {
         let done = self.gives(alloc, ask)?;
-        let deed = deed_of(alloc, client, seq, ask, &done)?;
-        self.history.reserve(1)?;
-        self.vector.reserve()?;
-        let made = done.made.as_ref();
-        come_in(alloc, &mut self.slots, &mut self.queries, self.clock, made)?;
-        note(&mut self.vector, made);
-        let _ = self.history.push(deed);
-        Ok(done)
+        let given = copy_of(alloc, &done)?;
+        self.add_call(alloc, client, seq, ask, done)?;
+        Ok(given)
+    }
+
+    /// Does a client's step as `call` does, and answers what the client is told alone.
+    pub fn serve(
+        &mut self,
+        alloc: Global,
+        client: u8,
+        seq: u32,
+        ask: &Ask,
+    ) -> Result<Served, Memory>
+        requires { shard_of (key_of ask.now) self.old.id.shards ≡ self.old.id.shard }
+        ensures told { IfOk result (λ told. told ≡ served (call_gives self.old.id self.old.opening (reverse self.old.deeds) ask.now)) }
+        ensures added { OnOk result
+            (self.new ≡ record self.old {
+              deeds = self.old.deeds
+                  ++ call_with client seq ask.now (call_gives self.old.id self.old.opening (reverse self.old.deeds) ask.now) ∷ [];
+            }) }
+        ensures err { OnErr result (self.new ≡ self.old) }
+    {
+        let done = self.gives(alloc, ask)?;
+        let told = served(alloc, &done)?;
+        self.add_call(alloc, client, seq, ask, done)?;
+        Ok(told)
     }
 
     /// Takes in a change that another member made, in whatever order and however often it comes, and
@@ -333,6 +353,30 @@ impl Shard {
         } = self;
         let region = region(alloc, &slots, floor, vector)?;
         Ok(ShardRecord { history, region })
+    }
+
+    // Adds a call that gives this now.
+    fn add_call(
+        &mut self,
+        alloc: Global,
+        client: u8,
+        seq: u32,
+        ask: &Ask,
+        done: Done,
+    ) -> Result<(), Memory>
+        requires here { shard_of (key_of ask.now) self.old.id.shards ≡ self.old.id.shard }
+        requires gives { done ≡ call_gives self.old.id self.old.opening (reverse self.old.deeds) ask.now }
+        ensures added { OnOk result (self.new ≡ record self.old { deeds = self.old.deeds ++ call_with client seq ask.now done ∷ [] }) }
+        ensures err { OnErr result (self.new ≡ self.old) }
+    {
+        let asked = ask.copy(alloc)?;
+        self.history.reserve(1)?;
+        self.vector.reserve()?;
+        let made = done.made.as_ref();
+        come_in(alloc, &mut self.slots, &mut self.queries, self.clock, made)?;
+        note(&mut self.vector, made);
+        let _ = self.history.push(deed_of(client, seq, asked, done));
+        Ok(())
     }
 
     // What the call gives now.

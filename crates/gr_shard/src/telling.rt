@@ -62,9 +62,6 @@ fn foresee_change(
     let Some(change) = came else {
         return Ok(None);
     };
-    if queries.is_empty() {
-        return Ok(None);
-    }
     let turned = [Turned {
         key: change.key.copy(alloc)?,
         old: slot_value(alloc, slots.find(&change.key))?,
@@ -100,8 +97,9 @@ fn tell(queries: &mut Registry, foreseen: Option<Foreseen>)
     }
 }
 
-/// Sets what came in at this clock, if anything did, and tells the open queries.
-pub fn come_in(
+// Sets what came in at this clock, if anything did, and tells the queries, of which there are some.
+#[inline(never)]
+fn enter_and_tell(
     alloc: Global,
     slots: &mut Slots,
     queries: &mut Registry,
@@ -117,6 +115,27 @@ pub fn come_in(
     enter(alloc, slots, clock, came)?;
     tell(queries, foreseen);
     Ok(())
+}
+
+/// Sets what came in at this clock, if anything did, and tells the open queries.
+#[inline(always)]
+pub fn come_in(
+    alloc: Global,
+    slots: &mut Slots,
+    queries: &mut Registry,
+    clock: u64,
+    came: Option<&Change>,
+) -> Result<(), Memory>
+    ensures slots { OnOk result (slots.new ≡ with_change (option_copied came.entry) clock slots.old) }
+    ensures told { OnOk result (queries.new.entries ≡ noted (turned_by_change slots.old (option_copied came.entry)) queries.old.entries) }
+    ensures slots_err { OnErr result (slots.new ≡ slots.old) }
+    ensures told_err { OnErr result (queries.new.entries ≡ queries.old.entries) }
+{
+    if queries.is_empty() {
+        enter(alloc, slots, clock, came)
+    } else {
+        enter_and_tell(alloc, slots, queries, clock, came)
+    }
 }
 
 /// Takes over slots in the place of those before and further ids, and tells the open queries.

@@ -46,7 +46,35 @@ pub fn stale_of(before: Option<u64>, after: Option<u64>, set: bool) -> Option<u6
     }
 }
 
+// Adds the moment and the key of a removal. Few steps come here.
+#[inline(never)]
+fn add_at(
+    alloc: Global,
+    removals: &mut BTreeSet<(u64, Key)>,
+    at: u64,
+    key: &Key,
+) -> Result<(), Memory>
+    ensures ok { OnOk result ((q : Timed) → contains timed_cmp removals.new q
+        ≡ cond (is_timed (Some at) key.now q) true (contains timed_cmp removals.old q)) }
+    ensures err { OnErr result (removals.new.keys ≡ removals.old.keys) }
+    ensures ordered { IsOrderedSet timed_cmp removals.old → IsOrderedSet timed_cmp removals.new }
+{
+    removals.insert((at, key.copy(alloc)?))?;
+    Ok(())
+}
+
+// Takes the moment and the key of a removal away. Few steps come here.
+#[inline(never)]
+fn take_at(removals: &mut BTreeSet<(u64, Key)>, at: u64, key: Key)
+    ensures gone { (q : Timed) → contains timed_cmp removals.new q
+        ≡ cond (is_timed (Some at) key q) false (contains timed_cmp removals.old q) }
+    ensures ordered { IsOrderedSet timed_cmp removals.old → IsOrderedSet timed_cmp removals.new }
+{
+    removals.remove(&(at, key));
+}
+
 /// Adds the moment and the key of a removal, if there is one.
+#[inline(always)]
 pub fn add(
     alloc: Global,
     removals: &mut BTreeSet<(u64, Key)>,
@@ -59,19 +87,20 @@ pub fn add(
     ensures ordered { IsOrderedSet timed_cmp removals.old → IsOrderedSet timed_cmp removals.new }
 {
     if let Some(at) = at {
-        removals.insert((at, key.copy(alloc)?))?;
+        add_at(alloc, removals, at, key)?;
     }
     Ok(())
 }
 
 /// Takes the moment and the key of a removal away, if there is one.
+#[inline(always)]
 pub fn take(removals: &mut BTreeSet<(u64, Key)>, at: Option<u64>, key: Key)
     ensures gone { (q : Timed) → contains timed_cmp removals.new q
         ≡ cond (is_timed at key q) false (contains timed_cmp removals.old q) }
     ensures ordered { IsOrderedSet timed_cmp removals.old → IsOrderedSet timed_cmp removals.new }
 {
     if let Some(at) = at {
-        removals.remove(&(at, key));
+        take_at(removals, at, key);
     }
 }
 

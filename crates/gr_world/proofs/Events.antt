@@ -28,7 +28,8 @@ use Rattle.gr_law.specs.Integrity.{HasNoImage}
 use Rattle.gr_law.proofs.Lists.{among_right}
 use Rattle.gr_script.specs.Rules.{Heading}
 use Rattle.gr_world.specs.Events.{Event, Did, Peeked, Gathered, put_if, history}
-use Rattle.gr_world.specs.Doings.{Doing, Calls, Takes, Gives, Merges, Reports, Hears, Sweeps, Asks, call_with, deed_of, report_of}
+use Rattle.gr_shard.specs.Calls.{call_with}
+use Rattle.gr_world.specs.Doings.{Doing, Calls, Takes, Gives, Merges, Reports, Hears, Sweeps, Asks, deed_of, report_of}
 use Rattle.gr_world.specs.Courses.{does}
 use Rattle.gr_world.specs.Doings.{Says}
 

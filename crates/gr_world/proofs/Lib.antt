@@ -20,3 +20,4 @@ pub mod Leaving
 pub mod Playable
 pub mod Scripts
 pub mod Numbering
+pub mod Kept

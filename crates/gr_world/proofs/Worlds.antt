@@ -1,7 +1,7 @@
 -- One event more leaves one deed and one answer more.
 use Rattle.std.proofs.Common.{◌≡◌, ◌∙◌, ap, sym, subst, refl, ℕ, ◌+◌, ◌-◌, ◌≤◌, ◌<◌, List, [], ◌∷◌, ◌++◌, length, reverse, map}
 use Rattle.std.proofs.Common.{Bool, true, false, ◌&&◌, ◌==◌, add-one, arith, get_or, set, if◌then◌else◌}
-use Rattle.std.specs.Prelude.{Option, Some, None, option_and_then, option_map, slice_get}
+use Rattle.std.specs.Prelude.{Option, Some, None, is_some, option_and_then, option_map, slice_get}
 use Rattle.std.proofs.lemmas.Bool.Decides.{nat_tests}
 use Rattle.std.proofs.lemmas.Grind.{reverse_onto}
 use Rattle.std.proofs.lemmas.List.{reverse-reverse, length-reverse}
@@ -14,6 +14,7 @@ use Rattle.gr_history.specs.declared.record.Answer.{Answer}
 use Rattle.gr_history.specs.declared.record.Answer.TheVariants as answer
 use Rattle.gr_history.specs.Asks.{key_of}
 use Rattle.gr_history.specs.Standing.{present}
+use Rattle.gr_shard.specs.Calls.{call_with}
 use Rattle.gr_shard.specs.View.{Account}
 use Rattle.gr_script.specs.declared.line.Act.TheVariants as act
 use Rattle.gr_script.specs.declared.line.Line.TheVariants.{Step, Deliver}
@@ -26,7 +27,7 @@ use Rattle.gr_world.specs.Clients.{Numbered, add_some, told, told_by, told_by_de
 use Rattle.gr_world.specs.Noted.{Notes, place_of}
 use Rattle.gr_world.specs.Numbered.{numbers_from}
 use Rattle.gr_world.specs.Records.{answers}
-use Rattle.gr_world.specs.Doings.{Doing, Calls, Takes, call_with, deed_of}
+use Rattle.gr_world.specs.Doings.{Doing, Calls, Takes, deed_of}
 use Rattle.gr_world.specs.Named.{made_by, made_by_deed, made_in, numbered, or_else, reports}
 use Rattle.gr_world.specs.Tasks.{doing_of}
 use Rattle.gr_world.specs.declared.task.Task.{Task}
@@ -226,6 +227,11 @@ made_last heading events place deed is within at_end =
           ∙ last_get (reverse past) deed;
       made_is = refl;
     }
+
+-- The place of what a call made, told by whether it made something.
+pub placed : (place : DeedPlace) (made : Option Change) → (if is_some made then Some place else None) ≡ option_map (λ _. place) made
+placed place None = refl
+placed place (Some change) = refl
 
 -- A call adds its deed and tells its reply, and where what it made stands is noted.
 pub call_plays : (heading : Heading) (old new : World) (member shard at client seq : ℕ) (ask : Ask) (done : Done)

@@ -4,7 +4,6 @@ use Rattle.gr_stamp.specs.declared.change.Change.{Change}
 use Rattle.gr_vector.specs.declared.report.Report.{Report}
 use Rattle.gr_vector.specs.Ids.{Ids, top}
 use Rattle.gr_history.specs.declared.ask.Ask.{Ask}
-use Rattle.gr_history.specs.declared.done.Done.{Done}
 use Rattle.gr_history.specs.declared.identity.Identity.{Identity}
 use Rattle.gr_history.specs.declared.image.Image.{Image}
 use Rattle.gr_history.specs.declared.image.What.{What}
@@ -18,6 +17,7 @@ use Rattle.gr_history.specs.Ids.{ids, known}
 use Rattle.gr_history.specs.Regions.{all_standing}
 use Rattle.gr_history.specs.Stable.{due}
 use Rattle.gr_history.specs.Verdicts.{verdict}
+use Rattle.gr_shard.specs.Calls.{call_with}
 
 -- a vector of all that a history knows, with no room to spare, as copies have it
 abbrev pub vector_of : List Deed → Ids
@@ -49,9 +49,6 @@ pub data Doing : Type 0 where
   Hears : Report → Doing
   Sweeps : ℕ → Doing
   Asks : ℕ → ℕ → QueryAsk → Doing
-
-abbrev pub call_with : ℕ → ℕ → Ask → Done → Deed
-call_with client number ask done = Call client number ask done.reply done.made done.to
 
 -- the one lawful deed
 abbrev pub deed_of : Identity → ℕ → List Deed → Doing → Deed

@@ -3,6 +3,10 @@ use Rattle.std.specs.Prelude.{◌≡◌, ℕ, ◌==◌, ◌&&◌, List, [], Opti
 use Rattle.gr_world.specs.Named.{or_else}
 use Rattle.gr_world.specs.declared.place.DeedPlace.{DeedPlace}
 
+-- the place that is kept, where it is that of a member
+abbrev pub place_kept : DeedPlace → Option DeedPlace
+place_kept place = if place.site.member == 0 then None else Some place
+
 -- The place of this step of one client is noted too.
 abbrev pub HasNoted : ℕ → DeedPlace → List (Option DeedPlace) → List (Option DeedPlace) → Type 0
 HasNoted number place old new =

@@ -2,13 +2,16 @@
 use Rattle.std.specs.Prelude.{◌≡◌, ℕ, ◌-◌, ◌≤◌, ◌<◌, List, [], ◌∷◌, ◌++◌, length, reverse, get_or, set}
 use Rattle.std.specs.Prelude.{slice_get, slice_index, Option, None, Some}
 use Rattle.gr_stamp.specs.declared.change.Change.{Change}
+use Rattle.gr_history.specs.declared.ask.Ask.{Ask}
 use Rattle.gr_history.specs.declared.deed.Deed.{Deed}
+use Rattle.gr_history.specs.declared.done.Done.{Done}
 use Rattle.gr_history.specs.declared.identity.Identity.{Identity}
 use Rattle.gr_history.specs.declared.query_ask.QueryAsk.{QueryAsk}
 use Rattle.gr_history.specs.declared.query_reply.QueryReply.{QueryReply}
 use Rattle.gr_history.specs.declared.record.Answer.{Answer}
 use Rattle.gr_history.specs.declared.record.ClientRecord.{ClientRecord}
 use Rattle.gr_history.specs.declared.record.MemberRecord.{MemberRecord}
+use Rattle.gr_history.specs.Calls.{call_gives}
 use Rattle.gr_history.specs.Queries.{query_gives}
 use Rattle.gr_shard.specs.Records.{IsRecordOf}
 use Rattle.gr_shard.specs.View.{Account}
@@ -45,6 +48,10 @@ pub record IsCell (grid : List (List Account)) (member shard : ℕ) : Type 0 whe
 -- the deed of what is done at a shard
 abbrev pub deed_at : Account → Doing → Deed
 deed_at account doing = deed_of account.id account.opening (reverse account.deeds) doing
+
+-- what a call gives at a shard
+abbrev pub gives_at : Account → Ask → Done
+gives_at account ask = call_gives account.id account.opening (reverse account.deeds) ask
 
 -- with one more deed
 abbrev pub longer : Account → Deed → Account

@@ -1,15 +1,16 @@
 ghost use Rattle.std.specs.Prelude.{◌≡◌, [], IfOk, OnOk, option_copied, reverse, slice_get};
 ghost use Rattle.gr_shard.specs.View.{IsPlace};
 ghost use Rattle.gr_history.specs.declared.deed.Deed.TheVariants as deed;
-ghost use Rattle.gr_world.specs.Doings.{Asks, Calls, Gives, Reports, call_with};
+ghost use Rattle.gr_shard.specs.Calls.{served};
+ghost use Rattle.gr_world.specs.Doings.{Asks, Calls, Gives, Reports};
 ghost use Rattle.gr_world.specs.Named.{numbered, reports};
 ghost use Rattle.gr_world.specs.Tasks.{BelongsTo, IsGiven, doing_of};
-ghost use Rattle.gr_world.specs.Worlds.{deed_at, longer};
+ghost use Rattle.gr_world.specs.Worlds.{deed_at, gives_at, longer};
 
 use crate::step::StepName;
 use crate::task::Task;
-use gr_history::{Ask, Done, Gift, Identity, QueryAsk, QueryReply, What};
-use gr_shard::Shard;
+use gr_history::{Ask, Gift, Identity, QueryAsk, QueryReply, What};
+use gr_shard::{Served, Shard};
 use gr_value::Memory;
 use gr_vector::Report;
 use std::alloc::Global;
@@ -78,13 +79,12 @@ impl Cell {
         at(&self.reported, number as usize - 1)
     }
 
-    pub fn call(&mut self, alloc: Global, step: StepName, ask: &Ask) -> Result<Done, Memory>
+    pub fn call(&mut self, alloc: Global, step: StepName, ask: &Ask) -> Result<Served, Memory>
         requires { BelongsTo self.old (Calls step.client step.seq ask.now) }
-        ensures given { IfOk result
-            (λ done. call_with step.client step.seq ask.now done ≡ deed_at self.old (Calls step.client step.seq ask.now)) }
-        ensures added { IfOk result (λ done. self.new ≡ longer self.old (call_with step.client step.seq ask.now done)) }
+        ensures told { IfOk result (λ told. told ≡ served (gives_at self.old ask.now)) }
+        ensures added { OnOk result (self.new ≡ longer self.old (deed_at self.old (Calls step.client step.seq ask.now))) }
     {
-        self.shard.call(alloc, step.client, step.seq, ask)
+        self.shard.serve(alloc, step.client, step.seq, ask)
     }
 
     /// Does a client's step on one of its queries.

@@ -1,17 +1,19 @@
 ghost use Rattle.std.specs.Prelude.{◌≡◌, ◌≤◌, IfOk, OnOk, length};
 ghost use Rattle.gr_history.specs.declared.deed.Deed.TheVariants as deed;
-ghost use Rattle.gr_world.specs.Doings.{Asks, Calls, Gives, call_with};
+ghost use Rattle.gr_shard.specs.Calls.{served};
+ghost use Rattle.gr_world.specs.Doings.{Asks, Calls, Gives};
 ghost use Rattle.gr_shard.specs.View.{IsPlace};
 ghost use Rattle.gr_world.specs.Numbered.{numbers_from, PairsFrom};
 ghost use Rattle.gr_world.specs.Tasks.{BelongsTo, IsGiven, doing_of};
-ghost use Rattle.gr_world.specs.Worlds.{IsCell, IsDone, IsMemberOf, account_at, deed_at, new_row};
+ghost use Rattle.gr_world.specs.Worlds.{IsCell, IsDone, IsMemberOf, account_at, deed_at, gives_at, new_row};
 
 use crate::cell::Cell;
 use crate::row::Row;
 use crate::site::Site;
 use crate::step::StepName;
 use crate::task::Task;
-use gr_history::{Ask, Done, Gift, Identity, MemberRecordList, QueryAsk, QueryReply, What};
+use gr_history::{Ask, Gift, Identity, MemberRecordList, QueryAsk, QueryReply, What};
+use gr_shard::Served;
 use gr_value::Memory;
 use std::alloc::Global;
 use std::marker::Model;
@@ -63,12 +65,13 @@ impl Grid {
         site: Site,
         step: StepName,
         ask: &Ask,
-    ) -> Result<Done, Memory>
+    ) -> Result<Served, Memory>
         requires cell { IsCell self.old site.member site.shard }
         requires here { BelongsTo (account_at self.old site.member site.shard) (Calls step.client step.seq ask.now) }
-        ensures { IfOk result
-            (λ done. IsDone self.old self.new site.member site.shard (Calls step.client step.seq ask.now)
-            (call_with step.client step.seq ask.now done)) }
+        ensures told { IfOk result (λ told. told ≡ served (gives_at (account_at self.old site.member site.shard) ask.now)) }
+        ensures done { OnOk result
+            (IsDone self.old self.new site.member site.shard (Calls step.client step.seq ask.now)
+            (deed_at (account_at self.old site.member site.shard) (Calls step.client step.seq ask.now))) }
     {
         let row = &mut self.rows[usize::from(site.member) - 1];
         row.call(alloc, site.shard, step, ask)

@@ -1,4 +1,4 @@
-ghost use Rattle.std.specs.Prelude.{◌≡◌, ◌<◌, [], ℕ, IfOk, Some, length};
+ghost use Rattle.std.specs.Prelude.{◌≡◌, ◌<◌, ◌≤◌, [], ℕ, IfOk, Some, length};
 ghost use Rattle.gr_world.specs.Noted.{Notes, place_of};
 
 use crate::noted::Noted;
@@ -55,6 +55,7 @@ impl Made {
     }
 
     pub fn note(&mut self, step: StepName, place: DeedPlace) -> Result<(), Memory>
+        requires { 1 ≤ place.site.member }
         ensures { IfOk result (λ _. Notes step.client step.seq (Some place) self.old self.new) }
     {
         let client = usize::from(step.client);

@@ -2,17 +2,17 @@ ghost use Rattle.std.specs.Prelude.{◌≡◌, ◌<◌, IfOk, OnOk, length};
 ghost use Rattle.gr_shard.specs.Records.{IsRecordOf};
 ghost use Rattle.gr_shard.specs.View.{IsPlace};
 ghost use Rattle.gr_history.specs.declared.deed.Deed.TheVariants as deed;
-ghost use Rattle.gr_world.specs.Doings.{Asks, Calls, Gives, call_with};
+ghost use Rattle.gr_shard.specs.Calls.{served};
+ghost use Rattle.gr_world.specs.Doings.{Asks, Calls, Gives};
 ghost use Rattle.gr_world.specs.Numbered.{PairsFrom};
 ghost use Rattle.gr_world.specs.Tasks.{BelongsTo, IsGiven, doing_of};
-ghost use Rattle.gr_world.specs.Worlds.{account_in, deed_at, new_row, row_with};
+ghost use Rattle.gr_world.specs.Worlds.{account_in, deed_at, gives_at, new_row, row_with};
 
 use crate::cell::Cell;
 use crate::step::StepName;
 use crate::task::Task;
-use gr_history::{
-    Ask, Done, Gift, Identity, MemberRecord, QueryAsk, QueryReply, ShardRecordList, What,
-};
+use gr_history::{Ask, Gift, Identity, MemberRecord, QueryAsk, QueryReply, ShardRecordList, What};
+use gr_shard::Served;
 use gr_value::Memory;
 use std::alloc::Global;
 use std::marker::Model;
@@ -62,12 +62,12 @@ impl Row {
         shard: u8,
         step: StepName,
         ask: &Ask,
-    ) -> Result<Done, Memory>
+    ) -> Result<Served, Memory>
         requires within { shard < length self.old }
         requires here { BelongsTo (account_in self.old shard) (Calls step.client step.seq ask.now) }
-        ensures given { IfOk result
-            (λ done. call_with step.client step.seq ask.now done ≡ deed_at (account_in self.old shard) (Calls step.client step.seq ask.now)) }
-        ensures added { IfOk result (λ done. self.new ≡ row_with self.old shard (call_with step.client step.seq ask.now done)) }
+        ensures told { IfOk result (λ told. told ≡ served (gives_at (account_in self.old shard) ask.now)) }
+        ensures added { OnOk result
+            (self.new ≡ row_with self.old shard (deed_at (account_in self.old shard) (Calls step.client step.seq ask.now))) }
     {
         let cell = &mut self.cells[usize::from(shard)];
         cell.call(alloc, step, ask)

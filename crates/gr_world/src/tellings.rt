@@ -33,6 +33,7 @@ impl Tellings {
         Ok(Tellings { lists })
     }
 
+    #[inline(always)]
     pub fn tell(&mut self, client: u8, answer: Answer) -> Result<(), Memory>
         requires from { 1 ≤ client }
         requires stated { client ≤ length self.old }

@@ -1,4 +1,4 @@
-ghost use Rattle.std.specs.Prelude.{◌≡◌, ℕ, List, [], length, reverse, IfOk, option_and_then, option_map, slice_get};
+ghost use Rattle.std.specs.Prelude.{◌≡◌, ◌≤◌, ℕ, List, [], length, reverse, IfOk, Some, None, if◌then◌else◌, option_and_then, slice_get};
 ghost use Rattle.gr_script.specs.declared.line.Act.TheVariants as act;
 ghost use Rattle.gr_script.specs.declared.line.Line.TheVariants as line;
 ghost use Rattle.gr_script.specs.Rules.{IsMember, IsStated, home_of};
@@ -22,7 +22,7 @@ use crate::stage::Stage;
 use crate::step::StepName;
 use crate::task::Task;
 use crate::tellings::Tellings;
-use gr_history::{Answer, Ask, Deed, Done, History, Identity, Record};
+use gr_history::{Answer, Ask, Deed, History, Identity, Record};
 use gr_script::{Act, Line, Script};
 use gr_shard::Shard;
 use gr_stamp::Change;
@@ -38,10 +38,11 @@ pub struct World {
 }
 
 // Notes where what a step made stands, if it made anything.
-fn note(noted: &mut Made, step: StepName, place: DeedPlace, done: &Done) -> Result<(), Memory>
-    ensures { IfOk result (λ _. Notes step.client step.seq (option_map (λ _. place) done.now.made) noted.old noted.new) }
+fn note(noted: &mut Made, step: StepName, place: DeedPlace, made: bool) -> Result<(), Memory>
+    requires { 1 ≤ place.site.member }
+    ensures { IfOk result (λ _. Notes step.client step.seq (if made then Some place else None) noted.old noted.new) }
 {
-    if done.made.is_some() {
+    if made {
         noted.note(step, place)?;
     }
     Ok(())
@@ -108,9 +109,9 @@ impl World {
         let shard = ask.key().shard(stage.script.shards);
         let site = Site { member, shard };
         let at = self.grid.cell(site).shard().history().len();
-        let done = self.grid.call(stage.alloc, site, step, ask)?;
-        note(&mut self.made, step, DeedPlace { site, at }, &done)?;
-        Ok(self.tellings.tell(step.client, Answer::Reply(done.reply))?)
+        let told = self.grid.call(stage.alloc, site, step, ask)?;
+        note(&mut self.made, step, DeedPlace { site, at }, told.made)?;
+        Ok(self.tellings.tell(step.client, Answer::Reply(told.reply))?)
     }
 
     fn peek(&mut self, stage: Stage, client: u8, key: &Key) -> Result<(), Memory>

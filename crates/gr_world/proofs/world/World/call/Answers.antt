@@ -1,8 +1,13 @@
-use Rattle.std.proofs.Common.{◌∙◌, ap, length}
+use Rattle.std.proofs.Common.{◌≡◌, ◌∙◌, ap, subst, length, Some, None, if◌then◌else◌}
 use Rattle.gr_value.specs.Shard.{shard_of}
 use Rattle.gr_history.specs.Asks.{key_of}
 use Rattle.gr_script.specs.Scripts.{heading_of}
-use Rattle.gr_world.proofs.Worlds.{call_plays, key_cell, shard_within, stated_told, work_shard}
+use Rattle.gr_history.specs.declared.record.Answer.TheVariants.{Reply}
+use Rattle.gr_shard.specs.Calls.{served}
+use Rattle.gr_world.specs.declared.place.DeedPlace.{DeedPlace}
+use Rattle.gr_world.specs.Noted.{Notes}
+use Rattle.gr_world.specs.Worlds.{account_at, gives_at, told_also}
+use Rattle.gr_world.proofs.Worlds.{call_plays, key_cell, placed, shard_within, stated_told, work_shard}
 use Rattle.gr_world.proofs.world.World.call.Goals as goal
 
 pub cell-requires : goal.cell-requires
@@ -29,10 +34,18 @@ returns c =
     let script = c.args.stage.script.now in
     let at = c.shard-shard.ensures ∙ ap (λ k. shard_of k script.shards) c.key.ensures in
     let step = c.args.step in
-    call_plays (heading_of script) c.args.self.now _ c.home-member.result c.shard-shard.result c.len-at.result step.client
+    let member = c.home-member.result in
+    let shard = c.shard-shard.result in
+    let old = c.args.self.now in
+    let done = gives_at (account_at old.grid member shard) c.args.ask.now in
+    let told : c.in_ok-told.told ≡ served done = c.in_ok-told.ensures.told in
+    let place : DeedPlace = record { site = record { member = member; shard = shard }; at = c.len-at.result } in
+    call_plays (heading_of script) old _ member shard c.len-at.result step.client
     step.seq c.args.ask.now
-    c.in_ok-done.done c.home-member.ensures.member c.requires.stated c.home-member.ensures.home at
-    (shard_within (key_of c.args.ask.now) c.shard-shard.result script.shards script.ruled.heading.shards.0 at) c.in_ok-done.ensures
+    done c.home-member.ensures.member c.requires.stated c.home-member.ensures.home at
+    (shard_within (key_of c.args.ask.now) shard script.shards script.ruled.heading.shards.0 at) c.in_ok-told.ensures.done
     (c.len-at.ensures ∙ ap (λ deeds. length deeds) c.history.ensures.deeds ∙ ap (λ account. length account.deeds)
     (c.shard.ensures ∙ c.cell.ensures))
-    c.in_ok-note.ensures c.in_ok-tell.ensures
+    (subst (λ noted. Notes step.client step.seq noted old.made c.note.new.noted)
+    (ap (λ t. if t.made then Some place else None) told ∙ placed place done.made) c.in_ok-note.ensures)
+    (c.in_ok-tell.ensures ∙ ap (λ t. told_also old.tellings step.client (Reply t.reply)) told)

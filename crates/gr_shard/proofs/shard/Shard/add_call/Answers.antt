@@ -1,29 +1,29 @@
 use Rattle.std.proofs.Common.{◌≡◌, ◌∙◌, ap, [], ◌∷◌, ◌++◌, reverse}
 use Rattle.std.proofs.lemmas.List.{reverse-append}
 use Rattle.gr_value.specs.Shard.{shard_of}
-use Rattle.gr_history.specs.declared.deed.Deed.TheVariants.{Call}
 use Rattle.gr_history.specs.Asks.{key_of}
 use Rattle.gr_history.specs.Calls.{call_gives}
+use Rattle.gr_shard.specs.Calls.{call_with}
 use Rattle.gr_shard.specs.Entries.{with_made, with_change}
 use Rattle.gr_cq.specs.Entries.{noted as noted_}
 use Rattle.gr_shard.specs.Telling.{turned_by_change}
 use Rattle.gr_shard.specs.View.{kept}
 use Rattle.gr_shard.proofs.Pushed.{on_ok}
 use Rattle.gr_shard.proofs.Kept.{kept_called}
-use Rattle.gr_shard.proofs.shard.Shard.call.Goals as goal
+use Rattle.gr_shard.proofs.shard.Shard.add_call.Goals as goal
 
 pub invariant_of-self-2 : goal.invariant_of-self-2
 invariant_of-self-2 c =
     let was = c.self.inside in
     let past = reverse was.history.deeds in
-    let done = c.in_ok-done.done in
-    let gives : done ≡ call_gives was.id was.opening past c.args.ask.now = rw (← c.self.view_is) at c.in_ok-done.ensures in
-    let here : shard_of (key_of c.args.ask.now) was.id.shards ≡ was.id.shard = rw (← c.self.view_is) at c.requires in
-    let pushed : c.push.new.self.deeds ≡ was.history.deeds
-    ++ Call c.args.client c.args.seq c.args.ask.now done.reply done.made done.to ∷ [] =
+    let done = c.args.done in
+    let gives : done ≡ call_gives was.id was.opening past c.args.ask.now = rw (← c.self.view_is) at c.requires.gives in
+    let here : shard_of (key_of c.args.ask.now) was.id.shards ≡ was.id.shard = rw (← c.self.view_is) at c.requires.here in
+    let pushed : c.push.new.self.deeds ≡ was.history.deeds ++ call_with c.args.client c.args.seq c.args.ask.now done ∷ [] =
     on_ok c.push.result (c.push.ensures.room c.in_ok-reserve.ensures.room) c.push.ensures.ok
-    ∙ ap (λ deeds. deeds ++ c.in_ok-deed.deed ∷ []) c.in_ok-reserve.ensures.deeds
-    ∙ ap (λ deed. was.history.deeds ++ deed ∷ []) c.in_ok-deed.ensures in
+    ∙ ap (λ deeds. deeds ++ c.deed_of.result ∷ []) c.in_ok-reserve.ensures.deeds
+    ∙ ap (λ deed. was.history.deeds ++ deed ∷ []) c.deed_of.ensures
+    ∙ ap (λ ask. was.history.deeds ++ call_with c.args.client c.args.seq ask done ∷ []) c.in_ok-asked.ensures in
     let noted : c.note.new.vector.ids ≡ with_made done.made was.vector.ids =
     c.note.ensures ∙ ap (λ m. with_made m c.reserve-2.new.self.ids) c.as_ref-made.ensures.value
     ∙ ap (λ v. with_made done.made v.ids) c.in_ok-reserve-2.ensures.room in
