@@ -1,7 +1,9 @@
 // Which bytes stand for themselves in a quoted text, and what stands for the others.
-ghost use Rattle.std.specs.Prelude.{◌≡◌, ◌<◌, ◌≤◌, [], ◌∷◌, ◌++◌, length, take, flat_map, codes, IsTrue, IfSome};
+ghost use Rattle.std.specs.Prelude.{◌≡◌, ◌<◌, ◌≤◌, [], ◌∷◌, ◌++◌, length, take, flat_map, codes, IsTrue, IfSome, OnOk};
 ghost use Rattle.std.specs.Char.{digit_char};
 ghost use Rattle.gr_value.specs.ValueText.{escaped};
+
+use crate::Memory;
 
 /// So many bytes are looked at together.
 const BLOCK: usize = 16;
@@ -83,6 +85,20 @@ pub(crate) fn plain_len(bytes: &[u8]) -> usize
         return len;
     }
     plain_until(bytes, plain_blocks_len(bytes), bytes.len())
+}
+
+/// Appends a run of bytes. To push a few costs less than the call that copies many.
+pub(crate) fn put_run(run: &[u8], out: &mut Vec<u8>) -> Result<(), Memory>
+    ensures { OnOk result (out.new.items ≡ out.old.items ++ run.now) }
+{
+    if run.len() > FEW {
+        out.extend_from_slice(run)?;
+        return Ok(());
+    }
+    for byte in run {
+        out.push(*byte)?;
+    }
+    Ok(())
 }
 
 /// The digit below 16, as a byte of text.
