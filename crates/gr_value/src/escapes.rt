@@ -136,12 +136,14 @@ fn byte_of_digits(high: u8, low: u8) -> Option<u8>
 {
     let above_nine = if low > b'9' { 9 } else { 0 };
     let byte = (high & 1) * 16 + (low & 0x0F) + above_nine;
-    match byte {
-        0x08 | 0x09 | 0x0A | 0x0C | 0x0D => None,
-        _ if byte < 0x20 && hex_digit(byte / 16) == high && hex_digit(byte % 16) == low => Some(
-            byte,
-        ),
-        _ => None,
+    let has_letter = matches!(byte, 0x08 | 0x09 | 0x0A | 0x0C | 0x0D);
+    if has_letter || byte >= 0x20 {
+        return None;
+    }
+    if hex_digit(byte / 16) == high && hex_digit(byte % 16) == low {
+        Some(byte)
+    } else {
+        None
     }
 }
 
@@ -149,12 +151,10 @@ fn byte_of_digits(high: u8, low: u8) -> Option<u8>
 pub(crate) fn escape_begun(bytes: &[u8]) -> Option<(u8, &[u8])>
     ensures { IfSome result (λ parts. bytes.now ≡ escaped parts.0 ++ parts.1.now) }
 {
-    match bytes {
-        [b'\\', b'u', b'0', b'0', high, low, rest @ ..] => Some((
-            byte_of_digits(*high, *low)?,
-            rest,
-        )),
-        [b'\\', letter, rest @ ..] => Some((byte_of_letter(*letter)?, rest)),
-        _ => None,
-    }
+    let (byte, rest) = match bytes {
+        [b'\\', b'u', b'0', b'0', high, low, rest @ ..] => (byte_of_digits(*high, *low), rest),
+        [b'\\', letter, rest @ ..] => (byte_of_letter(*letter), rest),
+        _ => (None, bytes),
+    };
+    Some((byte?, rest))
 }
