@@ -3,7 +3,7 @@ use Rattle.std.proofs.Common.{◌≡◌, ◌∙◌, ap, refl, sym, ℕ, zero, su
 use Rattle.std.proofs.Common.{length, take, drop, get_or, true, Ordering, Less, Equal, Greater}
 use Rattle.std.proofs.Math.Nat.{pow-succ', mul-le-mul_left}
 use Rattle.std.proofs.Math.ListN.{replicate}
-use Rattle.std.proofs.lemmas.List.{take-append-drop, drop-replicate, drop_all, length-drop, length-take-le}
+use Rattle.std.proofs.lemmas.List.{take-append-drop, drop-replicate, drop_all, length-drop, length-take-le, take_all}
 use Rattle.std.proofs.lemmas.Bool.{and_parts}
 use Rattle.std.specs.List.{list_all}
 use Rattle.std.specs.Cmp.{nat_cmp_is, ranks}
@@ -175,3 +175,20 @@ pub eight_taken : (bytes first : List ℕ) → 8 ≤ length bytes → first ≡ 
     → (8 ≤ length first) × (front_from 8 first ≡ front_from 8 bytes)
 eight_taken bytes first long e =
     (omega (arith, ap length e, length-take-le 8 bytes long), ap (front_from 8) e ∙ front_taken 8 bytes)
+
+-- What is left of two keys' bytes is in the order of the keys.
+pub record IsLeft (one two left right : List ℕ) : Type 0 where
+  pub left_bytes : list_all is_key_byte left ≡ true
+  pub right_bytes : list_all is_key_byte right ≡ true
+  pub order : slice_cmp nat_cmp one two ≡ slice_cmp nat_cmp left right
+
+eight_dropped : (bytes : List ℕ) → take (length bytes - 8) (drop 8 bytes) ≡ drop 8 bytes
+eight_dropped bytes = take_all (length bytes - 8) (drop 8 bytes) (omega (arith, length-drop 8 bytes))
+
+pub eight_left : (one two left right : List ℕ) → IsLeft one two left right → front_from 8 left ≡ front_from 8 right
+    → IsLeft one two (take (length left - 8) (drop 8 left)) (take (length right - 8) (drop 8 right))
+eight_left one two left right h same = rw (eight_dropped left, eight_dropped right) (record {
+  left_bytes = all_dropped 8 left h.left_bytes;
+  right_bytes = all_dropped 8 right h.right_bytes;
+  order = h.order ∙ fronts_alike 8 8 left right (omega arith) h.left_bytes h.right_bytes same;
+})

@@ -1,7 +1,9 @@
 // Which bytes stand for themselves in a quoted text, and what stands for the others.
-ghost use Rattle.std.specs.Prelude.{◌≡◌, ◌<◌, ◌≤◌, [], ◌∷◌, ◌++◌, length, take, flat_map, codes, IsTrue, IfSome};
+ghost use Rattle.std.specs.Prelude.{◌≡◌, ◌<◌, ◌≤◌, [], ◌∷◌, ◌++◌, length, take, flat_map, codes, IsTrue, IfSome, OnOk};
 ghost use Rattle.std.specs.Char.{digit_char};
 ghost use Rattle.gr_value.specs.ValueText.{escaped};
+
+use crate::Memory;
 
 /// So many bytes are looked at together.
 const BLOCK: usize = 16;
@@ -85,6 +87,20 @@ pub(crate) fn plain_len(bytes: &[u8]) -> usize
     plain_until(bytes, plain_blocks_len(bytes), bytes.len())
 }
 
+/// Appends a run of bytes. To push a few costs less than the call that copies many.
+pub(crate) fn put_run(run: &[u8], out: &mut Vec<u8>) -> Result<(), Memory>
+    ensures { OnOk result (out.new.items ≡ out.old.items ++ run.now) }
+{
+    if run.len() > FEW {
+        out.extend_from_slice(run)?;
+        return Ok(());
+    }
+    for byte in run {
+        out.push(*byte)?;
+    }
+    Ok(())
+}
+
 /// The digit below 16, as a byte of text.
 pub(crate) fn hex_digit(digit: u8) -> u8
     requires { digit < 16 }
@@ -120,12 +136,14 @@ fn byte_of_digits(high: u8, low: u8) -> Option<u8>
 {
     let above_nine = if low > b'9' { 9 } else { 0 };
     let byte = (high & 1) * 16 + (low & 0x0F) + above_nine;
-    match byte {
-        0x08 | 0x09 | 0x0A | 0x0C | 0x0D => None,
-        _ if byte < 0x20 && hex_digit(byte / 16) == high && hex_digit(byte % 16) == low => Some(
-            byte,
-        ),
-        _ => None,
+    let has_letter = matches!(byte, 0x08 | 0x09 | 0x0A | 0x0C | 0x0D);
+    if has_letter || byte >= 0x20 {
+        return None;
+    }
+    if hex_digit(byte / 16) == high && hex_digit(byte % 16) == low {
+        Some(byte)
+    } else {
+        None
     }
 }
 
@@ -133,12 +151,10 @@ fn byte_of_digits(high: u8, low: u8) -> Option<u8>
 pub(crate) fn escape_begun(bytes: &[u8]) -> Option<(u8, &[u8])>
     ensures { IfSome result (λ parts. bytes.now ≡ escaped parts.0 ++ parts.1.now) }
 {
-    match bytes {
-        [b'\\', b'u', b'0', b'0', high, low, rest @ ..] => Some((
-            byte_of_digits(*high, *low)?,
-            rest,
-        )),
-        [b'\\', letter, rest @ ..] => Some((byte_of_letter(*letter)?, rest)),
-        _ => None,
-    }
+    let (byte, rest) = match bytes {
+        [b'\\', b'u', b'0', b'0', high, low, rest @ ..] => (byte_of_digits(*high, *low), rest),
+        [b'\\', letter, rest @ ..] => (byte_of_letter(*letter), rest),
+        _ => (None, bytes),
+    };
+    Some((byte?, rest))
 }

@@ -76,6 +76,24 @@ fn cmp_near(one: &Near, two: &Near) -> Ordering
     }
 }
 
+// The order of bytes of keys, eight of which are looked at together.
+fn cmp_by_eights(one: &[u8], two: &[u8]) -> Ordering
+    requires one { IsKey one.now }
+    requires two { IsKey two.now }
+    ensures { result ≡ slice_cmp nat_cmp one.now two.now }
+{
+    let (mut left, mut right) = (one, two);
+    'eights: while left.len() >= 8 && right.len() >= 8 {
+        let (front, other) = (front_of(left), front_of(right));
+        if front != other {
+            return front.cmp(&other);
+        }
+        left = &left[8..];
+        right = &right[8..];
+    }
+    left.cmp(right)
+}
+
 impl Key {
     /// Reads a key. Its faults are looked for in the order of `KeyFault`.
     pub fn read(alloc: Global, bytes: &[u8]) -> Result<Key, KeyFault>
@@ -109,29 +127,12 @@ impl Key {
         }
     }
 
-    // By their fronts keys are told apart without a look at the rest, which may stand elsewhere.
-    #[inline]
-    fn front(&self) -> u64
-        ensures front { result ≡ front_of self.now }
-        ensures key { IsKey self.now }
-    {
-        match &self.held {
-            Held::Near(near) => near.front(),
-            Held::Far(shared) => front_of(shared.as_slice()),
-        }
-    }
-
     // The order of keys of which one at least stands elsewhere.
     #[inline(never)]
     fn cmp_far(&self, other: &Key) -> Ordering
         ensures { result ≡ slice_cmp nat_cmp self.now other.now }
     {
-        let (one, two) = (self.front(), other.front());
-        if one == two {
-            self.bytes().cmp(other.bytes())
-        } else {
-            one.cmp(&two)
-        }
+        cmp_by_eights(self.bytes(), other.bytes())
     }
 
     /// The shard of this key where there are so many, counted from 0.

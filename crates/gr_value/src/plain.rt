@@ -9,7 +9,7 @@ ghost use Rattle.std.specs.Str.{is_utf8};
 ghost use Rattle.gr_value.specs.ValueText.{escaped, quoted, scalar_text, field_text, value_text};
 ghost use Rattle.gr_value.specs.Values.{IsScalar, IsField, IsValue, HasAscendingNames};
 
-use crate::escapes::{escape_begun, plain_len};
+use crate::escapes::{escape_begun, plain_len, put_run};
 use crate::fields::Fields;
 use crate::value::MOST_BYTES;
 use crate::{Field, Memory, Scalar, Text, Value};
@@ -124,7 +124,7 @@ impl<'a> Cursor<'a> {
                 return Ok(None);
             };
             text.push(byte)?;
-            text.extend_from_slice(self.take_plain())?;
+            put_run(self.take_plain(), &mut text)?;
         }
         Ok(Some(text))
     }

@@ -1,16 +1,19 @@
-ghost use Rattle.std.specs.Prelude.{◌≤◌, List, slice_index, All, ◌≡◌, ◌<◌, ◌/◌, ◌%◌, [], ◌∷◌, ◌++◌, codes, flat_map, length, IfOk, OnOk, OnErr};
+ghost use Rattle.std.specs.Prelude.{◌≤◌, List, slice_index, All, ◌≡◌, ◌<◌, ◌/◌, ◌%◌, [], ◌∷◌, ◌++◌, codes, flat_map, OnOk, OnErr};
 ghost use Rattle.std.specs.Char.{digit_char};
 ghost use Rattle.gr_value.specs.ValueText.{escaped, quoted, scalar_text, field_text, value_text};
 ghost use Rattle.gr_value.specs.Values.{IsValue};
 ghost use Rattle.gr_value.specs.declared.value.Field.{Field as AField};
 
-use crate::escapes::{hex_digit, plain_len};
+use crate::escapes::{hex_digit, plain_len, put_run};
 use crate::{Field, Memory, Scalar, Value};
 use itoa::Buffer;
 use std::alloc::Global;
 
 /// Most values have no longer text.
 const USUAL_BYTES: usize = 64;
+
+/// So many bytes of a text with escapes are put at a time.
+const PIECE: usize = 32;
 
 fn put_control(byte: u8, out: &mut Vec<u8>) -> Result<(), Memory>
     ensures { OnOk result (out.new.items
@@ -40,33 +43,45 @@ fn put_escaped(byte: u8, out: &mut Vec<u8>) -> Result<(), Memory>
     Ok(())
 }
 
-// Puts the bytes in front that stand for themselves, and answers the others.
-fn put_plain<'a>(text: &'a [u8], out: &mut Vec<u8>) -> Result<&'a [u8], Memory>
-    ensures put { IfOk result (λ rest.
-        out.new.items ++ flat_map escaped rest.now ≡ out.old.items ++ flat_map escaped text.now) }
-    ensures shorter { IfOk result (λ rest. length rest.now ≤ length text.now) }
-{
-    let (plain, rest) = text.split_at(plain_len(text));
-    out.extend_from_slice(plain)?;
-    Ok(rest)
-}
-
-fn put_text(text: &[u8], out: &mut Vec<u8>) -> Result<(), Memory>
+fn put_escapes(text: &[u8], out: &mut Vec<u8>) -> Result<(), Memory>
     ensures { OnOk result (out.new.items ≡ out.old.items ++ flat_map escaped text.now) }
 {
-    let mut rest = put_plain(text, out)?;
-    'others: while let [byte, behind @ ..] = rest {
+    for byte in text {
         put_escaped(*byte, out)?;
-        rest = put_plain(behind, out)?;
     }
     Ok(())
 }
 
+// The bytes in front that stand for themselves are put at once.
+fn put_piece(text: &[u8], out: &mut Vec<u8>) -> Result<(), Memory>
+    ensures { OnOk result (out.new.items ≡ out.old.items ++ flat_map escaped text.now) }
+{
+    let (plain, rest) = text.split_at(plain_len(text));
+    put_run(plain, out)?;
+    put_escapes(rest, out)
+}
+
+// Behind an escape others often follow soon, so the text is put piece by piece.
+fn put_pieces(text: &[u8], out: &mut Vec<u8>) -> Result<(), Memory>
+    ensures { OnOk result (out.new.items ≡ out.old.items ++ flat_map escaped text.now) }
+{
+    let mut rest = text;
+    'pieces: while !rest.is_empty() {
+        let (piece, behind) = rest.split_at(rest.len().min(PIECE));
+        put_piece(piece, out)?;
+        rest = behind;
+    }
+    Ok(())
+}
+
+// Few texts have bytes that don't stand for themselves.
 fn put_quoted(text: &[u8], out: &mut Vec<u8>) -> Result<(), Memory>
     ensures { OnOk result (out.new.items ≡ out.old.items ++ quoted text.now) }
 {
+    let (plain, rest) = text.split_at(plain_len(text));
     out.push(b'"')?;
-    put_text(text, out)?;
+    put_run(plain, out)?;
+    put_pieces(rest, out)?;
     out.push(b'"')?;
     Ok(())
 }
