@@ -98,7 +98,7 @@ rank kind = min (place kind) 8
 -- the lines that begin with a client's number
 abbrev pub step_kinds : List LineKind
 step_kinds =
-    Get ∷ Put ∷ PutIfAbsent ∷ Replace ∷ ReplaceIf ∷ Destroy
+    Get ∷ Put ∷ Destroy ∷ PutIfAbsent ∷ Replace ∷ ReplaceIf
     ∷ Remove ∷ Peek ∷ Open ∷ Stop ∷ Close ∷ Fetch ∷ []
 
 abbrev pub other_kinds : List LineKind

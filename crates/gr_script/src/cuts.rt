@@ -1,4 +1,4 @@
-ghost use Rattle.std.specs.Prelude.{◌≡◌, ◌≤◌, ◌==◌, length};
+ghost use Rattle.std.specs.Prelude.{◌≡◌, ◌≤◌, ◌==◌, count_by, length};
 ghost use Rattle.std.specs.List.{prefix_len};
 ghost use Rattle.gr_script.specs.Cuts.{ends_with, line_count, without_return, is_space, after_spaces, before_spaces, text_said};
 ghost use Rattle.gr_script.specs.Cuts.{is_skipped, field_len};
@@ -14,11 +14,23 @@ fn ends_with(byte: u8, text: &[u8]) -> bool
     }
 }
 
+// How many line feeds there are. No byte ends the count early, so that many are looked at at once.
+fn feeds_in(text: &[u8]) -> u64
+    ensures exact { result ≡ count_by (λ byte. byte == 0x0A) text.now }
+    ensures within { result ≤ length text.now }
+{
+    let mut feeds = 0;
+    for byte in text {
+        feeds += u64::from(*byte == b'\n');
+    }
+    feeds
+}
+
 /// How many lines a text has.
 pub fn line_count(text: &[u8]) -> u64
     ensures { result ≡ line_count text.now }
 {
-    let feeds = text.iter().filter(|byte| **byte == b'\n').count() as u64;
+    let feeds = feeds_in(text);
     if is_ended(text) { feeds } else { feeds + 1 }
 }
 

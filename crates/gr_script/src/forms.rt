@@ -62,10 +62,10 @@ pub(crate) enum FieldKind {
 const STEP_KINDS: [LineKind; 12] = [
     LineKind::Get,
     LineKind::Put,
+    LineKind::Destroy,
     LineKind::PutIfAbsent,
     LineKind::Replace,
     LineKind::ReplaceIf,
-    LineKind::Destroy,
     LineKind::Remove,
     LineKind::Peek,
     LineKind::Open,

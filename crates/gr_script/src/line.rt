@@ -52,6 +52,37 @@ pub enum Line {
 
 pub type LineList = ItemList<Line>;
 
+impl Copied for Line {
+    fn copy(&self, alloc: Global) -> Result<Line, Memory> {
+        match self {
+            Line::Step { client, seq, act } => Ok(Line::Step {
+                client: *client,
+                seq: *seq,
+                act: act.copy(alloc)?,
+            }),
+            Line::Deliver { to, client, seq } => Ok(Line::Deliver {
+                to: *to,
+                client: *client,
+                seq: *seq,
+            }),
+            Line::Report { member } => Ok(Line::Report { member: *member }),
+            Line::Hear { by, of, number } => Ok(Line::Hear {
+                by: *by,
+                of: *of,
+                number: *number,
+            }),
+            Line::Sweep { member, moment } => Ok(Line::Sweep {
+                member: *member,
+                moment: *moment,
+            }),
+            Line::Join { member, from } => Ok(Line::Join {
+                member: *member,
+                from: *from,
+            }),
+        }
+    }
+}
+
 impl Line {
     /// The step, where the line is one of this client.
     pub fn step_of(&self, alloc: Global, client: u8) -> Result<Option<Step>, Memory>

@@ -20,7 +20,11 @@ pub(crate) fn count_up(counts: &mut BTreeMap<u128, u32>, number: u128) -> Result
     ensures ok { OnOk result ((n : ℕ) → count_in counts.new n ≡ (if number == n then 1 else 0) + count_in counts.old n) }
     ensures err { OnErr result ((n : ℕ) → count_in counts.new n ≡ count_in counts.old n) }
 {
-    let count = count_in(counts, number) + 1;
-    counts.insert(number, count)?;
+    match counts.get_mut(&number) {
+        Some(count) => *count += 1,
+        None => {
+            counts.insert(number, 1)?;
+        }
+    }
     Ok(())
 }
