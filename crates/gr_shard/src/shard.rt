@@ -114,28 +114,30 @@ impl Shard {
     {
         let done = self.gives(alloc, ask)?;
         let given = copy_of(alloc, &done)?;
-        self.add_call(alloc, client, seq, ask, done)?;
+        let asked = ask.copy(alloc)?;
+        self.add_call(alloc, client, seq, asked, done)?;
         Ok(given)
     }
 
-    /// Does a client's step as `call` does, and answers what the client is told alone.
+    /// Does a client's step as `call` does, of which it keeps what was asked, and answers what the
+    /// client is told alone.
     pub fn serve(
         &mut self,
         alloc: Global,
         client: u8,
         seq: u32,
-        ask: &Ask,
+        ask: Ask,
     ) -> Result<Served, Memory>
-        requires { shard_of (key_of ask.now) self.old.id.shards ≡ self.old.id.shard }
-        ensures told { IfOk result (λ told. told ≡ served (call_gives self.old.id self.old.opening (reverse self.old.deeds) ask.now)) }
+        requires { shard_of (key_of ask) self.old.id.shards ≡ self.old.id.shard }
+        ensures told { IfOk result (λ told. told ≡ served (call_gives self.old.id self.old.opening (reverse self.old.deeds) ask)) }
         ensures added { OnOk result
             (self.new ≡ record self.old {
               deeds = self.old.deeds
-                  ++ call_with client seq ask.now (call_gives self.old.id self.old.opening (reverse self.old.deeds) ask.now) ∷ [];
+                  ++ call_with client seq ask (call_gives self.old.id self.old.opening (reverse self.old.deeds) ask) ∷ [];
             }) }
         ensures err { OnErr result (self.new ≡ self.old) }
     {
-        let done = self.gives(alloc, ask)?;
+        let done = self.gives(alloc, &ask)?;
         let told = served(alloc, &done)?;
         self.add_call(alloc, client, seq, ask, done)?;
         Ok(told)
@@ -361,21 +363,20 @@ impl Shard {
         alloc: Global,
         client: u8,
         seq: u32,
-        ask: &Ask,
+        ask: Ask,
         done: Done,
     ) -> Result<(), Memory>
-        requires here { shard_of (key_of ask.now) self.old.id.shards ≡ self.old.id.shard }
-        requires gives { done ≡ call_gives self.old.id self.old.opening (reverse self.old.deeds) ask.now }
-        ensures added { OnOk result (self.new ≡ record self.old { deeds = self.old.deeds ++ call_with client seq ask.now done ∷ [] }) }
+        requires here { shard_of (key_of ask) self.old.id.shards ≡ self.old.id.shard }
+        requires gives { done ≡ call_gives self.old.id self.old.opening (reverse self.old.deeds) ask }
+        ensures added { OnOk result (self.new ≡ record self.old { deeds = self.old.deeds ++ call_with client seq ask done ∷ [] }) }
         ensures err { OnErr result (self.new ≡ self.old) }
     {
-        let asked = ask.copy(alloc)?;
         self.history.reserve(1)?;
         self.vector.reserve()?;
         let made = done.made.as_ref();
         come_in(alloc, &mut self.slots, &mut self.queries, self.clock, made)?;
         note(&mut self.vector, made);
-        let _ = self.history.push(deed_of(client, seq, asked, done));
+        let _ = self.history.push(deed_of(client, seq, ask, done));
         Ok(())
     }
 

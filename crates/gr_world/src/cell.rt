@@ -79,10 +79,10 @@ impl Cell {
         at(&self.reported, number as usize - 1)
     }
 
-    pub fn call(&mut self, alloc: Global, step: StepName, ask: &Ask) -> Result<Served, Memory>
-        requires { BelongsTo self.old (Calls step.client step.seq ask.now) }
-        ensures told { IfOk result (λ told. told ≡ served (gives_at self.old ask.now)) }
-        ensures added { OnOk result (self.new ≡ longer self.old (deed_at self.old (Calls step.client step.seq ask.now))) }
+    pub fn call(&mut self, alloc: Global, step: StepName, ask: Ask) -> Result<Served, Memory>
+        requires { BelongsTo self.old (Calls step.client step.seq ask) }
+        ensures told { IfOk result (λ told. told ≡ served (gives_at self.old ask)) }
+        ensures added { OnOk result (self.new ≡ longer self.old (deed_at self.old (Calls step.client step.seq ask))) }
     {
         self.shard.serve(alloc, step.client, step.seq, ask)
     }

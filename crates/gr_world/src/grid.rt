@@ -64,14 +64,14 @@ impl Grid {
         alloc: Global,
         site: Site,
         step: StepName,
-        ask: &Ask,
+        ask: Ask,
     ) -> Result<Served, Memory>
         requires cell { IsCell self.old site.member site.shard }
-        requires here { BelongsTo (account_at self.old site.member site.shard) (Calls step.client step.seq ask.now) }
-        ensures told { IfOk result (λ told. told ≡ served (gives_at (account_at self.old site.member site.shard) ask.now)) }
+        requires here { BelongsTo (account_at self.old site.member site.shard) (Calls step.client step.seq ask) }
+        ensures told { IfOk result (λ told. told ≡ served (gives_at (account_at self.old site.member site.shard) ask)) }
         ensures done { OnOk result
-            (IsDone self.old self.new site.member site.shard (Calls step.client step.seq ask.now)
-            (deed_at (account_at self.old site.member site.shard) (Calls step.client step.seq ask.now))) }
+            (IsDone self.old self.new site.member site.shard (Calls step.client step.seq ask)
+            (deed_at (account_at self.old site.member site.shard) (Calls step.client step.seq ask))) }
     {
         let row = &mut self.rows[usize::from(site.member) - 1];
         row.call(alloc, site.shard, step, ask)

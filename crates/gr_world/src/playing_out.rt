@@ -1,15 +1,14 @@
 ghost use Rattle.std.specs.Prelude.{◌≡◌, [], reverse, IfOk, OnOk};
 ghost use Rattle.gr_script.specs.Scripts.{heading_of};
 ghost use Rattle.gr_world.specs.Clients.{AreServed};
-ghost use Rattle.gr_world.specs.Courses.{after, course};
+ghost use Rattle.gr_world.specs.Courses.{course};
 ghost use Rattle.gr_world.specs.Histories.{KeepsLaws};
 ghost use Rattle.gr_world.specs.Records.{IsReplayed};
-ghost use Rattle.gr_world.specs.Worlds.{CanPlay, IsAtWork, Plays};
 
 use crate::stage::Stage;
 use crate::world::World;
 use gr_history::Record;
-use gr_script::{Line, LineList, Script};
+use gr_script::{LineList, Script};
 use gr_value::Memory;
 use std::alloc::Global;
 
@@ -35,16 +34,6 @@ fn parted(alloc: Global, script: Script) -> Result<(Script, LineList), Memory>
         lines: LineList::new(alloc)?,
     };
     Ok((rest, lines))
-}
-
-// Plays a line and lets go of it.
-fn play_once(world: &mut World, stage: Stage, line: Line) -> Result<(), Memory>
-    requires work { IsAtWork (heading_of stage.script.now) world.old }
-    requires stated { CanPlay (heading_of stage.script.now) line }
-    ensures { IfOk result
-        (λ _. Plays (heading_of stage.entry.script.now) (after (heading_of stage.entry.script.now) line) world.old world.new) }
-{
-    world.play(stage, &line)
 }
 
 // Gives the memory of played lines back, from time to time.
@@ -74,7 +63,7 @@ pub fn play_out(alloc: Global, script: Script) -> Result<Record, Memory>
             alloc,
             script: &bare,
         };
-        play_once(&mut world, stage, line)?;
+        world.play(stage, line)?;
         give_back(&mut lines);
     }
     Ok(world.into_record(alloc, &bare)?)

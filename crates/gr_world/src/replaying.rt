@@ -9,7 +9,7 @@ use crate::stage::Stage;
 use crate::world::World;
 use gr_history::Record;
 use gr_script::Script;
-use gr_value::Memory;
+use gr_value::{Copied, Memory};
 use std::alloc::Global;
 
 /// Plays a script line by line, in its one schedule. What it leaves is all that its course says.
@@ -25,7 +25,7 @@ pub fn replay(alloc: Global, script: &Script) -> Result<Record, Memory>
 {
     let mut world = World::new(alloc, script)?;
     for line in script.lines.as_slice() {
-        world.play(Stage { alloc, script }, line)?;
+        world.play(Stage { alloc, script }, line.copy(alloc)?)?;
     }
     Ok(world.into_record(alloc, script)?)
 }

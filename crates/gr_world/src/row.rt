@@ -61,13 +61,13 @@ impl Row {
         alloc: Global,
         shard: u8,
         step: StepName,
-        ask: &Ask,
+        ask: Ask,
     ) -> Result<Served, Memory>
         requires within { shard < length self.old }
-        requires here { BelongsTo (account_in self.old shard) (Calls step.client step.seq ask.now) }
-        ensures told { IfOk result (λ told. told ≡ served (gives_at (account_in self.old shard) ask.now)) }
+        requires here { BelongsTo (account_in self.old shard) (Calls step.client step.seq ask) }
+        ensures told { IfOk result (λ told. told ≡ served (gives_at (account_in self.old shard) ask)) }
         ensures added { OnOk result
-            (self.new ≡ row_with self.old shard (deed_at (account_in self.old shard) (Calls step.client step.seq ask.now))) }
+            (self.new ≡ row_with self.old shard (deed_at (account_in self.old shard) (Calls step.client step.seq ask))) }
     {
         let cell = &mut self.cells[usize::from(shard)];
         cell.call(alloc, step, ask)

@@ -98,12 +98,12 @@ impl World {
         })
     }
 
-    fn call(&mut self, stage: Stage, step: StepName, ask: &Ask) -> Result<(), Memory>
+    fn call(&mut self, stage: Stage, step: StepName, ask: Ask) -> Result<(), Memory>
         requires work { IsAtWork (heading_of stage.script.now) self.old }
         requires stated { IsStated step.client (heading_of stage.script.now) }
         ensures { IfOk result
             (λ _. Plays (heading_of stage.entry.script.now)
-            (after (heading_of stage.entry.script.now) (line.Step step.client step.seq (act.Call ask.now))) self.old self.new) }
+            (after (heading_of stage.entry.script.now) (line.Step step.client step.seq (act.Call ask))) self.old self.new) }
     {
         let member = home(stage.script, step.client);
         let shard = ask.key().shard(stage.script.shards);
@@ -129,17 +129,17 @@ impl World {
         Ok(self.tellings.tell(client, answer)?)
     }
 
-    fn step(&mut self, stage: Stage, step: StepName, act: &Act) -> Result<(), Memory>
+    fn step(&mut self, stage: Stage, step: StepName, act: Act) -> Result<(), Memory>
         requires work { IsAtWork (heading_of stage.script.now) self.old }
         requires stated { IsStated step.client (heading_of stage.script.now) }
         ensures { IfOk result
             (λ _. Plays (heading_of stage.entry.script.now)
-            (after (heading_of stage.entry.script.now) (line.Step step.client step.seq act.now)) self.old self.new) }
+            (after (heading_of stage.entry.script.now) (line.Step step.client step.seq act)) self.old self.new) }
     {
         match act {
             Act::Call(ask) => Ok(self.call(stage, step, ask)?),
-            Act::Query(ask) => Ok(self.query(stage, step, ask)?),
-            Act::Peek(key) => Ok(self.peek(stage, step.client, key)?),
+            Act::Query(ask) => Ok(self.query(stage, step, &ask)?),
+            Act::Peek(key) => Ok(self.peek(stage, step.client, &key)?),
         }
     }
 
@@ -207,27 +207,23 @@ impl World {
     }
 
     /// Does what a line names.
-    pub fn play(&mut self, stage: Stage, line: &Line) -> Result<(), Memory>
+    pub fn play(&mut self, stage: Stage, line: Line) -> Result<(), Memory>
         requires work { IsAtWork (heading_of stage.script.now) self.old }
-        requires stated { CanPlay (heading_of stage.script.now) line.now }
+        requires stated { CanPlay (heading_of stage.script.now) line }
         ensures { IfOk result
-            (λ _. Plays (heading_of stage.entry.script.now) (after (heading_of stage.entry.script.now) line.now) self.old self.new) }
+            (λ _. Plays (heading_of stage.entry.script.now) (after (heading_of stage.entry.script.now) line) self.old self.new) }
     {
         match line {
             Line::Step { client, seq, act } => {
-                let step = StepName {
-                    client: *client,
-                    seq: *seq,
-                };
-                Ok(self.step(stage, step, act)?)
+                Ok(self.step(stage, StepName { client, seq }, act)?)
             }
-            Line::Deliver { to, client, seq } => Ok(self.deliver(stage, *to, *client, *seq)?),
-            Line::Report { member } => Ok(self.at_each_shard(stage, *member, Task::Report)?),
-            Line::Hear { by, of, number } => Ok(self.hear(stage, *by, *of, *number)?),
+            Line::Deliver { to, client, seq } => Ok(self.deliver(stage, to, client, seq)?),
+            Line::Report { member } => Ok(self.at_each_shard(stage, member, Task::Report)?),
+            Line::Hear { by, of, number } => Ok(self.hear(stage, by, of, number)?),
             Line::Sweep { member, moment } => {
-                Ok(self.at_each_shard(stage, *member, Task::Sweep(*moment))?)
+                Ok(self.at_each_shard(stage, member, Task::Sweep(moment))?)
             }
-            Line::Join { member, from } => Ok(self.join(stage, *member, *from)?),
+            Line::Join { member, from } => Ok(self.join(stage, member, from)?),
         }
     }
 

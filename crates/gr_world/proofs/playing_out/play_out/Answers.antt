@@ -28,8 +28,8 @@ parted before rest played all line is whole =
 ended : (rest played all : List Line) → rest ≡ [] → rest ++ played ≡ all → played ≡ all
 ended rest played all none whole = ap (λ (ls : List Line). ls ++ played) (sym none) ∙ whole
 
-pub play_once-requires-clause-stated : goal.play_once-requires-clause-stated
-play_once-requires-clause-stated c =
+pub play-requires-clause-stated : goal.play-requires-clause-stated
+play-requires-clause-stated c =
     subst (λ (h : Heading). CanPlay h c.in-Some.line) (sym c.in_ok-bare.ensures.heading)
     (next_playable (heading_of c.args.script) c.args.script.lines c.pop.new.self c.loop-line.invariant.0 c.in-Some.line
     c.args.script.ruled (parted _ _ _ _ _ c.in-Some.ensures.item c.loop-line.invariant.1))
@@ -38,8 +38,8 @@ pub loop-line-preserved : goal.loop-line-preserved
 loop-line-preserved c =
     let script = c.args.script in
     let played = c.loop-line.invariant.0 in
-    let plays = subst (λ (h : Heading). Plays h (after h c.in-Some.line) c.loop-line.world c.play_once.new.world)
-    c.in_ok-bare.ensures.heading c.in_ok-play_once.ensures in
+    let plays = subst (λ (h : Heading). Plays h (after h c.in-Some.line) c.loop-line.world c.play.new.world)
+    c.in_ok-bare.ensures.heading c.in_ok-play.ensures in
     (
       c.in-Some.line ∷ played,
       parted _ _ _ _ _ c.in-Some.ensures.item c.loop-line.invariant.1,

@@ -17,13 +17,12 @@ invariant_of-self-2 c =
     let was = c.self.inside in
     let past = reverse was.history.deeds in
     let done = c.args.done in
-    let gives : done ≡ call_gives was.id was.opening past c.args.ask.now = rw (← c.self.view_is) at c.requires.gives in
-    let here : shard_of (key_of c.args.ask.now) was.id.shards ≡ was.id.shard = rw (← c.self.view_is) at c.requires.here in
-    let pushed : c.push.new.self.deeds ≡ was.history.deeds ++ call_with c.args.client c.args.seq c.args.ask.now done ∷ [] =
+    let gives : done ≡ call_gives was.id was.opening past c.args.ask = rw (← c.self.view_is) at c.requires.gives in
+    let here : shard_of (key_of c.args.ask) was.id.shards ≡ was.id.shard = rw (← c.self.view_is) at c.requires.here in
+    let pushed : c.push.new.self.deeds ≡ was.history.deeds ++ call_with c.args.client c.args.seq c.args.ask done ∷ [] =
     on_ok c.push.result (c.push.ensures.room c.in_ok-reserve.ensures.room) c.push.ensures.ok
     ∙ ap (λ deeds. deeds ++ c.deed_of.result ∷ []) c.in_ok-reserve.ensures.deeds
-    ∙ ap (λ deed. was.history.deeds ++ deed ∷ []) c.deed_of.ensures
-    ∙ ap (λ ask. was.history.deeds ++ call_with c.args.client c.args.seq ask done ∷ []) c.in_ok-asked.ensures in
+    ∙ ap (λ deed. was.history.deeds ++ deed ∷ []) c.deed_of.ensures in
     let noted : c.note.new.vector.ids ≡ with_made done.made was.vector.ids =
     c.note.ensures ∙ ap (λ m. with_made m c.reserve-2.new.self.ids) c.as_ref-made.ensures.value
     ∙ ap (λ v. with_made done.made v.ids) c.in_ok-reserve-2.ensures.room in
@@ -36,4 +35,4 @@ invariant_of-self-2 c =
     (kept_called was.id was.opening (kept was.slots was.vector.ids was.floor was.clock was.joined was.to was.heard was.given
     was.queries.entries) past
     c.args.client c.args.seq
-    c.args.ask.now done.reply done.made done.to c.self.invariant here gives)
+    c.args.ask done.reply done.made done.to c.self.invariant here gives)
