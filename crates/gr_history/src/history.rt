@@ -72,6 +72,7 @@ impl History {
     }
 
     /// Puts a deed last. Where memory is refused the deed is dropped.
+    #[inline(always)]
     pub fn push(&mut self, deed: Deed) -> Result<(), Memory>
         ensures ok { OnOk result (self.new.deeds ≡ self.old.deeds ++ deed ∷ []) }
         ensures err { OnErr result (self.new.deeds ≡ self.old.deeds) }

@@ -1,7 +1,7 @@
 -- A step whose line is spelled as it is printed.
-use Rattle.std.proofs.Common.{◌≡◌, ◌∙◌, ℕ, ◌+◌, ◌*◌, ◌-◌, ◌/◌, ◌%◌, ◌≤◌, ◌<◌, List, [], ◌∷◌, ◌++◌, Bool, true, false, ◌&&◌, eqb, cond, Option, Some, None}
-use Rattle.std.proofs.Common.{option_map, refl, sym, ap, subst, arith, inl, inr, decimal, length, take, drop, slice_index_or}
-use Rattle.std.specs.Prelude.{bytes_eq, find, IfSome, ⊤}
+use Rattle.std.proofs.Common.{◌≡◌, ◌∙◌, ℕ, ◌+◌, ◌*◌, ◌-◌, ◌/◌, ◌%◌, ◌≤◌, ◌<◌, List, [], ◌∷◌, ◌++◌, Bool, true, false, ◌&&◌, eqb, Option, Some, None}
+use Rattle.std.proofs.Common.{refl, sym, ap, subst, arith, inl, inr, decimal, length, take, drop, slice_index_or}
+use Rattle.std.specs.Prelude.{bytes_eq, IfSome}
 use Rattle.std.proofs.lemmas.Bool.{cases_Bool, eqb-true, cond-true, cond-false}
 use Rattle.std.proofs.lemmas.Fmt.{decimal_digit}
 use Rattle.std.proofs.lemmas.List.{append-nil}
@@ -17,11 +17,9 @@ use Rattle.gr_script.specs.declared.forms.LineKind.{LineKind}
 use Rattle.gr_script.specs.declared.forms.LineKind.TheVariants as kind
 use Rattle.gr_script.specs.declared.line.Act.{Act}
 use Rattle.gr_script.specs.declared.line.Act.TheVariants.{Call, Query, Peek}
-use Rattle.gr_script.specs.declared.plain.PlainStep.{PlainStep}
 use Rattle.gr_script.specs.Forms.{word, kind_of, step_kinds}
 use Rattle.gr_script.specs.Plain.{IsPrinted, IsSpelled, IsPlain}
-use Rattle.gr_script.specs.Printed.{act_saying, IsActKept}
-use Rattle.gr_script.specs.Printing.{saying_text, spaced}
+use Rattle.gr_script.specs.Printed.{act_saying}
 use Rattle.gr_script.specs.Refusals.{is_replayed}
 use Rattle.gr_script.specs.Texts.{cut}
 use Rattle.gr_script.proofs.Texts.{with_first, cut_there}

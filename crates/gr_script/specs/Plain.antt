@@ -3,7 +3,7 @@ use Rattle.std.specs.Prelude.{◌≡◌, ℕ, List, ◌∷◌, ◌++◌, ⊤}
 use Rattle.std.specs.Fmt.{decimal}
 use Rattle.gr_script.specs.declared.forms.LineKind.{LineKind}
 use Rattle.gr_script.specs.declared.line.Act.{Act}
-use Rattle.gr_script.specs.declared.line.Act.TheVariants.{Call, Query, Peek}
+use Rattle.gr_script.specs.declared.line.Act.TheVariants.{Query}
 use Rattle.gr_script.specs.declared.plain.PlainStep.{PlainStep}
 use Rattle.gr_script.specs.Forms.{word}
 use Rattle.gr_script.specs.Printed.{act_saying, IsActKept}

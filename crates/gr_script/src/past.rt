@@ -11,14 +11,14 @@ ghost use Rattle.gr_script.specs.declared.saying.Saying.{Saying};
 ghost use Rattle.gr_script.specs.Past.{stage, region, members, founders, clients, steps, reports, joins};
 ghost use Rattle.gr_script.specs.Past.{homes as homes_of, home, number as number_in, setting, sizes};
 
-use crate::{Line, LineList};
 use crate::forms::{LineKind, is_kind, is_step, rank};
 use crate::items::Setting;
-use crate::plain::PlainStep;
 use crate::note::{counted, homes_with, is_query, next_rank, region_with, stated_with};
+use crate::plain::PlainStep;
 use crate::said::line_of;
 use crate::saying::{Saying, number};
 use crate::tally::{count_in as count_of, count_up};
+use crate::{Line, LineList};
 use gr_value::{ItemList, Key, Memory};
 use std::alloc::Global;
 use std::collections::BTreeMap;
@@ -85,8 +85,8 @@ impl Model for Past {
     ghost use Rattle.gr_script.specs.Index.{IsIndex};
     ghost use Rattle.gr_script.specs.Kept.{kept_sayings};
     ghost use Rattle.gr_script.specs.Plain.{IsPlain};
-ghost use Rattle.gr_script.specs.Printed.{act_saying, saying_in};
-ghost use Rattle.gr_script.specs.Said.{line_of as line_said, lines_said};
+    ghost use Rattle.gr_script.specs.Printed.{act_saying, saying_in};
+    ghost use Rattle.gr_script.specs.Said.{line_of as line_said, lines_said};
     ghost use Rattle.std.specs.Coded.{codes};
     ghost use Rattle.gr_oql.specs.Code.{tree_code};
 

@@ -121,13 +121,7 @@ impl Shard {
 
     /// Does a client's step as `call` does, of which it keeps what was asked, and answers what the
     /// client is told alone.
-    pub fn serve(
-        &mut self,
-        alloc: Global,
-        client: u8,
-        seq: u32,
-        ask: Ask,
-    ) -> Result<Served, Memory>
+    pub fn serve(&mut self, alloc: Global, client: u8, seq: u32, ask: Ask) -> Result<Served, Memory>
         requires { shard_of (key_of ask) self.old.id.shards ≡ self.old.id.shard }
         ensures told { IfOk result (λ told. told ≡ served (call_gives self.old.id self.old.opening (reverse self.old.deeds) ask)) }
         ensures added { OnOk result

@@ -12,6 +12,7 @@ use std::marker::Model;
 #[derive(Drop)]
 pub struct Made {
     alloc: Global,
+    room: usize,
     rows: Vec<Noted>,
 }
 
@@ -25,11 +26,14 @@ impl Model for Made {
 }
 
 impl Made {
-    pub fn new(alloc: Global) -> Made
+    /// No step made anything yet. There will be room for so many steps of each client that makes
+    /// something.
+    pub fn new(alloc: Global, room: usize) -> Made
         ensures { result ≡ [] }
     {
         Made {
             alloc,
+            room,
             rows: Vec::new(alloc),
         }
     }
@@ -49,7 +53,7 @@ impl Made {
         ensures long { IfOk result (λ _. client < length self.new) }
     {
         while self.rows.len() <= client {
-            self.rows.push(Noted::new(self.alloc))?;
+            self.rows.push(Noted::new(self.alloc, self.room)?)?;
         }
         Ok(())
     }

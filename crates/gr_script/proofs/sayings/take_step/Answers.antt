@@ -1,4 +1,4 @@
-use Rattle.std.proofs.Common.{◌≡◌, ◌∙◌, ◌≤◌, List, ◌∷◌, Bool, Option, Ok, Result, IfSome, ap, sym, subst, arith}
+use Rattle.std.proofs.Common.{◌∙◌, ◌≤◌, List, Option, Ok, Result, IfSome, ap, sym, subst, arith}
 use Rattle.gr_script.specs.declared.plain.PlainStep.{PlainStep}
 use Rattle.gr_script.specs.declared.reason.Reason.{Reason}
 use Rattle.gr_script.specs.declared.items.Setting.{Setting}
