@@ -30,7 +30,7 @@ impl<T> ItemList<T> {
     }
 
     /// The list with no items, and room for so many.
-    pub fn with_room(alloc: Global, items: usize) -> Result<ItemList<T>, Memory>
+    pub(crate) fn with_room(alloc: Global, items: usize) -> Result<ItemList<T>, Memory>
         ensures { IfOk result (λ list. list ≡ []) }
     {
         Ok(ItemList {

@@ -12,7 +12,6 @@ use std::marker::Model;
 #[derive(Drop)]
 pub struct Made {
     alloc: Global,
-    room: usize,
     rows: Vec<Noted>,
 }
 
@@ -26,14 +25,11 @@ impl Model for Made {
 }
 
 impl Made {
-    /// No step made anything yet. There will be room for so many steps of each client that makes
-    /// something.
-    pub fn new(alloc: Global, room: usize) -> Made
+    pub fn new(alloc: Global) -> Made
         ensures { result ≡ [] }
     {
         Made {
             alloc,
-            room,
             rows: Vec::new(alloc),
         }
     }
@@ -53,7 +49,7 @@ impl Made {
         ensures long { IfOk result (λ _. client < length self.new) }
     {
         while self.rows.len() <= client {
-            self.rows.push(Noted::new(self.alloc, self.room)?)?;
+            self.rows.push(Noted::new(self.alloc))?;
         }
         Ok(())
     }

@@ -46,12 +46,12 @@ fn nowhere() -> DeedPlace
 }
 
 impl Noted {
-    pub fn new(alloc: Global, room: usize) -> Result<Noted, Memory>
-        ensures { IfOk result (λ noted. noted ≡ []) }
+    pub fn new(alloc: Global) -> Noted
+        ensures { result ≡ [] }
     {
-        Ok(Noted {
-            places: Vec::with_capacity(alloc, room)?,
-        })
+        Noted {
+            places: Vec::new(alloc),
+        }
     }
 
     #[tactic(auto, using(crate::proofs::Kept::get_kept))]

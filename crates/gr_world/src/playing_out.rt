@@ -56,8 +56,8 @@ pub fn play_out(alloc: Global, script: Script) -> Result<Record, Memory>
     ensures served { OnOk result
         (AreServed (heading_of script) (reverse script.lines) (course (heading_of script) (reverse script.lines))) }
 {
-    let mut world = World::new(alloc, &script)?;
     let (bare, mut lines) = parted(alloc, script)?;
+    let mut world = World::new(alloc, &bare)?;
     while let Some(line) = lines.pop() {
         let stage = Stage {
             alloc,

@@ -23,13 +23,12 @@ impl Model for Tellings {
 }
 
 impl Tellings {
-    /// No client was told anything yet, and there is room for so many answers to each.
-    pub fn new(alloc: Global, clients: usize, room: usize) -> Result<Tellings, Memory>
+    pub fn new(alloc: Global, clients: usize) -> Result<Tellings, Memory>
         ensures { IfOk result (λ tellings. tellings ≡ numbers_from 1 clients (λ _. [])) }
     {
         let mut lists = Vec::new(alloc);
         for _client in 0..clients {
-            lists.push(AnswerList::with_room(alloc, room)?)?;
+            lists.push(AnswerList::new(alloc)?)?;
         }
         Ok(Tellings { lists })
     }

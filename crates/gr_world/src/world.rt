@@ -91,12 +91,10 @@ impl World {
             shard: 0,
             shards: script.shards,
         };
-        let clients = script.clients.len();
-        let room = script.lines.len() / clients.max(1);
         Ok(World {
             grid: Grid::new(alloc, id, script.floor)?,
-            tellings: Tellings::new(alloc, clients, room)?,
-            made: Made::new(alloc, room),
+            tellings: Tellings::new(alloc, script.clients.len())?,
+            made: Made::new(alloc),
         })
     }
 
