@@ -1,7 +1,7 @@
 ghost use Rattle.std.specs.Prelude.{◌≡◌, ◌++◌, OnOk, option_copied};
 ghost use Rattle.gr_report.specs.Answers.{reply_text, peeked_text, answer_text, answer_line, client_text};
 
-use crate::put::{put_number, put_text};
+use crate::put::{put_byte, put_number, put_text};
 use crate::queries::put_replies;
 use crate::written::{Numbered, Written, put_numbered};
 use gr_history::{Answer, ClientRecord, Reply};
@@ -56,11 +56,11 @@ impl Numbered for Answer {
     #[tactic(auto, unfolding(crate::specs::Answers::answer_line))]
     fn put(&self, alloc: Global, out: &mut Vec<u8>, owner: u8, number: u64) -> Result<(), Memory> {
         put_number(out, u128::from(owner))?;
-        put_text(out, ".")?;
+        put_byte(out, b'.')?;
         put_number(out, u128::from(number))?;
-        put_text(out, " ")?;
+        put_byte(out, b' ')?;
         put_answer(alloc, out, self)?;
-        put_text(out, "\n")
+        put_byte(out, b'\n')
     }
 }
 
