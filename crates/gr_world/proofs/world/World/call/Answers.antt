@@ -22,7 +22,7 @@ pub call-requires-clause-here : goal.call-requires-clause-here
 call-requires-clause-here c =
     let script = c.args.stage.script.now in
     let at = c.shard-shard.ensures ∙ ap (λ k. shard_of k script.shards) c.key.ensures in
-    work_shard (heading_of script) c.args.self.now c.home-member.result c.shard-shard.result (key_of c.args.ask.now) c.requires.work
+    work_shard (heading_of script) c.args.self.now c.home-member.result c.shard-shard.result (key_of c.args.ask) c.requires.work
     c.home-member.ensures.member script.ruled.heading.shards.0 at
 
 pub tell-requires-clause-stated : goal.tell-requires-clause-stated
@@ -37,13 +37,13 @@ returns c =
     let member = c.home-member.result in
     let shard = c.shard-shard.result in
     let old = c.args.self.now in
-    let done = gives_at (account_at old.grid member shard) c.args.ask.now in
+    let done = gives_at (account_at old.grid member shard) c.args.ask in
     let told : c.in_ok-told.told ≡ served done = c.in_ok-told.ensures.told in
     let place : DeedPlace = record { site = record { member = member; shard = shard }; at = c.len-at.result } in
     call_plays (heading_of script) old _ member shard c.len-at.result step.client
-    step.seq c.args.ask.now
+    step.seq c.args.ask
     done c.home-member.ensures.member c.requires.stated c.home-member.ensures.home at
-    (shard_within (key_of c.args.ask.now) shard script.shards script.ruled.heading.shards.0 at) c.in_ok-told.ensures.done
+    (shard_within (key_of c.args.ask) shard script.shards script.ruled.heading.shards.0 at) c.in_ok-told.ensures.done
     (c.len-at.ensures ∙ ap (λ deeds. length deeds) c.history.ensures.deeds ∙ ap (λ account. length account.deeds)
     (c.shard.ensures ∙ c.cell.ensures))
     (subst (λ noted. Notes step.client step.seq noted old.made c.note.new.noted)
