@@ -205,9 +205,9 @@ kept_found heading event events (Some place) made is = record {
 pub kept_made : (heading : Heading) (event : Event) (events : List Event) (table : List (List (Option DeedPlace)))
     → ((client number : ℕ) → made_by client number events ≡ made_by client number (event ∷ events))
     → HasMade heading events table → HasMade heading (event ∷ events) table
-kept_made heading event events table same has client number =
+kept_made heading event events table same has many client number =
     subst (IsFound heading (event ∷ events) (place_of table client number)) (same client number)
-    (kept_found heading event events _ _ (has client number))
+    (kept_found heading event events _ _ (has many client number))
 
 -- What a call made stands behind all that stood in its history.
 made_last : (heading : Heading) (events : List Event) (place : DeedPlace) (deed : Deed)
@@ -239,7 +239,8 @@ pub call_plays : (heading : Heading) (old new : World) (member shard at client s
     → member ≡ home_of heading client → shard ≡ shard_of (key_of ask) heading.shards → shard < heading.shards
     → IsDone old.grid new.grid member shard (Calls client seq ask) (call_with client seq ask done)
     → at ≡ length (account_at old.grid member shard).deeds
-    → Notes client seq (option_map (λ _. record { site = record { member = member; shard = shard }; at = at }) done.made) old.made new.made
+    → (1 < heading.members
+    → Notes client seq (option_map (λ _. record { site = record { member = member; shard = shard }; at = at }) done.made) old.made new.made)
     → new.tellings ≡ told_also old.tellings client (answer.Reply done.reply)
     → Plays heading (after heading (Step client seq (act.Call ask))) old new
 call_plays heading old new member shard at client seq ask done is stated at_home at_shard within called behind notes tells events world =
@@ -258,8 +259,8 @@ call_plays heading old new member shard at client seq ask done is stated at_home
       grid_is = made.1;
       tellings_are = tellings ∙ ap (tellings_left heading) same;
       made_are = subst (λ all. HasMade heading all new.made) same
-          (λ own number. subst (λ found. IsFound heading did found (made_by own number did)) (sym (notes own number))
-          (noted at_end (client == own && seq == number) done.made _ _ refl (world.made_are own number)));
+          (λ many own number. subst (λ found. IsFound heading did found (made_by own number did)) (sym (notes many own number))
+          (noted at_end (client == own && seq == number) done.made _ _ refl (world.made_are many own number)));
     } in
     subst (λ s. IsWorld heading (does heading (home_of heading client) s doing events) new) at_shard
     (subst (λ m. IsWorld heading (does heading m shard doing events) new) at_home here)
@@ -335,24 +336,24 @@ abbrev pub IsChangeOf : Heading → World → ℕ → ℕ → Option Change → 
 IsChangeOf heading world client seq made = (events : List Event) → IsWorld heading events world → made ≡ made_by client seq events
 
 -- What stands at the place that the table has is what the step made.
-pub found_change : (heading : Heading) (world : World) (client seq : ℕ) (place : DeedPlace)
+pub found_change : (heading : Heading) (world : World) (client seq : ℕ) (place : DeedPlace) → 1 < heading.members
     → place_of world.made client seq ≡ Some place
     → IsChangeOf heading world client seq
     (option_and_then made_in (slice_get (account_at world.grid place.site.member place.site.shard).deeds place.at))
-found_change heading world client seq place is_found events is =
+found_change heading world client seq place many is_found events is =
     let stands : StandsAt heading events place (made_by client seq events) =
-    subst (λ found. IsFound heading events found (made_by client seq events)) is_found (is.made_are client seq) in
+    subst (λ found. IsFound heading events found (made_by client seq events)) is_found (is.made_are many client seq) in
     ap (λ grid. option_and_then made_in (slice_get (account_at grid place.site.member place.site.shard).deeds place.at)) is.grid_is
     ∙ ap (λ account. option_and_then made_in (slice_get account.deeds place.at))
     (cell_left heading events place.site.member place.site.shard stands.member stands.shard)
     ∙ ap (option_and_then made_in) stands.found ∙ stands.made_is
 
-pub found_cell : (heading : Heading) (world : World) (client seq : ℕ) (place : DeedPlace)
+pub found_cell : (heading : Heading) (world : World) (client seq : ℕ) (place : DeedPlace) → 1 < heading.members
     → place_of world.made client seq ≡ Some place → IsAtWork heading world
     → IsCell world.grid place.site.member place.site.shard
-found_cell heading world client seq place is_found (events, is) =
+found_cell heading world client seq place many is_found (events, is) =
     let stands : StandsAt heading events place (made_by client seq events) =
-    subst (λ found. IsFound heading events found (made_by client seq events)) is_found (is.made_are client seq) in
+    subst (λ found. IsFound heading events found (made_by client seq events)) is_found (is.made_are many client seq) in
     subst (λ grid. IsCell grid place.site.member place.site.shard) (sym is.grid_is)
     (is_cell heading events place.site.member place.site.shard stands.member stands.shard)
 

@@ -110,10 +110,10 @@ abbrev pub IsFound : Heading → List Event → Option DeedPlace → Option Chan
 IsFound heading events None made = made ≡ None
 IsFound heading events (Some place) made = StandsAt heading events place made
 
--- The place of what each step made is noted.
+-- The place of what each step made is noted, where there are others to whom it may be delivered.
 abbrev pub HasMade : Heading → List Event → List (List (Option DeedPlace)) → Type 0
 HasMade heading events made =
-    (client seq : ℕ) → IsFound heading events (place_of made client seq) (made_by client seq events)
+    1 < heading.members → (client seq : ℕ) → IsFound heading events (place_of made client seq) (made_by client seq events)
 
 pub record IsWorld (heading : Heading) (events : List Event) (world : World) : Type 0 where
   pub grid_is : world.grid ≡ grid_left heading events
@@ -142,7 +142,7 @@ pub record AreAsked (heading : Heading) (client number : ℕ) (ask : QueryAsk) (
 -- A step of a client that is stated, or what members do.
 abbrev pub CanPlay : Heading → Line → Type 0
 CanPlay heading (Step client seq act) = IsStated client heading
-CanPlay heading (Deliver to client seq) = IsMember heading to
+CanPlay heading (Deliver to client seq) = IsMember heading to × (1 < heading.members)
 CanPlay heading (line.Report member) = IsMember heading member
 CanPlay heading (Hear by of number) = IsMember heading by × IsMember heading of
 CanPlay heading (Sweep member moment) = IsMember heading member

@@ -1,4 +1,4 @@
-ghost use Rattle.std.specs.Prelude.{◌≡◌, ◌≤◌, ℕ, List, [], length, reverse, IfOk, Some, None, if◌then◌else◌, option_and_then, slice_get};
+ghost use Rattle.std.specs.Prelude.{◌≡◌, ◌≤◌, ◌<◌, ℕ, List, [], length, reverse, IfOk, Some, None, if◌then◌else◌, option_and_then, slice_get};
 ghost use Rattle.gr_script.specs.declared.line.Act.TheVariants as act;
 ghost use Rattle.gr_script.specs.declared.line.Line.TheVariants as line;
 ghost use Rattle.gr_script.specs.Rules.{IsMember, IsStated, home_of};
@@ -37,12 +37,19 @@ pub struct World {
     pub made: Made,
 }
 
-// Notes where what a step made stands, if it made anything.
-fn note(noted: &mut Made, step: StepName, place: DeedPlace, made: bool) -> Result<(), Memory>
+// Notes where what a step made stands, if it made anything that may be delivered to others.
+fn note(
+    noted: &mut Made,
+    members: u8,
+    step: StepName,
+    place: DeedPlace,
+    made: bool,
+) -> Result<(), Memory>
     requires { 1 ≤ place.site.member }
-    ensures { IfOk result (λ _. Notes step.client step.seq (if made then Some place else None) noted.old noted.new) }
+    ensures { IfOk result
+        (λ _. 1 < members → Notes step.client step.seq (if made then Some place else None) noted.old noted.new) }
 {
-    if made {
+    if made && members > 1 {
         noted.note(step, place)?;
     }
     Ok(())
@@ -110,7 +117,14 @@ impl World {
         let site = Site { member, shard };
         let at = self.grid.cell(site).shard().history().len();
         let told = self.grid.call(stage.alloc, site, step, ask)?;
-        note(&mut self.made, step, DeedPlace { site, at }, told.made)?;
+        let members = stage.script.members;
+        note(
+            &mut self.made,
+            members,
+            step,
+            DeedPlace { site, at },
+            told.made,
+        )?;
         Ok(self.tellings.tell(step.client, Answer::Reply(told.reply))?)
     }
 
@@ -146,6 +160,7 @@ impl World {
     // What a step made, if it made anything.
     fn change_of(&self, stage: Stage, client: u8, seq: u32) -> Result<Option<Change>, Memory>
         requires work { IsAtWork (heading_of stage.script.now) self.now }
+        requires many { 1 < stage.script.now.members }
         ensures { IfOk result (λ made. (events : List Event)
             → IsWorld (heading_of stage.entry.script.now) events self.now → made ≡ made_by client seq events) }
     {
@@ -159,6 +174,7 @@ impl World {
     fn deliver(&mut self, stage: Stage, to: u8, client: u8, seq: u32) -> Result<(), Memory>
         requires work { IsAtWork (heading_of stage.script.now) self.old }
         requires member { IsMember (heading_of stage.script.now) to }
+        requires many { 1 < stage.script.now.members }
         ensures { IfOk result
             (λ _. Plays (heading_of stage.entry.script.now)
             (after (heading_of stage.entry.script.now) (line.Deliver to client seq)) self.old self.new) }

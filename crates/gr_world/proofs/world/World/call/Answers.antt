@@ -46,6 +46,6 @@ returns c =
     (shard_within (key_of c.args.ask) shard script.shards script.ruled.heading.shards.0 at) c.in_ok-told.ensures.done
     (c.len-at.ensures ∙ ap (λ deeds. length deeds) c.history.ensures.deeds ∙ ap (λ account. length account.deeds)
     (c.shard.ensures ∙ c.cell.ensures))
-    (subst (λ noted. Notes step.client step.seq noted old.made c.note.new.noted)
-    (ap (λ t. if t.made then Some place else None) told ∙ placed place done.made) c.in_ok-note.ensures)
+    (λ many. subst (λ noted. Notes step.client step.seq noted old.made c.note.new.noted)
+    (ap (λ t. if t.made then Some place else None) told ∙ placed place done.made) (c.in_ok-note.ensures many))
     (c.in_ok-tell.ensures ∙ ap (λ t. told_also old.tellings step.client (Reply t.reply)) told)

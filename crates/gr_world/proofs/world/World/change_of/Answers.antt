@@ -8,11 +8,11 @@ use Rattle.gr_world.proofs.world.World.change_of.Goals as goal
 pub cell-requires : goal.cell-requires
 cell-requires c =
     found_cell (heading_of c.args.stage.script.now) c.args.self.now c.args.client c.args.seq c.in-Some.place
-    (sym c.find.ensures ∙ c.in-Some.is) c.requires.work
+    c.requires.many (sym c.find.ensures ∙ c.in-Some.is) c.requires.work
 
 pub returns : goal.returns
 returns c events world =
     c.in_ok-made_at.ensures ∙ ap (λ deeds. option_and_then made_in (slice_get deeds c.in-Some.place.at))
     (c.history.ensures.deeds ∙ ap (λ account. account.deeds) (c.shard-shard.ensures ∙ c.cell.ensures))
     ∙ found_change (heading_of c.args.stage.script.now) c.args.self.now c.args.client c.args.seq c.in-Some.place
-    (sym c.find.ensures ∙ c.in-Some.is) events world
+    c.requires.many (sym c.find.ensures ∙ c.in-Some.is) events world
