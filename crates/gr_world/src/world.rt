@@ -117,14 +117,8 @@ impl World {
         let site = Site { member, shard };
         let at = self.grid.cell(site).shard().history().len();
         let told = self.grid.call(stage.alloc, site, step, ask)?;
-        let members = stage.script.members;
-        note(
-            &mut self.made,
-            members,
-            step,
-            DeedPlace { site, at },
-            told.made,
-        )?;
+        let place = DeedPlace { site, at };
+        note(&mut self.made, stage.script.members, step, place, told.made)?;
         Ok(self.tellings.tell(step.client, Answer::Reply(told.reply))?)
     }
 
