@@ -38,10 +38,11 @@ pub loop-line-preserved : goal.loop-line-preserved
 loop-line-preserved c =
     let script = c.args.script in
     let played = c.loop-line.invariant.0 in
-    let plays = subst (λ (h : Heading). Plays h (after h c.in-Some.line) c.loop-line.world c.play.new.world)
+    let plays = subst (λ (h : Heading). Plays h (after h c.in-Some.line) c.loop-line.world c.play.new.self)
     c.in_ok-bare.ensures.heading c.in_ok-play.ensures in (
       c.in-Some.line ∷ played,
-      parted _ _ _ _ _ c.in-Some.ensures.item c.loop-line.invariant.1,
+      ap (λ (ls : List Line). ls ++ c.in-Some.line ∷ played) c.give_back.ensures
+          ∙ parted _ _ _ _ _ c.in-Some.ensures.item c.loop-line.invariant.1,
       plays (course (heading_of script) played) c.loop-line.invariant.2,
     )
 

@@ -22,8 +22,9 @@ play-requires-clause-stated c =
     let line = c.line-item.result in
     let i = c.loop-line.line-index in
     let CanAt : List Line → Type 0 = λ lines. i < length lines → line ≡ get_or lines i line → CanPlay heading line in
-    subst CanAt (sym c.as_slice-line-items.ensures) (can_play heading c.args.script.now.lines c.args.script.now.ruled i line)
-    c.loop-line-test.true c.line-item.is
+    subst (CanPlay heading) (sym c.in_ok-copy.ensures)
+    (subst CanAt (sym c.as_slice-line-items.ensures) (can_play heading c.args.script.now.lines c.args.script.now.ruled i line)
+    c.loop-line-test.true c.line-item.is)
 
 pub returns-clause-laws : goal.returns-clause-laws
 returns-clause-laws c =
