@@ -114,29 +114,18 @@ space_joined text parts is =
 -- ---- what is printed for a step
 
 module _ (key : List ℕ) (kept : IsKey key) where
+  alone : (form : LineKind) (client : ℕ) → decimal client ++ 0x20 ∷ (word form ++ 0x20 ∷ (key ++ []))
+      ≡ decimal client ++ 0x20 ∷ (word form ++ 0x20 ∷ key)
+  alone form client = ap (λ (k : List ℕ). decimal client ++ 0x20 ∷ (word form ++ 0x20 ∷ k)) (append-nil key)
+
   pub get_spelled : IsSpelled kind.Get key (Call (ask.Get key))
-  get_spelled = record {
-    text = λ client. ap (λ (k : List ℕ). decimal client ++ 0x20 ∷ (word kind.Get ++ 0x20 ∷ k)) (append-nil key);
-    is = λ client. refl;
-    kept = kept;
-    plain = tt;
-  }
+  get_spelled = record { text = alone kind.Get; is = λ client. refl; kept = kept; plain = tt }
 
   pub destroy_spelled : IsSpelled kind.Destroy key (Call (ask.Destroy key))
-  destroy_spelled = record {
-    text = λ client. ap (λ (k : List ℕ). decimal client ++ 0x20 ∷ (word kind.Destroy ++ 0x20 ∷ k)) (append-nil key);
-    is = λ client. refl;
-    kept = kept;
-    plain = tt;
-  }
+  destroy_spelled = record { text = alone kind.Destroy; is = λ client. refl; kept = kept; plain = tt }
 
   pub peek_spelled : IsSpelled kind.Peek key (Peek key)
-  peek_spelled = record {
-    text = λ client. ap (λ (k : List ℕ). decimal client ++ 0x20 ∷ (word kind.Peek ++ 0x20 ∷ k)) (append-nil key);
-    is = λ client. refl;
-    kept = kept;
-    plain = tt;
-  }
+  peek_spelled = record { text = alone kind.Peek; is = λ client. refl; kept = kept; plain = tt }
 
 module _ (key : List ℕ) (value : List Field) (is_key : IsKey key) (is_value : IsValue value) where
   behind : (form : LineKind) (client : ℕ)

@@ -97,26 +97,6 @@ fn tell(queries: &mut Registry, foreseen: Option<Foreseen>)
     }
 }
 
-// Sets what came in at this clock, if anything did, and tells the queries, of which there are some.
-#[inline(never)]
-fn enter_and_tell(
-    alloc: Global,
-    slots: &mut Slots,
-    queries: &mut Registry,
-    clock: u64,
-    came: Option<&Change>,
-) -> Result<(), Memory>
-    ensures slots { OnOk result (slots.new ≡ with_change (option_copied came.entry) clock slots.old) }
-    ensures told { OnOk result (queries.new.entries ≡ noted (turned_by_change slots.old (option_copied came.entry)) queries.old.entries) }
-    ensures slots_err { OnErr result (slots.new ≡ slots.old) }
-    ensures told_err { OnErr result (queries.new.entries ≡ queries.old.entries) }
-{
-    let foreseen = foresee_change(alloc, queries, slots, came)?;
-    enter(alloc, slots, clock, came)?;
-    tell(queries, foreseen);
-    Ok(())
-}
-
 /// Sets what came in at this clock, if anything did, and tells the open queries.
 #[inline(always)]
 pub fn come_in(
@@ -132,10 +112,12 @@ pub fn come_in(
     ensures told_err { OnErr result (queries.new.entries ≡ queries.old.entries) }
 {
     if queries.is_empty() {
-        enter(alloc, slots, clock, came)
-    } else {
-        enter_and_tell(alloc, slots, queries, clock, came)
+        return enter(alloc, slots, clock, came);
     }
+    let foreseen = foresee_change(alloc, queries, slots, came)?;
+    enter(alloc, slots, clock, came)?;
+    tell(queries, foreseen);
+    Ok(())
 }
 
 /// Takes over slots in the place of those before and further ids, and tells the open queries.
