@@ -9,6 +9,7 @@ pub mod Ordered
 pub mod Pushed
 pub mod Puts
 pub mod Reports
+pub mod Rows
 pub mod Slots
 pub mod Sweeps
 pub mod Following

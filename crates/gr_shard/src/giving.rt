@@ -31,7 +31,7 @@ pub fn standing(alloc: Global, slots: &Slots) -> Result<ChangeList, Memory>
     ensures ordered { OnOk result (IsStrictlySortedBy (slice_cmp nat_cmp) (keys_of slots.now)) }
 {
     let mut changes = ChangeList::new(alloc)?;
-    for (key, slot) in slots.rows() {
+    for (key, slot) in slots.rows(alloc)? {
         changes.push(change_of(alloc, key, slot)?)?;
     }
     Ok(changes)

@@ -101,7 +101,7 @@ pub fn merged(
     ensures ordered { OnOk result (IsStrictlySortedBy (slice_cmp nat_cmp) (keys_of slots.now)) }
 {
     let mut left = rows_over(alloc, image.rows.as_slice(), known, clock, slots)?;
-    for (key, slot) in slots.rows() {
+    for (key, slot) in slots.rows(alloc)? {
         set_unknown(alloc, &mut left, &image.vector, key, slot)?;
     }
     Ok(left)

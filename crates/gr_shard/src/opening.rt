@@ -37,7 +37,7 @@ pub fn rows_of(alloc: Global, query: &Query, slots: &Slots) -> Result<RowList, M
     ensures { IfOk result (λ rows. (past : List Deed) → Hold slots.now past → rows ≡ rows_of query.now past) }
 {
     let mut rows = RowList::new(alloc)?;
-    for (key, slot) in slots.rows() {
+    for (key, slot) in slots.rows(alloc)? {
         push_row(alloc, &mut rows, query, key, slot)?;
     }
     Ok(rows)

@@ -38,11 +38,12 @@ pub fn region(alloc: Global, slots: &Slots, floor: u64, vector: Vector) -> Resul
     ensures ordered { OnOk result (IsStrictlySortedBy (slice_cmp nat_cmp) (keys_of slots.now)) }
 {
     let mut rows = ChangeList::new(alloc)?;
-    let entries = slots.rows();
+    let entries = slots.rows(alloc)?;
+    let count = entries.len();
     for (key, slot) in entries {
         push_put(alloc, &mut rows, key, slot)?;
     }
-    let tombstones = (entries.len() - rows.len()) as u64;
+    let tombstones = (count - rows.len()) as u64;
     Ok(Region {
         rows,
         tombstones,

@@ -161,7 +161,7 @@ fn is_other(old: Option<&Slot>, new: Option<&Slot>) -> bool
 fn add_keys(alloc: Global, keys: &mut BTreeSet<Key>, slots: &Slots) -> Result<(), Memory>
     ensures { OnOk result (keys.new.keys ≡ with_keys keys.old.keys slots.now) }
 {
-    for (key, _) in slots.rows() {
+    for (key, _) in slots.rows(alloc)? {
         keys.insert(key.copy(alloc)?)?;
     }
     Ok(())

@@ -35,7 +35,7 @@ use Rattle.std.specs.Cmp.Lexicographic.{slice_cmp}
 use Rattle.std.specs.List.{list_any, AllByRecursion, IsDistinct}
 use Rattle.std.specs.List.Sorted.{IsStrictlySortedBy}
 use Rattle.std.specs.Map.{keys_of}
-use Rattle.std.specs.BTreeMap.{BTreeMap, is_at}
+use Rattle.std.specs.BTreeMap.{is_at}
 use Rattle.std.specs.BTreeSet.{BTreeSet, contains, IsOrdered}
 use Rattle.std.proofs.lemmas.List.{length-map}
 use Rattle.std.proofs.lemmas.List.Folds.{list_any-append}
@@ -226,14 +226,14 @@ late_passes clock (Some slot) = at_kind (is_removal slot.kind)
     at_kind false = refl
 
 -- The keys that were found by the moments are those of the slots that have timed out.
-pub due_is : (clock : ℕ) (slots : BTreeMap (List ℕ) Slot) (removals : BTreeSet Timed) (due : BTreeSet (List ℕ)) → AreIndexed slots removals
+pub due_is : (clock : ℕ) (slots : Entries) (removals : BTreeSet Timed) (due : BTreeSet (List ℕ)) → AreIndexed slots removals
     → ((q : List ℕ) → contains (slice_cmp nat_cmp) due q ≡ is_any_due clock q removals.keys) → IsOrdered (slice_cmp nat_cmp) due
-    → due.keys ≡ timed_out clock slots.entries
+    → due.keys ≡ timed_out clock slots
 due_is clock slots removals due are found ordered =
-    btree_set_from_contains key_order due (record { keys = timed_out clock slots.entries }) ordered
-    (sorted_kept (λ e. is_timed_out clock e.1) slots.entries are.ordered)
-    (λ q. found q ∙ any_due_is clock q removals.keys (removed_at (slot_at q slots.entries)) (λ at. are.indexed (at, q))
-    ∙ late_passes clock (slot_at q slots.entries) ∙ sym (kept_keys (is_timed_out clock) q slots.entries are.ordered))
+    btree_set_from_contains key_order due (record { keys = timed_out clock slots }) ordered
+    (sorted_kept (λ e. is_timed_out clock e.1) slots are.ordered)
+    (λ q. found q ∙ any_due_is clock q removals.keys (removed_at (slot_at q slots)) (λ at. are.indexed (at, q))
+    ∙ late_passes clock (slot_at q slots) ∙ sym (kept_keys (is_timed_out clock) q slots are.ordered))
     exact_bytes
 
 -- ---- how many
@@ -303,11 +303,11 @@ timed_distinct (e ∷ es) sorted = at_head (is_removal e.1.kind) (timed_distinct
     at_head false rest = rest
 
 -- There are as many moments as removals among the slots.
-pub as_many : (slots : BTreeMap (List ℕ) Slot) (removals : BTreeSet Timed) → AreIndexed slots removals
-    → length removals.keys ≡ tombstones slots.entries
+pub as_many : (slots : Entries) (removals : BTreeSet Timed) → AreIndexed slots removals
+    → length removals.keys ≡ tombstones slots
 as_many slots removals are =
-    length-from_same_keys (eq_by_cmp_equiv timed_order) removals.keys (timed_of slots.entries)
-    (IsDistinct-from_sorted timed_cmp _ are.in_time) (timed_distinct slots.entries are.ordered)
-    (λ q. are.indexed q ∙ sym (timed_member q slots.entries are.ordered))
-    ∙ length-map (filter (λ e. is_removal e.1.kind) slots.entries) (λ e. (e.1.taken_at, e.0))
-    ∙ length-filter (λ e. is_removal e.1.kind) slots.entries
+    length-from_same_keys (eq_by_cmp_equiv timed_order) removals.keys (timed_of slots)
+    (IsDistinct-from_sorted timed_cmp _ are.in_time) (timed_distinct slots are.ordered)
+    (λ q. are.indexed q ∙ sym (timed_member q slots are.ordered))
+    ∙ length-map (filter (λ e. is_removal e.1.kind) slots) (λ e. (e.1.taken_at, e.0))
+    ∙ length-filter (λ e. is_removal e.1.kind) slots

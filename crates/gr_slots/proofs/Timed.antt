@@ -1,5 +1,5 @@
 -- The removals by their moments are those among the slots.
-use Rattle.std.proofs.Common.{◌≡◌, ◌∙◌, ap, sym, subst, refl, ℕ, List, Bool, true, false, ◌==◌, Option, Some, None, arith}
+use Rattle.std.proofs.Common.{◌≡◌, ◌∙◌, ap, sym, subst, refl, ℕ, List, [], Bool, true, false, ◌==◌, Option, Some, None, arith}
 use Rattle.std.proofs.Common.{if◌then◌else◌}
 use Rattle.std.specs.Prelude.{cond}
 use Rattle.std.proofs.lemmas.Bool.Decides.{nat_tests}
@@ -8,15 +8,18 @@ use Rattle.std.specs.declared.cmp.Ordering.{Ordering}
 use Rattle.std.specs.declared.cmp.Ordering.TheVariants.{Less, Equal, Greater}
 use Rattle.std.specs.Cmp.{IsTotalOrder, nat_cmp_total, eq_by_cmp_equiv}
 use Rattle.std.specs.Cmp.Lexicographic.{slice_cmp, lists_total}
-use Rattle.std.specs.Map.{lookup}
-use Rattle.std.specs.BTreeMap.{BTreeMap, get, is_at, IsOrdered}
+use Rattle.std.specs.List.{list_any}
+use Rattle.std.specs.List.Sorted.{IsStrictlySortedBy}
+use Rattle.std.specs.Map.{keys_of}
+use Rattle.std.specs.BTreeMap.{is_at}
 use Rattle.std.specs.BTreeSet.{BTreeSet, contains, IsOrdered as IsOrderedSet}
 use Rattle.std.specs.Prelude.{OnOk, OnErr, is_ok}
 use Rattle.std.proofs.Common.{Result, Ok, Err}
 use Rattle.std.proofs.lemmas.Map.Lookups.{exact_bytes, exact_unsigned, exact_pairs}
 use Rattle.gr_slots.specs.declared.slot.Slot.{Slot}
-use Rattle.gr_slots.specs.Slots.{removed_at}
+use Rattle.gr_slots.specs.Slots.{Entries, slot_at, with_slot, without, removed_at}
 use Rattle.gr_slots.specs.Removals.{Timed, timed_cmp, is_timed, stale_of, AreIndexed}
+use Rattle.gr_slots.proofs.Found.{at-with_slot, at-without}
 
 pub key_order : IsTotalOrder (slice_cmp nat_cmp)
 key_order = lists_total nat_cmp_total
@@ -188,46 +191,57 @@ module _ (slots : List ℕ → Option Slot) (kept : Timed → Bool) (are : (q : 
           ∙ ap (λ o. is_timed (removed_at o) q.1 q) (sym (drop q.1 ∙ ap (λ b. cond b None (slots q.1)) e))
 
 -- The moments are kept where a slot is set, and where it isn't.
-pub set_kept : {T E : Type 0} (result : Result T E) (ok : Bool) (slots next : BTreeMap (List ℕ) Slot) (kept added left : BTreeSet Timed)
-    → (key again : List ℕ) (slot : Slot) (before after stale : Option ℕ) → again ≡ key → AreIndexed slots kept
-    → before ≡ removed_at (get (slice_cmp nat_cmp) slots key) → after ≡ removed_at (Some slot)
-    → OnOk result ((q : List ℕ) → get (slice_cmp nat_cmp) next q ≡ cond (is_key key q) (Some slot) (get (slice_cmp nat_cmp) slots q))
-    → OnErr result (next.entries ≡ slots.entries) → IsOrdered (slice_cmp nat_cmp) next
+pub set_kept : {T E : Type 0} (result : Result T E) (ok : Bool) (slots next : Entries) (kept added left : BTreeSet Timed)
+    → (key : List ℕ) (slot : Slot) (before after stale : Option ℕ) → AreIndexed slots kept
+    → before ≡ removed_at (slot_at key slots) → after ≡ removed_at (Some slot)
+    → OnOk result (next ≡ with_slot key slot slots) → OnErr result (next ≡ slots) → IsStrictlySortedBy (slice_cmp nat_cmp) (keys_of next)
     → ((q : Timed) → contains timed_cmp added q ≡ cond (is_timed after key q) true (contains timed_cmp kept q))
     → ok ≡ is_ok result → stale ≡ stale_of before after ok
-    → ((q : Timed) → contains timed_cmp left q ≡ cond (is_timed stale again q) false (contains timed_cmp added q))
+    → ((q : Timed) → contains timed_cmp left q ≡ cond (is_timed stale key q) false (contains timed_cmp added q))
     → IsOrderedSet timed_cmp left → AreIndexed next left
-set_kept (Ok u) ok slots next kept added left key again slot before after stale same are old new set err ordered add is_set stale_is take
+set_kept (Ok u) ok slots next kept added left key slot before after stale are old new set err ordered add is_set stale_is take
     in_time = record {
       ordered = ordered;
       in_time = in_time;
-      indexed = set_indexed (get (slice_cmp nat_cmp) slots) (contains timed_cmp kept) are.indexed key slot after new before old
-          (get (slice_cmp nat_cmp) next) set (contains timed_cmp added) (contains timed_cmp left) add
-          (λ q. take q ∙ ap (λ k. cond (is_timed stale k q) false (contains timed_cmp added q)) same
+      indexed = set_indexed (λ q. slot_at q slots) (contains timed_cmp kept) are.indexed key slot after new before old
+          (λ q. slot_at q next) (λ q. ap (slot_at q) set ∙ at-with_slot q key slot slots)
+          (contains timed_cmp added) (contains timed_cmp left) add
+          (λ q. take q
           ∙ ap (λ o. cond (is_timed o key q) false (contains timed_cmp added q)) (stale_is ∙ ap (stale_of before after) is_set));
     }
-set_kept (Err e) ok slots next kept added left key again slot before after stale same are old new set err ordered add is_set stale_is
-    take in_time = record {
+set_kept (Err e) ok slots next kept added left key slot before after stale are old new set err ordered add is_set stale_is take
+    in_time = record {
       ordered = ordered;
       in_time = in_time;
-      indexed = unset_indexed (get (slice_cmp nat_cmp) slots) (contains timed_cmp kept) are.indexed key after before old
-          (get (slice_cmp nat_cmp) next) (λ q. ap (lookup (is_key q)) err) (contains timed_cmp added) (contains timed_cmp left) add
-          (λ q. take q ∙ ap (λ k. cond (is_timed stale k q) false (contains timed_cmp added q)) same
+      indexed = unset_indexed (λ q. slot_at q slots) (contains timed_cmp kept) are.indexed key after before old
+          (λ q. slot_at q next) (λ q. ap (slot_at q) err) (contains timed_cmp added) (contains timed_cmp left) add
+          (λ q. take q
           ∙ ap (λ o. cond (is_timed o key q) false (contains timed_cmp added q)) (stale_is ∙ ap (stale_of before after) is_set));
     }
 
 -- The moments are kept where a slot is dropped.
-pub drop_kept : (slots next : BTreeMap (List ℕ) Slot) (kept left : BTreeSet Timed) (key stored : List ℕ) (slot : Slot) (at : Option ℕ)
-    → AreIndexed slots kept → slice_cmp nat_cmp key stored ≡ Equal → Some slot ≡ get (slice_cmp nat_cmp) slots key
-    → at ≡ removed_at (Some slot)
-    → ((q : List ℕ) → get (slice_cmp nat_cmp) next q ≡ cond (is_key key q) None (get (slice_cmp nat_cmp) slots q))
-    → IsOrdered (slice_cmp nat_cmp) next
+pub drop_kept : (slots next : Entries) (kept left : BTreeSet Timed) (key stored : List ℕ) (slot : Slot) (at : Option ℕ)
+    → AreIndexed slots kept → stored ≡ key → Some slot ≡ slot_at key slots → at ≡ removed_at (Some slot)
+    → next ≡ without key slots → IsStrictlySortedBy (slice_cmp nat_cmp) (keys_of next)
     → ((q : Timed) → contains timed_cmp left q ≡ cond (is_timed at stored q) false (contains timed_cmp kept q))
     → IsOrderedSet timed_cmp left → AreIndexed next left
 drop_kept slots next kept left key stored slot at are same found is drop ordered take in_time = record {
   ordered = ordered;
   in_time = in_time;
-  indexed = drop_indexed (get (slice_cmp nat_cmp) slots) (contains timed_cmp kept) are.indexed key slot at is (sym found)
-      (get (slice_cmp nat_cmp) next) drop (contains timed_cmp left)
-      (λ q. take q ∙ ap (λ k. cond (is_timed at k q) false (contains timed_cmp kept q)) (sym (exact_bytes key stored same)));
+  indexed = drop_indexed (λ q. slot_at q slots) (contains timed_cmp kept) are.indexed key slot at is (sym found)
+      (λ q. slot_at q next) (λ q. ap (slot_at q) drop ∙ at-without q key slots are.ordered) (contains timed_cmp left)
+      (λ q. take q ∙ ap (λ k. cond (is_timed at k q) false (contains timed_cmp kept q)) same);
+}
+
+sorted_none : IsStrictlySortedBy (slice_cmp nat_cmp) (keys_of {X = Slot} [])
+unfolding IsStrictlySortedBy
+sorted_none = tt
+
+-- Without slots there are no moments.
+pub none_kept : (slots : Entries) (kept : BTreeSet Timed) → slots ≡ [] → kept.keys ≡ [] → IsOrderedSet timed_cmp kept
+    → AreIndexed slots kept
+none_kept slots kept none empty in_time = record {
+  ordered = subst (λ es. IsStrictlySortedBy (slice_cmp nat_cmp) (keys_of es)) (sym none) sorted_none;
+  in_time = in_time;
+  indexed = λ q. ap (list_any (is_at (timed_cmp q))) empty ∙ ap (λ es. is_timed (removed_at (slot_at q.1 es)) q.1 q) (sym none);
 }

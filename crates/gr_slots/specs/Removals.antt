@@ -4,10 +4,11 @@ use Rattle.std.specs.Ordering.{nat_cmp, ordering_then}
 use Rattle.std.specs.declared.cmp.Ordering.{Ordering}
 use Rattle.std.specs.Cmp.Lexicographic.{slice_cmp}
 use Rattle.std.specs.List.{list_any}
-use Rattle.std.specs.BTreeMap.{BTreeMap, get, is_at, IsOrdered}
+use Rattle.std.specs.BTreeMap.{is_at}
+use Rattle.std.specs.List.Sorted.{IsStrictlySortedBy}
+use Rattle.std.specs.Map.{keys_of}
 use Rattle.std.specs.BTreeSet.{BTreeSet, contains, IsOrdered as IsOrderedSet}
-use Rattle.gr_slots.specs.declared.slot.Slot.{Slot}
-use Rattle.gr_slots.specs.Slots.{removed_at, is_late}
+use Rattle.gr_slots.specs.Slots.{Entries, slot_at, removed_at, is_late}
 
 -- a moment, and the key whose removal came in then
 abbrev pub Timed : Type 0
@@ -37,7 +38,7 @@ abbrev pub is_any_due : ℕ → List ℕ → List Timed → Bool
 is_any_due clock key removals = list_any (is_due_at clock key) removals
 
 -- just the moments of the removals that stand are kept
-pub record AreIndexed (slots : BTreeMap (List ℕ) Slot) (removals : BTreeSet Timed) : Type 0 where
-  pub ordered : IsOrdered (slice_cmp nat_cmp) slots
+pub record AreIndexed (slots : Entries) (removals : BTreeSet Timed) : Type 0 where
+  pub ordered : IsStrictlySortedBy (slice_cmp nat_cmp) (keys_of slots)
   pub in_time : IsOrderedSet timed_cmp removals
-  pub indexed : (q : Timed) → contains timed_cmp removals q ≡ is_timed (removed_at (get (slice_cmp nat_cmp) slots q.1)) q.1 q
+  pub indexed : (q : Timed) → contains timed_cmp removals q ≡ is_timed (removed_at (slot_at q.1 slots)) q.1 q

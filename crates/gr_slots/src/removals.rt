@@ -1,17 +1,15 @@
 ghost use Rattle.std.specs.Prelude.{◌≡◌, ℕ, List, true, false, cond, OnOk, OnErr, IfOk, Some, option_copied};
 ghost use Rattle.std.specs.Ordering.{nat_cmp};
 ghost use Rattle.std.specs.Cmp.Lexicographic.{slice_cmp};
-ghost use Rattle.std.specs.BTreeMap.{is_at, get, IsOrdered};
 ghost use Rattle.std.specs.BTreeSet.{contains, IsOrdered as IsOrderedSet};
-ghost use Rattle.gr_slots.specs.declared.slot.Slot.{Slot as SlotOf};
-ghost use Rattle.gr_slots.specs.Slots.{removed_at, with_slot};
+ghost use Rattle.gr_slots.specs.Slots.{removed_at};
 ghost use Rattle.gr_slots.specs.Removals.{Timed, timed_cmp, is_timed, is_any_due, stale_of};
 
 use crate::Slot;
 use gr_stamp::Kind;
 use gr_value::{Copied, Key, KeyList, Memory};
 use std::alloc::Global;
-use std::collections::{BTreeMap, BTreeSet};
+use std::collections::BTreeSet;
 
 /// How many seconds after it came in a removal has timed out.
 const TIMEOUT: u64 = 600;
@@ -101,26 +99,6 @@ pub fn take(removals: &mut BTreeSet<(u64, Key)>, at: Option<u64>, key: Key)
 {
     if let Some(at) = at {
         take_at(removals, at, key);
-    }
-}
-
-/// Sets what stands at the key, among the slots alone, and tells when what stood there came in, where
-/// it was a removal. Only a key that had no slot can be refused memory.
-pub fn insert(
-    entries: &mut BTreeMap<Key, Slot>,
-    key: Key,
-    slot: Slot,
-) -> (Option<u64>, Result<(), Memory>)
-    ensures before { result.0 ≡ removed_at (get (slice_cmp nat_cmp) entries.old key) }
-    ensures ok { OnOk result.1 (entries.new.entries ≡ with_slot key slot entries.old.entries) }
-    ensures set { OnOk result.1 ((q : List ℕ) → get (slice_cmp nat_cmp) entries.new q
-        ≡ cond (is_at (slice_cmp nat_cmp key) q) (Some slot) (get (slice_cmp nat_cmp) entries.old q)) }
-    ensures err { OnErr result.1 (entries.new.entries ≡ entries.old.entries) }
-    ensures ordered { IsOrdered (slice_cmp nat_cmp) entries.new }
-{
-    match entries.insert(key, slot) {
-        Ok(before) => (removed_at(before.as_ref()), Ok(())),
-        Err(_) => (None, Err(Memory)),
     }
 }
 

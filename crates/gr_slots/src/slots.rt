@@ -1,15 +1,17 @@
-ghost use Rattle.std.specs.Prelude.{◌≡◌, [], OnOk, OnErr, IfOk, option_copied, is_some};
+ghost use Rattle.std.specs.Prelude.{◌≡◌, [], OnOk, OnErr, IfOk, option_copied, is_some, map};
 ghost use Rattle.std.specs.Ordering.{nat_cmp};
 ghost use Rattle.std.specs.Cmp.Lexicographic.{slice_cmp};
 ghost use Rattle.std.specs.List.Sorted.{IsStrictlySortedBy};
 ghost use Rattle.std.specs.Map.{keys_of};
+ghost use Rattle.std.specs.Map.Iter.{deref_pair};
 ghost use Rattle.gr_slots.specs.Slots.{slot_at, with_slot, without, timed_out, tombstones};
 
 use crate::Slot;
-use crate::removals::{add, insert, listed, removed_at, stale_of, take, timed_out};
+use crate::cells::Cells;
+use crate::removals::{add, listed, removed_at, stale_of, take, timed_out};
 use gr_value::{Copied, Key, KeyList, Memory};
 use std::alloc::Global;
-use std::collections::{BTreeMap, BTreeSet};
+use std::collections::BTreeSet;
 use std::marker::Model;
 
 /// Slots by their keys. Contracts see them as a list in the order of the keys. Beside them stands when
@@ -17,7 +19,7 @@ use std::marker::Model;
 #[derive(Drop)]
 pub struct Slots {
     alloc: Global,
-    entries: BTreeMap<Key, Slot>,
+    cells: Cells,
     removals: BTreeSet<(u64, Key)>,
 }
 
@@ -27,9 +29,9 @@ impl Model for Slots {
 
     ghost Value = { Entries };
 
-    ghost view = { λ s. s.entries.entries };
+    ghost view = { λ s. s.cells };
 
-    ghost invariant = { λ s. AreIndexed s.entries s.removals };
+    ghost invariant = { λ s. AreIndexed s.cells s.removals };
 }
 
 impl Slots {
@@ -38,7 +40,7 @@ impl Slots {
     {
         Slots {
             alloc,
-            entries: BTreeMap::new(alloc),
+            cells: Cells::new(alloc),
             removals: BTreeSet::new(alloc),
         }
     }
@@ -46,14 +48,15 @@ impl Slots {
     pub fn find(&self, key: &Key) -> Option<&Slot>
         ensures { option_copied result ≡ slot_at key.now self.now }
     {
-        self.entries.get(key)
+        self.cells.find(key)
     }
 
     /// The slots by their keys, in order.
-    pub fn rows(&self) -> &BTreeMap<Key, Slot>
-        ensures { result.now.entries ≡ self.now }
+    pub fn rows(&self, alloc: Global) -> Result<Vec<(&Key, &Slot)>, Memory>
+        ensures rows { IfOk result (λ rows. map deref_pair rows.items ≡ self.now) }
+        ensures ordered { IsStrictlySortedBy (slice_cmp nat_cmp) (keys_of self.now) }
     {
-        &self.entries
+        self.cells.rows(alloc)
     }
 
     /// Sets what stands at the key. Where memory is refused, all is as before.
@@ -62,13 +65,12 @@ impl Slots {
         ensures err { OnErr result (self.new ≡ self.old) }
     {
         let after = removed_at(Some(&slot));
-        let again = key.copy(self.alloc)?;
         add(self.alloc, &mut self.removals, after, &key)?;
-        let (before, set) = insert(&mut self.entries, key, slot);
+        let (before, set) = self.cells.set(self.alloc, &key, slot);
         take(
             &mut self.removals,
             stale_of(before, after, set.is_ok()),
-            again,
+            key,
         );
         set
     }
@@ -78,7 +80,7 @@ impl Slots {
         ensures had { result ≡ is_some (slot_at key.now self.old) }
         ensures gone { self.new ≡ without key.now self.old }
     {
-        let Some((key, slot)) = self.entries.remove_entry(key) else {
+        let Some((key, slot)) = self.cells.leave(key) else {
             return false;
         };
         take(&mut self.removals, removed_at(Some(&slot)), key);

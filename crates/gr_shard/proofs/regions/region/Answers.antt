@@ -1,9 +1,10 @@
 use Rattle.std.proofs.Common.{◌≡◌, ◌∙◌, ap, sym, map, length, ◌++◌, ◌∷◌, [], rules}
 use Rattle.std.specs.Map.Iter.{deref_pair}
-use Rattle.std.proofs.lemmas.Map.Iter.{iter_end}
-use Rattle.std.proofs.lemmas.List.{map-append}
+use Rattle.std.specs.Vec.{vec_len}
+use Rattle.std.proofs.lemmas.List.{length-map, map-append}
 use Rattle.gr_shard.specs.Entries.{changes_in, change_of, puts_of}
 use Rattle.gr_shard.proofs.Puts.{puts_of-push, changes_in-push, left_over}
+use Rattle.gr_shard.proofs.Rows.{all_yielded}
 use Rattle.gr_shard.proofs.regions.region.Goals as goal
 
 pub loop-key-preserved : goal.loop-key-preserved
@@ -18,17 +19,34 @@ loop-key-preserved c =
 
 pub returns-clause-rows : goal.returns-clause-rows
 returns-clause-rows c =
-    let whole : map deref_pair c.loop-key.yielded ≡ c.args.slots.now = search (rules, iter_end) in
+    let long : vec_len c.in_ok-entries.entries ≡ length c.in_ok-entries.entries.items = search rules in
+    let whole : map deref_pair c.loop-key.yielded ≡ c.args.slots.now =
+    all_yielded deref_pair c.in_ok-entries.entries.items c.loop-key.yielded c.into_iter-key-iterator.result c.loop-key.key-iterator
+    c.next.new.self c.next.result c.into_iter-key-iterator.ensures.into_iter_gives.0
+    (c.into_iter-key-iterator.ensures.into_iter_gives.1 ∙ long) c.loop-key.yielded_by c.in-None.is c.next.ensures.steps
+    ∙ c.in_ok-entries.ensures.rows in
     c.loop-key.invariant ∙ ap (λ entries. puts_of (changes_in entries)) whole
 
 pub overflow_sub-tombstones : goal.overflow_sub-tombstones
 overflow_sub-tombstones c =
-    let whole : map deref_pair c.loop-key.yielded ≡ c.args.slots.now = search (rules, iter_end) in
+    let long : vec_len c.in_ok-entries.entries ≡ length c.in_ok-entries.entries.items = search rules in
+    let whole : map deref_pair c.loop-key.yielded ≡ c.args.slots.now =
+    all_yielded deref_pair c.in_ok-entries.entries.items c.loop-key.yielded c.into_iter-key-iterator.result c.loop-key.key-iterator
+    c.next.new.self c.next.result c.into_iter-key-iterator.ensures.into_iter_gives.0
+    (c.into_iter-key-iterator.ensures.into_iter_gives.1 ∙ long) c.loop-key.yielded_by c.in-None.is c.next.ensures.steps
+    ∙ c.in_ok-entries.ensures.rows in
     (left_over c.args.slots.now c.loop-key.rows (c.loop-key.invariant ∙ ap (λ entries. puts_of (changes_in entries)) whole)
-    (c.len.ensures.len ∙ ap length c.rows-entries.ensures) c.len-2.ensures).0
+    (c.len-count.ensures ∙ long ∙ sym (length-map c.in_ok-entries.entries.items deref_pair) ∙ ap length c.in_ok-entries.ensures.rows)
+    c.len.ensures).0
 
 pub returns-clause-tombstones : goal.returns-clause-tombstones
 returns-clause-tombstones c =
-    let whole : map deref_pair c.loop-key.yielded ≡ c.args.slots.now = search (rules, iter_end) in
+    let long : vec_len c.in_ok-entries.entries ≡ length c.in_ok-entries.entries.items = search rules in
+    let whole : map deref_pair c.loop-key.yielded ≡ c.args.slots.now =
+    all_yielded deref_pair c.in_ok-entries.entries.items c.loop-key.yielded c.into_iter-key-iterator.result c.loop-key.key-iterator
+    c.next.new.self c.next.result c.into_iter-key-iterator.ensures.into_iter_gives.0
+    (c.into_iter-key-iterator.ensures.into_iter_gives.1 ∙ long) c.loop-key.yielded_by c.in-None.is c.next.ensures.steps
+    ∙ c.in_ok-entries.ensures.rows in
     (left_over c.args.slots.now c.loop-key.rows (c.loop-key.invariant ∙ ap (λ entries. puts_of (changes_in entries)) whole)
-    (c.len.ensures.len ∙ ap length c.rows-entries.ensures) c.len-2.ensures).1
+    (c.len-count.ensures ∙ long ∙ sym (length-map c.in_ok-entries.entries.items deref_pair) ∙ ap length c.in_ok-entries.ensures.rows)
+    c.len.ensures).1

@@ -6,6 +6,6 @@ pub returns-clause-keys : goal.returns-clause-keys
 returns-clause-keys c =
     rw (← c.self.view_is)
     (subst (λ due. IfOk c.listed.result (λ keys. keys ≡ due))
-    (due_is c.args.clock c.self.inside.entries c.self.inside.removals c.in_ok-due.due c.self.invariant c.in_ok-due.ensures.due
+    (due_is c.args.clock c.self.inside.cells c.self.inside.removals c.in_ok-due.due c.self.invariant c.in_ok-due.ensures.due
     c.in_ok-due.ensures.ordered)
     c.listed.ensures)

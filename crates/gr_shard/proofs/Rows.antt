@@ -1,0 +1,13 @@
+-- What a loop over the rows of slots has yielded in the end.
+use Rattle.std.proofs.Common.{◌≡◌, ◌∙◌, ap, sym, List, Option, None, map, length}
+use Rattle.std.specs.Vec.Iter.{into_iter_items, into_iter_len, into_iter_steps}
+use Rattle.std.specs.Iterator.{Yields}
+use Rattle.std.specs.declared.vec.IntoIter.{IntoIter}
+use Rattle.std.proofs.lemmas.Iterator.Adapters.{YieldsList-from_vec}
+use Rattle.std.proofs.lemmas.Iterator.Consumers.{YieldsList-end}
+use Rattle.std.proofs.lemmas.List.{map-id}
+
+pub all_yielded : {A B Z : Type 0} (f : A → B) (items xs : List A) (s t u : IntoIter A Z) (r : Option A) → into_iter_items s ≡ items
+    → into_iter_len s ≡ length items → Yields into_iter_steps s xs t → r ≡ None → into_iter_steps t r u → map f xs ≡ map f items
+all_yielded f items xs s t u r are long yields none steps =
+    ap (map f) (sym (map-id xs) ∙ (YieldsList-end (YieldsList-from_vec items are long) xs t yields r u none steps).0)

@@ -1,0 +1,64 @@
+-- A list after one of its places is set, and after it is cut or grown.
+use Rattle.std.proofs.Common.{◌≡◌, ◌∙◌, ap, sym, refl, ℕ, zero, suc, ◌+◌, ◌-◌, ◌<◌, ◌==◌, List, [], ◌∷◌, ◌++◌}
+use Rattle.std.proofs.Common.{Bool, true, false, Option, Some, None, length, arith}
+use Rattle.std.specs.Prelude.{cond, take}
+use Rattle.std.specs.List.{slice_get, slice_set, slice_index_or, swap_remove}
+use Rattle.std.proofs.lemmas.Bool.Decides.{nat_tests}
+use Rattle.std.proofs.lemmas.Option.{slice_get-get_or}
+
+not_first : (p : ℕ) → (suc p == 0) ≡ false
+not_first p = grind (arith, nat_tests)
+
+not_first_of : (p : ℕ) → (0 == suc p) ≡ false
+not_first_of p = grind (arith, nat_tests)
+
+both_later : (p i : ℕ) → (p == i) ≡ (suc p == suc i)
+both_later p i = grind (arith, nat_tests)
+
+module _ {X : Type 0} where
+  get-set : (xs : List X) (i : ℕ) (x : X) (p : ℕ) → i < length xs
+      → slice_get (slice_set xs i x) p ≡ cond (p == i) (Some x) (slice_get xs p)
+  get-set [] i x p within = absurd (omega arith)
+  get-set (y ∷ ys) zero x zero within = refl
+  get-set (y ∷ ys) zero x (suc p) within = ap (λ b. cond b (Some x) (slice_get ys p)) (sym (not_first p))
+  get-set (y ∷ ys) (suc i) x zero within = ap (λ b. cond b (Some x) (Some y)) (sym (not_first_of i))
+  get-set (y ∷ ys) (suc i) x (suc p) within =
+      get-set ys i x p (omega arith) ∙ ap (λ b. cond b (Some x) (slice_get ys p)) (both_later p i)
+
+  length-set : (xs : List X) (i : ℕ) (x : X) → length (slice_set xs i x) ≡ length xs
+  length-set [] i x = refl
+  length-set (y ∷ ys) zero x = refl
+  length-set (y ∷ ys) (suc i) x = ap suc (length-set ys i x)
+
+  pub get-push : (xs : List X) (x : X) (p : ℕ) → slice_get (xs ++ x ∷ []) p ≡ cond (p == length xs) (Some x) (slice_get xs p)
+  get-push [] x zero = refl
+  get-push [] x (suc p) = ap (λ b. cond b (Some x) None) (sym (not_first p))
+  get-push (y ∷ ys) x zero = ap (λ b. cond b (Some x) (Some y)) (sym (not_first_of (length ys)))
+  get-push (y ∷ ys) x (suc p) = get-push ys x p ∙ ap (λ b. cond b (Some x) (slice_get ys p)) (both_later p (length ys))
+
+  same_none : (b : Bool) → ◌≡◌ {A = Option X} None (cond b None None)
+  same_none true = refl
+  same_none false = refl
+
+  -- without the last
+  get-init : (xs : List X) (n : ℕ) (p : ℕ) → length xs ≡ suc n → slice_get (take n xs) p ≡ cond (p == n) None (slice_get xs p)
+  get-init [] n p is = absurd (omega arith)
+  get-init (x ∷ []) zero zero is = refl
+  get-init (x ∷ []) zero (suc p) is = same_none (suc p == 0)
+  get-init (x ∷ y ∷ ys) zero p is = absurd (omega arith)
+  get-init (x ∷ xs) (suc n) zero is = ap (λ b. cond b None (Some x)) (sym (not_first_of n))
+  get-init (x ∷ xs) (suc n) (suc p) is =
+      get-init xs n p (omega arith) ∙ ap (λ b. cond b None (slice_get xs p)) (both_later p n)
+
+  -- once the last has moved to a place
+  pub get-swapped : (xs : List X) (i : ℕ) (d : X) (p : ℕ) → i < length xs → slice_get (swap_remove xs i d) p
+      ≡ cond (p + 1 == length xs) None (cond (p == i) (slice_get xs (length xs - 1)) (slice_get xs p))
+  get-swapped xs i d p within =
+      let last : ℕ = length xs - 1 in
+      get-init (slice_set xs i (slice_index_or xs last d)) last p (length-set xs i (slice_index_or xs last d) ∙ omega arith)
+      ∙ ap (cond (p == last) None) (get-set xs i (slice_index_or xs last d) p within
+      ∙ ap (λ o. cond (p == i) o (slice_get xs p)) (sym (slice_get-get_or xs last d (omega arith))))
+      ∙ ap (λ b. cond b None (cond (p == i) (slice_get xs last) (slice_get xs p))) (ends (length xs) (omega arith))
+    where
+      ends : (n : ℕ) → 0 < n → (p == n - 1) ≡ (p + 1 == n)
+      ends n some = grind (arith, nat_tests)

@@ -1,0 +1,5 @@
+use Rattle.gr_slots.proofs.Tied.{rows_ordered}
+use Rattle.gr_slots.proofs.cells.Cells.leave.Goals as goal
+
+pub returns-clause-ordered : goal.returns-clause-ordered
+returns-clause-ordered c = rows_ordered c.leave.new.places c.leave.new.cells.items c.leave.ensures.tied
