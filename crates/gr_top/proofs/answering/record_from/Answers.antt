@@ -12,7 +12,7 @@ returns-in-Ok g c histories = record {
   served = c.in-Ok.ensures.served;
 }
 
-pub returns : goal.returns
-returns g c histories sink untouched =
+pub returns-in-Err : goal.returns-in-Err
+returns-in-Err g c histories sink untouched =
     let given = c.in_ok-script.ensures (mode.Replay histories) in
     (tt, within _ given.0 given.1.whole, untouched)
