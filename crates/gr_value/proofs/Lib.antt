@@ -1,5 +1,7 @@
+mod Decimals
 mod FieldsRead
 mod FieldsTaken
+mod Kept
 mod Lexing
 mod NumberLengths
 pub mod OneLine

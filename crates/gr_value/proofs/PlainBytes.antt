@@ -52,8 +52,8 @@ escaped_some : (x : ℕ) → 0 < length (escaped x)
 unfolding escaped
 escaped_some x = grind arith
 
--- what an escape and the bytes behind it leave is shorter
-pub escape_shorter : (before after rest plain : List ℕ) (x : ℕ) → before ≡ escaped x ++ after → after ≡ plain ++ rest
+-- what is left behind an escape, or less, is shorter
+pub escape_shorter : (before after rest : List ℕ) (x : ℕ) → before ≡ escaped x ++ after → length rest ≤ length after
     → length rest < length before
-escape_shorter before after rest plain x escape taken =
-    omega (arith, ap length escape, ap length taken, length-append (escaped x) after, length-append plain rest, escaped_some x)
+escape_shorter before after rest x escape less =
+    omega (arith, ap length escape, length-append (escaped x) after, less, escaped_some x)

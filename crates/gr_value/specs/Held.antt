@@ -7,7 +7,7 @@ abbrev pub held_bytes : {A : Type 0} → (A → List ℕ) → Held A → List �
 held_bytes bytes_of (Near bytes) = bytes
 held_bytes bytes_of (Far shared) = bytes_of shared.value
 
--- What stands far has eight bytes at least.
+-- What stands far has 14 bytes at least.
 abbrev pub IsHeld : {A : Type 0} → (A → List ℕ) → Held A → Type 0
 IsHeld bytes_of (Near bytes) = ⊤
-IsHeld bytes_of (Far shared) = 8 ≤ length (bytes_of shared.value)
+IsHeld bytes_of (Far shared) = 14 ≤ length (bytes_of shared.value)

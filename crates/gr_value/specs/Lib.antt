@@ -3,6 +3,7 @@ pub mod Held
 pub mod OneOrMany
 pub mod KeyBytes
 pub mod KeyFront
+pub mod KeyHash
 pub mod Sameness
 pub mod Scalars
 pub mod Shard

@@ -1,5 +1,5 @@
 // Which bytes stand for themselves in a quoted text, and what stands for the others.
-ghost use Rattle.std.specs.Prelude.{◌≡◌, ◌<◌, ◌≤◌, [], ◌∷◌, ◌++◌, length, take, flat_map, codes, IsTrue, IfSome, OnOk};
+ghost use Rattle.std.specs.Prelude.{◌≡◌, ◌<◌, ◌≤◌, [], ◌∷◌, ◌++◌, length, take, flat_map, codes, IsTrue, IfSome, IfOk, OnOk, OnErr};
 ghost use Rattle.std.specs.Char.{digit_char};
 ghost use Rattle.gr_value.specs.ValueText.{escaped};
 
@@ -11,8 +11,9 @@ const BLOCK: usize = 16;
 /// So many bytes are looked at one by one before whole blocks are, since most runs are short.
 const FEW: usize = 8;
 
+// Whether the byte stands for itself.
 #[tactic(auto, using(crate::proofs::PlainBytes::escaped_plain))]
-#[inline]
+#[inline(always)]
 fn is_plain(byte: u8) -> bool
     ensures { IsTrue result → escaped byte ≡ byte ∷ [] }
 {
@@ -33,7 +34,7 @@ fn is_plain_block(block: &[u8; BLOCK]) -> bool
 }
 
 // Whether the bytes begin with a whole block of such bytes.
-#[inline]
+#[inline(always)]
 fn begins_plain(bytes: &[u8]) -> bool
     ensures within { IsTrue result → 16 ≤ length bytes.now }
     ensures plain { IsTrue result → flat_map escaped (take 16 bytes.now) ≡ take 16 bytes.now }
@@ -88,8 +89,10 @@ pub(crate) fn plain_len(bytes: &[u8]) -> usize
 }
 
 /// Appends a run of bytes. To push a few costs less than the call that copies many.
+#[tactic(auto, using(crate::proofs::Kept::kept_more, crate::proofs::Kept::kept_same))]
 pub(crate) fn put_run(run: &[u8], out: &mut Vec<u8>) -> Result<(), Memory>
-    ensures { OnOk result (out.new.items ≡ out.old.items ++ run.now) }
+    ensures ok { OnOk result (out.new.items ≡ out.old.items ++ run.now) }
+    ensures kept { OnErr result (take (length out.old.items) out.new.items ≡ out.old.items) }
 {
     if run.len() > FEW {
         out.extend_from_slice(run)?;
@@ -113,19 +116,31 @@ pub(crate) fn hex_digit(digit: u8) -> u8
     }
 }
 
+// The byte that a letter behind a backslash stands for, of the letters that are seldom.
+#[inline(never)]
+#[tactic(auto, unfolding(crate::specs::ValueText::escaped))]
+fn byte_of_rare_letter(letter: u8) -> Option<u8>
+    ensures { IfSome result (λ byte. escaped byte ≡ 0x5C ∷ letter ∷ []) }
+{
+    match letter {
+        b'b' => Some(0x08),
+        b't' => Some(0x09),
+        b'f' => Some(0x0C),
+        b'r' => Some(0x0D),
+        _ => None,
+    }
+}
+
 // The byte that a letter behind a backslash stands for.
+#[inline(always)]
 #[tactic(auto, unfolding(crate::specs::ValueText::escaped))]
 fn byte_of_letter(letter: u8) -> Option<u8>
     ensures { IfSome result (λ byte. escaped byte ≡ 0x5C ∷ letter ∷ []) }
 {
     match letter {
         b'"' | b'\\' => Some(letter),
-        b'b' => Some(0x08),
-        b't' => Some(0x09),
         b'n' => Some(0x0A),
-        b'f' => Some(0x0C),
-        b'r' => Some(0x0D),
-        _ => None,
+        _ => byte_of_rare_letter(letter),
     }
 }
 
@@ -147,14 +162,78 @@ fn byte_of_digits(high: u8, low: u8) -> Option<u8>
     }
 }
 
+// The byte in front, if it stands for itself, and what is left behind it.
+#[inline(always)]
+fn plain_begun(bytes: &[u8]) -> Option<(u8, &[u8])>
+    ensures { IfSome result (λ parts.
+        (bytes.now ≡ parts.0 ∷ parts.1.now) × (escaped parts.0 ≡ parts.0 ∷ [])) }
+{
+    match bytes {
+        [byte, rest @ ..] if is_plain(*byte) => Some((*byte, rest)),
+        _ => None,
+    }
+}
+
+// The byte that stands behind `\u00` as two digits, and what is left behind it.
+#[inline(never)]
+fn control_begun(bytes: &[u8]) -> Option<(u8, &[u8])>
+    ensures { IfSome result (λ parts. bytes.now ≡ escaped parts.0 ++ parts.1.now) }
+{
+    match bytes {
+        [b'\\', b'u', b'0', b'0', high, low, rest @ ..] => Some((
+            byte_of_digits(*high, *low)?,
+            rest,
+        )),
+        _ => None,
+    }
+}
+
 /// The byte whose escape the bytes begin with, and what is left behind it.
+#[inline(always)]
 pub(crate) fn escape_begun(bytes: &[u8]) -> Option<(u8, &[u8])>
     ensures { IfSome result (λ parts. bytes.now ≡ escaped parts.0 ++ parts.1.now) }
 {
-    let (byte, rest) = match bytes {
-        [b'\\', b'u', b'0', b'0', high, low, rest @ ..] => (byte_of_digits(*high, *low), rest),
-        [b'\\', letter, rest @ ..] => (byte_of_letter(*letter), rest),
-        _ => (None, bytes),
-    };
-    Some((byte?, rest))
+    match bytes {
+        [b'\\', letter, rest @ ..] => match byte_of_letter(*letter) {
+            Some(byte) => Some((byte, rest)),
+            None => control_begun(bytes),
+        },
+        _ => None,
+    }
+}
+
+// Moves blocks of bytes that stand for themselves to the end of `out`, if its length is such that
+// they are to be looked for. Answers what is left.
+#[inline(always)]
+fn blocks_moved<'a>(bytes: &'a [u8], out: &mut Vec<u8>) -> Result<&'a [u8], Memory>
+    ensures read { IfOk result (λ rest.
+        flat_map escaped out.old.items ++ bytes.now ≡ flat_map escaped out.new.items ++ rest.now) }
+    ensures printed { IfOk result (λ rest.
+        out.old.items ++ flat_map escaped bytes.now ≡ out.new.items ++ flat_map escaped rest.now) }
+    ensures within { IfOk result (λ rest. length rest.now ≤ length bytes.now) }
+{
+    if out.len() % BLOCK != 0 || !begins_plain(bytes) {
+        return Ok(bytes);
+    }
+    let (plain, rest) = bytes.split_at(plain_blocks_len(bytes));
+    out.extend_from_slice(plain)?;
+    Ok(rest)
+}
+
+/// Moves the bytes in front that stand for themselves to the end of `out`, one by one at first, since
+/// most runs are short. Answers what is left.
+#[inline(always)]
+pub(crate) fn plain_moved<'a>(bytes: &'a [u8], out: &mut Vec<u8>) -> Result<&'a [u8], Memory>
+    ensures read { IfOk result (λ rest.
+        flat_map escaped out.old.items ++ bytes.now ≡ flat_map escaped out.new.items ++ rest.now) }
+    ensures printed { IfOk result (λ rest.
+        out.old.items ++ flat_map escaped bytes.now ≡ out.new.items ++ flat_map escaped rest.now) }
+    ensures within { IfOk result (λ rest. length rest.now ≤ length bytes.now) }
+{
+    let mut rest = bytes;
+    'bytes: while let Some((byte, behind)) = plain_begun(rest) {
+        out.push(byte)?;
+        rest = blocks_moved(behind, out)?;
+    }
+    Ok(rest)
 }

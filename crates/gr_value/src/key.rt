@@ -3,8 +3,10 @@ ghost use Rattle.gr_value.specs.KeyBytes.{is_key_byte, bad_place, IsKey, key_fau
 ghost use Rattle.std.specs.Cmp.Lexicographic.{slice_cmp};
 ghost use Rattle.std.specs.Ordering.{nat_cmp};
 ghost use Rattle.gr_value.specs.KeyFront.{front_of};
+ghost use Rattle.gr_value.specs.KeyHash.{hash_of};
 ghost use Rattle.gr_value.specs.Shard.{shard_of};
 
+use crate::hash::{hash_of, mixed};
 use crate::near::{Held, Near, front_of};
 use crate::{Copied, ItemList, KeyFault, Memory};
 use std::alloc::Global;
@@ -133,6 +135,17 @@ impl Key {
         ensures { result ≡ slice_cmp nat_cmp self.now other.now }
     {
         cmp_by_eights(self.bytes(), other.bytes())
+    }
+
+    /// A number that differs for most keys, drawn from the first and the last bytes.
+    #[inline(always)]
+    pub fn hash(&self) -> u32
+        ensures { result ≡ hash_of self.now }
+    {
+        match &self.held {
+            Held::Near(near) => mixed(near.front(), near.back()),
+            Held::Far(shared) => hash_of(shared.as_slice()),
+        }
     }
 
     /// The shard of this key where there are so many, counted from 0.

@@ -5,6 +5,7 @@ mod copied;
 mod escapes;
 mod fault;
 mod fields;
+mod hash;
 mod key;
 mod list;
 mod memory;

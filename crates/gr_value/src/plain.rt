@@ -1,7 +1,7 @@
 // A text that is just what its value prints is read without the JSON reader, which costs several
 // times as much. That is right since a value's text reads as that value: each call here shows that
 // what it took is the text of what it answers, and any other text is left to the JSON reader.
-ghost use Rattle.std.specs.Prelude.{◌≡◌, ◌≤◌, ◌++◌, length, flat_map, codes, IsTrue, IfSome, IfOk};
+ghost use Rattle.std.specs.Prelude.{◌≡◌, ◌≤◌, ◌++◌, length, flat_map, codes, decimal, IsTrue, IfSome, IfOk, ◌<◌, ◌^◌, ◌+◌, ◌∷◌};
 ghost use Rattle.std.specs.Bool.{MatchBool};
 ghost use Rattle.std.specs.Fmt.{signed_decimal};
 ghost use Rattle.std.specs.List.{AllByRecursion, join_by};
@@ -9,11 +9,10 @@ ghost use Rattle.std.specs.Str.{is_utf8};
 ghost use Rattle.gr_value.specs.ValueText.{escaped, quoted, scalar_text, field_text, value_text};
 ghost use Rattle.gr_value.specs.Values.{IsScalar, IsField, IsValue, HasAscendingNames};
 
-use crate::escapes::{escape_begun, plain_len, put_run};
+use crate::escapes::{escape_begun, plain_len, plain_moved};
 use crate::fields::Fields;
 use crate::value::MOST_BYTES;
 use crate::{Field, Memory, Scalar, Text, Value};
-use itoa::Buffer;
 use std::alloc::Global;
 use std::marker::Model;
 
@@ -50,35 +49,37 @@ fn further_fields(bytes: &[u8]) -> usize
     count
 }
 
-// The number that the bytes begin with, if it is small. It is tried, and not relied on.
-fn number_guess(bytes: &[u8]) -> i64 {
-    let (negative, digits) = match bytes {
-        [b'-', digits @ ..] => (true, digits),
-        _ => (false, bytes),
-    };
-    let mut number = 0i64;
-    for digit in digits {
-        if !digit.is_ascii_digit() {
-            break;
-        }
-        number = number
-            .wrapping_mul(10)
-            .wrapping_add(i64::from(*digit & 0x0F));
-    }
-    if negative {
-        number.wrapping_neg()
-    } else {
-        number
+/// Digits are read up to a number that is greater. The few numbers that go on then are left to the
+/// JSON reader.
+const GREAT: u64 = 100_000_000_000_000_000;
+
+// The digit that the bytes begin with, and what is left behind it.
+#[inline(always)]
+fn digit_begun(bytes: &[u8]) -> Option<(u64, &[u8])>
+    ensures { IfSome result (λ parts. (bytes.now ≡ (48 + parts.0) ∷ parts.1.now) × (parts.0 < 10)) }
+{
+    match bytes {
+        [digit, rest @ ..] if digit.is_ascii_digit() => Some((u64::from(*digit - b'0'), rest)),
+        _ => None,
     }
 }
 
-fn text_of(alloc: Global, bytes: &[u8]) -> Result<Option<Text>, Memory>
-    ensures { IfOk result (λ found. IfSome found (λ text. (text ≡ bytes.now) × IsTrue (is_utf8 text))) }
+// The number that a first digit and those behind it spell, and what is left.
+fn number_further(first: u64, bytes: &[u8]) -> (u64, &[u8])
+    requires some { 1 ≤ first }
+    requires few { first < 10 }
+    ensures text { decimal first ++ bytes.now ≡ decimal result.0 ++ result.1.now }
+    ensures range { (1 ≤ result.0) × (result.0 < 2 ^ 63) }
 {
-    match str::from_utf8(bytes) {
-        Ok(text) => Ok(Some(Text::new(alloc, text)?)),
-        Err(_) => Ok(None),
+    let (mut number, mut rest) = (first, bytes);
+    'digits: while let Some((digit, behind)) = digit_begun(rest) {
+        if number > GREAT {
+            return (number, rest);
+        }
+        number = number * 10 + digit;
+        rest = behind;
     }
+    (number, rest)
 }
 
 impl<'a> Cursor<'a> {
@@ -104,14 +105,6 @@ impl<'a> Cursor<'a> {
         plain
     }
 
-    fn take_escape(&mut self) -> Option<u8>
-        ensures { IfSome result (λ byte. self.old ≡ escaped byte ++ self.new) }
-    {
-        let (byte, rest) = escape_begun(self.rest)?;
-        self.rest = rest;
-        Some(byte)
-    }
-
     // Takes the rest of a quoted text that has begun with bytes that stand for themselves.
     fn take_escaped(&mut self, alloc: Global, front: &[u8]) -> Result<Option<Vec<u8>>, Memory>
         ensures { IfOk result (λ found. IfSome found (λ text.
@@ -119,23 +112,40 @@ impl<'a> Cursor<'a> {
     {
         let mut text = Vec::with_capacity(alloc, front.len() + self.rest.len().min(MOST_BYTES))?;
         text.extend_from_slice(front)?;
-        'escapes: while !self.take(b"\"") {
-            let Some(byte) = self.take_escape() else {
-                return Ok(None);
-            };
+        let mut rest = self.rest;
+        'escapes: while let Some((byte, behind)) = escape_begun(rest) {
             text.push(byte)?;
-            put_run(self.take_plain(), &mut text)?;
+            rest = plain_moved(behind, &mut text)?;
         }
-        Ok(Some(text))
+        self.rest = rest;
+        Ok(self.take(b"\"").then_some(text))
+    }
+
+    // Takes a number with no sign, whose first digit is 0 only if it is the only one.
+    #[tactic(auto, using(crate::proofs::Decimals::digit_alone))]
+    fn take_digits(&mut self) -> Option<u64>
+        ensures { IfSome result (λ number. (self.old ≡ decimal number ++ self.new) × (number < 2 ^ 63)) }
+    {
+        let (first, behind) = digit_begun(self.rest)?;
+        if first == 0 {
+            self.rest = behind;
+            return Some(0);
+        }
+        let (number, rest) = number_further(first, behind);
+        self.rest = rest;
+        Some(number)
     }
 
     fn take_number(&mut self) -> Option<i64>
         ensures { IfSome result (λ number. self.old ≡ signed_decimal number ++ self.new) }
     {
-        let number = number_guess(self.rest);
-        let mut digits = Buffer::new();
-        self.take(digits.format(number).as_bytes())
-            .then_some(number)
+        if !self.take(b"-") {
+            return Some(self.take_digits()? as i64);
+        }
+        match self.take_digits()? {
+            0 => None,
+            number => Some(-(number as i64)),
+        }
     }
 
     fn take_text(&mut self, alloc: Global) -> Result<Option<Text>, Memory>
@@ -147,10 +157,10 @@ impl<'a> Cursor<'a> {
         }
         let front = self.take_plain();
         if self.take(b"\"") {
-            return text_of(alloc, front);
+            return Text::of_bytes(alloc, front);
         }
         match self.take_escaped(alloc, front)? {
-            Some(text) => text_of(alloc, &text),
+            Some(text) => Text::of_bytes(alloc, &text),
             None => Ok(None),
         }
     }

@@ -1,93 +1,114 @@
 ghost use Rattle.std.specs.Prelude.{◌≤◌, List, slice_index, All, ◌≡◌, ◌<◌, ◌/◌, ◌%◌, [], ◌∷◌, ◌++◌, codes, flat_map, OnOk, OnErr};
+ghost use Rattle.std.specs.Prelude.{◌≢◌, nat_lt, if◌then◌else◌, length, take, MatchOption};
 ghost use Rattle.std.specs.Char.{digit_char};
 ghost use Rattle.gr_value.specs.ValueText.{escaped, quoted, scalar_text, field_text, value_text};
 ghost use Rattle.gr_value.specs.Values.{IsValue};
 ghost use Rattle.gr_value.specs.declared.value.Field.{Field as AField};
 
-use crate::escapes::{hex_digit, plain_len, put_run};
+use crate::escapes::{hex_digit, plain_len, plain_moved, put_run};
 use crate::{Field, Memory, Scalar, Value};
 use itoa::Buffer;
 use std::alloc::Global;
 
-/// Most values have no longer text.
-const USUAL_BYTES: usize = 64;
-
-/// So many bytes of a text with escapes are put at a time.
-const PIECE: usize = 32;
-
+#[inline(always)]
 fn put_control(byte: u8, out: &mut Vec<u8>) -> Result<(), Memory>
     ensures { OnOk result (out.new.items
         ≡ out.old.items ++ codes "\\u00" ++ digit_char (byte / 16) ∷ digit_char (byte % 16) ∷ []) }
 {
-    out.extend_from_slice(b"\\u00")?;
-    out.push(hex_digit(byte / 16))?;
-    out.push(hex_digit(byte % 16))?;
+    let (high, low) = (hex_digit(byte / 16), hex_digit(byte % 16));
+    out.extend_from_slice(&[b'\\', b'u', b'0', b'0', high, low])?;
     Ok(())
 }
 
+// The letter that stands for a byte behind a backslash, of the bytes that are seldom.
+#[inline(never)]
+#[tactic(auto, unfolding(crate::specs::ValueText::escaped))]
+fn rare_letter_of(byte: u8) -> Option<u8>
+    requires quote { byte ≢ 0x22 }
+    requires backslash { byte ≢ 0x5C }
+    requires line { byte ≢ 0x0A }
+    ensures { MatchOption result
+        (escaped byte ≡ (if nat_lt byte 0x20
+        then codes "\\u00" ++ digit_char (byte / 16) ∷ digit_char (byte % 16) ∷ [] else byte ∷ []))
+        (λ letter. escaped byte ≡ 0x5C ∷ letter ∷ []) }
+{
+    match byte {
+        0x08 => Some(b'b'),
+        0x09 => Some(b't'),
+        0x0C => Some(b'f'),
+        0x0D => Some(b'r'),
+        _ => None,
+    }
+}
+
+// The letter that stands for a byte behind a backslash.
+#[inline(always)]
+#[tactic(auto, unfolding(crate::specs::ValueText::escaped))]
+fn letter_of(byte: u8) -> Option<u8>
+    ensures { MatchOption result
+        (escaped byte ≡ (if nat_lt byte 0x20
+        then codes "\\u00" ++ digit_char (byte / 16) ∷ digit_char (byte % 16) ∷ [] else byte ∷ []))
+        (λ letter. escaped byte ≡ 0x5C ∷ letter ∷ []) }
+{
+    match byte {
+        b'"' | b'\\' => Some(byte),
+        0x0A => Some(b'n'),
+        _ => rare_letter_of(byte),
+    }
+}
+
+#[inline(always)]
 #[tactic(auto, unfolding(crate::specs::ValueText::escaped))]
 fn put_escaped(byte: u8, out: &mut Vec<u8>) -> Result<(), Memory>
     ensures { OnOk result (out.new.items ≡ out.old.items ++ escaped byte) }
 {
-    match byte {
-        b'"' => out.extend_from_slice(b"\\\"")?,
-        b'\\' => out.extend_from_slice(b"\\\\")?,
-        0x08 => out.extend_from_slice(b"\\b")?,
-        0x09 => out.extend_from_slice(b"\\t")?,
-        0x0A => out.extend_from_slice(b"\\n")?,
-        0x0C => out.extend_from_slice(b"\\f")?,
-        0x0D => out.extend_from_slice(b"\\r")?,
-        _ if byte < 0x20 => put_control(byte, out)?,
-        _ => out.push(byte)?,
+    if let Some(letter) = letter_of(byte) {
+        out.push(b'\\')?;
+        out.push(letter)?;
+    } else if byte < 0x20 {
+        put_control(byte, out)?;
+    } else {
+        out.push(byte)?;
     }
     Ok(())
 }
 
-fn put_escapes(text: &[u8], out: &mut Vec<u8>) -> Result<(), Memory>
-    ensures { OnOk result (out.new.items ≡ out.old.items ++ flat_map escaped text.now) }
+// All that is put stands in a place of its own until it is whole.
+#[tactic(auto, using(crate::proofs::Kept::kept_more, crate::proofs::Kept::kept_same))]
+fn put_escapes(alloc: Global, text: &[u8], out: &mut Vec<u8>) -> Result<(), Memory>
+    ensures ok { OnOk result (out.new.items ≡ out.old.items ++ flat_map escaped text.now) }
+    ensures kept { OnErr result (take (length out.old.items) out.new.items ≡ out.old.items) }
 {
-    for byte in text {
-        put_escaped(*byte, out)?;
-    }
-    Ok(())
-}
-
-// The bytes in front that stand for themselves are put at once.
-fn put_piece(text: &[u8], out: &mut Vec<u8>) -> Result<(), Memory>
-    ensures { OnOk result (out.new.items ≡ out.old.items ++ flat_map escaped text.now) }
-{
-    let (plain, rest) = text.split_at(plain_len(text));
-    put_run(plain, out)?;
-    put_escapes(rest, out)
-}
-
-// Behind an escape others often follow soon, so the text is put piece by piece.
-fn put_pieces(text: &[u8], out: &mut Vec<u8>) -> Result<(), Memory>
-    ensures { OnOk result (out.new.items ≡ out.old.items ++ flat_map escaped text.now) }
-{
+    let mut marks = Vec::with_capacity(alloc, text.len())?;
     let mut rest = text;
-    'pieces: while !rest.is_empty() {
-        let (piece, behind) = rest.split_at(rest.len().min(PIECE));
-        put_piece(piece, out)?;
-        rest = behind;
+    'escapes: while let [byte, behind @ ..] = rest {
+        put_escaped(*byte, &mut marks)?;
+        rest = plain_moved(behind, &mut marks)?;
     }
+    out.extend_from_slice(&marks)?;
     Ok(())
 }
 
 // Few texts have bytes that don't stand for themselves.
-fn put_quoted(text: &[u8], out: &mut Vec<u8>) -> Result<(), Memory>
-    ensures { OnOk result (out.new.items ≡ out.old.items ++ quoted text.now) }
+#[tactic(auto, using(crate::proofs::Kept::kept_more, crate::proofs::Kept::kept_same))]
+fn put_quoted(alloc: Global, text: &[u8], out: &mut Vec<u8>) -> Result<(), Memory>
+    ensures ok { OnOk result (out.new.items ≡ out.old.items ++ quoted text.now) }
+    ensures kept { OnErr result (take (length out.old.items) out.new.items ≡ out.old.items) }
 {
     let (plain, rest) = text.split_at(plain_len(text));
     out.push(b'"')?;
     put_run(plain, out)?;
-    put_pieces(rest, out)?;
+    if !rest.is_empty() {
+        put_escapes(alloc, rest, out)?;
+    }
     out.push(b'"')?;
     Ok(())
 }
 
-fn put_scalar(scalar: &Scalar, out: &mut Vec<u8>) -> Result<(), Memory>
-    ensures { OnOk result (out.new.items ≡ out.old.items ++ scalar_text scalar.now) }
+#[tactic(auto, using(crate::proofs::Kept::kept_more, crate::proofs::Kept::kept_same))]
+fn put_scalar(alloc: Global, scalar: &Scalar, out: &mut Vec<u8>) -> Result<(), Memory>
+    ensures ok { OnOk result (out.new.items ≡ out.old.items ++ scalar_text scalar.now) }
+    ensures kept { OnErr result (take (length out.old.items) out.new.items ≡ out.old.items) }
 {
     match scalar {
         Scalar::Null => out.extend_from_slice(b"null")?,
@@ -97,39 +118,44 @@ fn put_scalar(scalar: &Scalar, out: &mut Vec<u8>) -> Result<(), Memory>
             let mut digits = Buffer::new();
             out.extend_from_slice(digits.format(*number).as_bytes())?;
         }
-        Scalar::Text(text) => put_quoted(text.bytes(), out)?,
+        Scalar::Text(text) => put_quoted(alloc, text.bytes(), out)?,
     }
     Ok(())
 }
 
-fn put_field(field: &Field, out: &mut Vec<u8>) -> Result<(), Memory>
-    ensures { OnOk result (out.new.items ≡ out.old.items ++ field_text field.now) }
+#[tactic(auto, using(crate::proofs::Kept::kept_more, crate::proofs::Kept::kept_same))]
+fn put_field(alloc: Global, field: &Field, out: &mut Vec<u8>) -> Result<(), Memory>
+    ensures ok { OnOk result (out.new.items ≡ out.old.items ++ field_text field.now) }
+    ensures kept { OnErr result (take (length out.old.items) out.new.items ≡ out.old.items) }
 {
-    put_quoted(field.name.bytes(), out)?;
+    put_quoted(alloc, field.name.bytes(), out)?;
     out.push(b':')?;
-    put_scalar(&field.scalar, out)?;
+    put_scalar(alloc, &field.scalar, out)?;
     Ok(())
 }
 
-fn put_rest(fields: &[Field], out: &mut Vec<u8>) -> Result<(), Memory>
-    ensures { OnOk result (out.new.items
+#[tactic(auto, using(crate::proofs::Kept::kept_more, crate::proofs::Kept::kept_same))]
+fn put_rest(alloc: Global, fields: &[Field], out: &mut Vec<u8>) -> Result<(), Memory>
+    ensures ok { OnOk result (out.new.items
         ≡ out.old.items ++ flat_map (λ field. codes "," ++ field_text field) fields.now) }
+    ensures kept { OnErr result (take (length out.old.items) out.new.items ≡ out.old.items) }
 {
     for field in fields {
         out.push(b',')?;
-        put_field(field, out)?;
+        put_field(alloc, field, out)?;
     }
     Ok(())
 }
 
-#[tactic(auto, unfolding(crate::specs::ValueText::value_text))]
-fn put_fields(fields: &[Field], out: &mut Vec<u8>) -> Result<(), Memory>
-    ensures { OnOk result (out.new.items ≡ out.old.items ++ value_text fields.now) }
+#[tactic(auto, using(crate::proofs::Kept::kept_more, crate::proofs::Kept::kept_same), unfolding(crate::specs::ValueText::value_text))]
+fn put_fields(alloc: Global, fields: &[Field], out: &mut Vec<u8>) -> Result<(), Memory>
+    ensures ok { OnOk result (out.new.items ≡ out.old.items ++ value_text fields.now) }
+    ensures kept { OnErr result (take (length out.old.items) out.new.items ≡ out.old.items) }
 {
     out.push(b'{')?;
     if let [first, rest @ ..] = fields {
-        put_field(first, out)?;
-        put_rest(rest, out)?;
+        put_field(alloc, first, out)?;
+        put_rest(alloc, rest, out)?;
     }
     out.push(b'}')?;
     Ok(())
@@ -141,10 +167,12 @@ impl Value {
         ensures ok { OnOk result (out.new.items ≡ out.old.items ++ value_text self.now) }
         ensures err { OnErr result (out.new.items ≡ out.old.items) }
     {
-        let mut text = Vec::with_capacity(alloc, USUAL_BYTES)?;
-        put_fields(self.fields(), &mut text)?;
-        out.extend_from_slice(&text)?;
-        Ok(())
+        let before = out.len();
+        let done = put_fields(alloc, self.fields(), out);
+        if done.is_err() {
+            out.truncate(before);
+        }
+        done
     }
 }
 

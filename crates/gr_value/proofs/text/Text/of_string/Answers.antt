@@ -6,3 +6,6 @@ invariant_of-result c = rw (c.in-Some.ensures, c.as_bytes.ensures.value) (is_utf
 
 pub returns-in-Some-clause-utf8 : goal.returns-in-Some-clause-utf8
 returns-in-Some-clause-utf8 c = rw (c.in-Some.ensures, c.as_bytes.ensures.value) (is_utf8-string_bytes c.args.text)
+
+pub far-requires : goal.far-requires
+far-requires c = rw c.into_bytes.ensures.value (is_utf8-string_bytes c.args.text)
