@@ -1,6 +1,10 @@
+pub mod Counted
 pub mod Due
 pub mod Found
+pub mod Links
+pub mod Listed
 pub mod Lists
 pub mod Ordered
+pub mod Sifted
 pub mod Tied
 pub mod Timed

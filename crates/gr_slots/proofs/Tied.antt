@@ -1,5 +1,5 @@
 -- Slots in cells, and what is found there.
-use Rattle.std.proofs.Common.{◌≡◌, ◌∙◌, ap, sym, subst, refl, ℕ, ◌+◌, ◌-◌, ◌<◌, ◌==◌, List, [], ◌∷◌, ◌++◌}
+use Rattle.std.proofs.Common.{◌≡◌, ◌≢◌, ◌∙◌, ap, sym, subst, refl, ℕ, ◌+◌, ◌-◌, ◌<◌, ◌==◌, List, [], ◌∷◌, ◌++◌}
 use Rattle.std.proofs.Common.{Bool, true, false, Option, Some, None, length, option_map, get_or, arith}
 use Rattle.std.specs.Prelude.{cond, IfSome, IsSome}
 use Rattle.std.specs.Ordering.{nat_cmp}
@@ -23,7 +23,7 @@ use Rattle.gr_slots.specs.Slots.{slot_at, with_slot, without}
 use Rattle.gr_slots.specs.Cells.{key_in, slot_in, left_at, rows_in, AreTied}
 use Rattle.gr_slots.proofs.Found.{at-with_slot, at-without, sorted-with_slot, sorted-without}
 use Rattle.gr_slots.proofs.Ordered.{one_order}
-use Rattle.gr_slots.proofs.Lists.{get-push}
+use Rattle.gr_slots.proofs.Lists.{get-push, is_same, same_of, not_same}
 use Rattle.gr_slots.proofs.Timed.{key_order, one_key, key_itself}
 
 abbrev is_key : List ℕ → List ℕ → Bool
@@ -82,21 +82,8 @@ rows_ordered places cells tied = sorted_rows cells places.entries tied.ordered
 
 -- ---- keys and places
 
-some_one : {A : Type 0} (x y : A) → Some x ≡ Some y → x ≡ y
+pub some_one : {A : Type 0} (x y : A) → Some x ≡ Some y → x ≡ y
 some_one x y e = cc
-
-is_same : (a b : ℕ) → a ≡ b → (a == b) ≡ true
-is_same a b e = grind (arith, nat_tests)
-
-same_of : (a b : ℕ) → (a == b) ≡ true → a ≡ b
-same_of a b e = grind (arith, nat_tests)
-
-not_same : (a b : ℕ) → (a ≡ b → ⊥) → (a == b) ≡ false
-not_same a b never = at_test (a == b) refl
-  where
-    at_test : (t : Bool) → (a == b) ≡ t → t ≡ false
-    at_test true e = absurd (never (same_of a b e))
-    at_test false e = refl
 
 apart : (key q : List ℕ) → is_key key q ≡ false → key ≡ q → ⊥
 apart key q e same = let t : is_key key q ≡ true = ap (is_key key) (sym same) ∙ key_itself key in cc
@@ -107,11 +94,13 @@ module _ (places : BTreeMap (List ℕ) ℕ) (cells : List Cell) (tied : AreTied 
       → get (slice_cmp nat_cmp) places two ≡ Some place → one ≡ two
   one_of_place one two place e f = some_one one two (sym (tied.has_key one place e) ∙ tied.has_key two place f)
 
-  -- a cell that has the key is at its place
-  pub at_guess : (key : List ℕ) (guess : ℕ) (cell : Cell) → slice_get cells guess ≡ Some cell → cell.key ≡ key
-      → Some guess ≡ get (slice_cmp nat_cmp) places key
-  at_guess key guess cell is same =
-      sym (tied.has_place key guess (ap (option_map (λ (cell : Cell). cell.key)) is ∙ ap Some same))
+  -- a key with no cell has no place
+  pub no_cell : (key : List ℕ) → ((place : ℕ) → key_in cells place ≢ Some key) → get (slice_cmp nat_cmp) places key ≡ None
+  no_cell key never = at_place (get (slice_cmp nat_cmp) places key) refl
+    where
+      at_place : (o : Option ℕ) → get (slice_cmp nat_cmp) places key ≡ o → get (slice_cmp nat_cmp) places key ≡ None
+      at_place None e = e
+      at_place (Some place) e = absurd (never place (tied.has_key key place e))
 
   -- what stands at a key, where its place is known, and where it has none
   pub found_at : (key : List ℕ) (place : Option ℕ) → place ≡ get (slice_cmp nat_cmp) places key
@@ -143,16 +132,21 @@ module _ (places : BTreeMap (List ℕ) ℕ) (cells : List Cell) (tied : AreTied 
           absurd (let k : None ≡ Some key = sym (ap (option_map (λ (cell : Cell). cell.key)) f) ∙ tied.has_key key place e in cc)
       at_cell (Some cell) f = slice_get_within cells place cell f
 
+  -- ---- cells with the same keys
+  module _ (next : List Cell) (keys : (p : ℕ) → key_in next p ≡ key_in cells p) where
+    pub same_tied : AreTied places next
+    same_tied = record {
+      ordered = tied.ordered;
+      has_key = λ k p e. keys p ∙ tied.has_key k p e;
+      has_place = λ k p e. tied.has_place k p (sym (keys p) ∙ e);
+    }
+
   -- ---- a slot is put into the cell of its key
   module _ (next : List Cell) (key : List ℕ) (place : ℕ) (slot : Slot) (is : get (slice_cmp nat_cmp) places key ≡ Some place)
       (keys : (p : ℕ) → key_in next p ≡ key_in cells p)
       (slots : (p : ℕ) → slot_in next p ≡ cond (p == place) (Some slot) (slot_in cells p)) where
     pub put_tied : AreTied places next
-    put_tied = record {
-      ordered = tied.ordered;
-      has_key = λ k p e. keys p ∙ tied.has_key k p e;
-      has_place = λ k p e. tied.has_place k p (sym (keys p) ∙ e);
-    }
+    put_tied = same_tied next keys
 
     at_put : (q : List ℕ) (b : Bool) → is_key key q ≡ b → (o : Option ℕ) → get (slice_cmp nat_cmp) places q ≡ o
         → option_and_then (slot_in next) o ≡ cond b (Some slot) (option_and_then (slot_in cells) o)
@@ -180,25 +174,28 @@ module _ (places : BTreeMap (List ℕ) ℕ) (cells : List Cell) (tied : AreTied 
       (entered : (q : List ℕ) → get (slice_cmp nat_cmp) after q
       ≡ cond (is_key key q) (Some (length cells)) (get (slice_cmp nat_cmp) places q))
       (ordered : IsOrdered (slice_cmp nat_cmp) after) where
+    abbrev entered_cell : Cell
+    entered_cell = record { key = key; slot = slot; next = 0 }
+
     abbrev grown : List Cell
-    grown = cells ++ record { key = key; slot = slot } ∷ []
+    grown = cells ++ entered_cell ∷ []
 
     key_grown : (p : ℕ) → key_in grown p ≡ cond (p == length cells) (Some key) (key_in cells p)
     key_grown p =
-        ap (option_map (λ (cell : Cell). cell.key)) (get-push cells (record { key = key; slot = slot }) p) ∙ at_test (p == length cells)
+        ap (option_map (λ (cell : Cell). cell.key)) (get-push cells entered_cell p) ∙ at_test (p == length cells)
       where
         at_test : (t : Bool)
-            → option_map (λ (cell : Cell). cell.key) (cond t (Some (record { key = key; slot = slot })) (slice_get cells p))
+            → option_map (λ (cell : Cell). cell.key) (cond t (Some entered_cell) (slice_get cells p))
             ≡ cond t (Some key) (key_in cells p)
         at_test true = refl
         at_test false = refl
 
     slot_grown : (p : ℕ) → slot_in grown p ≡ cond (p == length cells) (Some slot) (slot_in cells p)
     slot_grown p =
-        ap (option_map (λ (cell : Cell). cell.slot)) (get-push cells (record { key = key; slot = slot }) p) ∙ at_test (p == length cells)
+        ap (option_map (λ (cell : Cell). cell.slot)) (get-push cells entered_cell p) ∙ at_test (p == length cells)
       where
         at_test : (t : Bool)
-            → option_map (λ (cell : Cell). cell.slot) (cond t (Some (record { key = key; slot = slot })) (slice_get cells p))
+            → option_map (λ (cell : Cell). cell.slot) (cond t (Some entered_cell) (slice_get cells p))
             ≡ cond t (Some slot) (slot_in cells p)
         at_test true = refl
         at_test false = refl
@@ -227,7 +224,7 @@ module _ (places : BTreeMap (List ℕ) ℕ) (cells : List Cell) (tied : AreTied 
             absurd (let f : None ≡ Some p = sym absent ∙ ap (get (slice_cmp nat_cmp) places) (one_key key q k) ∙ tied.has_place q p e in cc)
         at_key false k = tied.has_place q p e
 
-    pub enter_tied : AreTied after (cells ++ record { key = key; slot = slot } ∷ [])
+    pub enter_tied : AreTied after (cells ++ record { key = key; slot = slot; next = 0 } ∷ [])
     enter_tied = record {
       ordered = ordered;
       has_key = λ q p e. key_of q p (is_key key q) refl (sym (entered q) ∙ e);
@@ -241,7 +238,7 @@ module _ (places : BTreeMap (List ℕ) ℕ) (cells : List Cell) (tied : AreTied 
     at_entered q false k None e = refl
     at_entered q false k (Some p) e = slot_grown p ∙ ap (λ t. cond t (Some slot) (slot_in cells p)) (old_place q p e)
 
-    pub enter_rows : rows_in (cells ++ record { key = key; slot = slot } ∷ []) after.entries
+    pub enter_rows : rows_in (cells ++ record { key = key; slot = slot; next = 0 } ∷ []) after.entries
         ≡ with_slot key slot (rows_in cells places.entries)
     enter_rows =
         let old = rows_in cells places.entries in

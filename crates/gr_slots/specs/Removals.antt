@@ -1,44 +1,46 @@
--- When each removal came in, in that order, and how that is tied to the slots.
-use Rattle.std.specs.Prelude.{◌≡◌, ℕ, List, Bool, false, ◌&&◌, ◌==◌, Option, Some, None, if◌then◌else◌}
-use Rattle.std.specs.Ordering.{nat_cmp, ordering_then}
-use Rattle.std.specs.declared.cmp.Ordering.{Ordering}
+-- The keys whose removals came in at each moment, and how they are tied to the slots.
+use Rattle.std.specs.Prelude.{◌≡◌, ℕ, List, [], Bool, true, false, ◌==◌, Option, Some, None}
+use Rattle.std.specs.Global.{Vec}
+use Rattle.std.specs.Ordering.{nat_cmp}
 use Rattle.std.specs.Cmp.Lexicographic.{slice_cmp}
 use Rattle.std.specs.List.{list_any}
-use Rattle.std.specs.BTreeMap.{is_at}
 use Rattle.std.specs.List.Sorted.{IsStrictlySortedBy}
 use Rattle.std.specs.Map.{keys_of}
-use Rattle.std.specs.BTreeSet.{BTreeSet, contains, IsOrdered as IsOrderedSet}
-use Rattle.gr_slots.specs.Slots.{Entries, slot_at, removed_at, is_late}
+use Rattle.std.specs.BTreeMap.{BTreeMap, get, is_at, IsOrdered}
+use Rattle.gr_slots.specs.declared.slot.Slot.{Slot}
+use Rattle.gr_slots.specs.Slots.{Entries, slot_at, removed_at}
 
--- a moment, and the key whose removal came in then
-abbrev pub Timed : Type 0
-Timed = ℕ × List ℕ
+-- lists of keys by moments
+abbrev pub Moments : Type 0
+Moments = BTreeMap ℕ (Vec (List ℕ))
 
--- by the moments, and at one moment by the keys
-abbrev pub timed_cmp : Timed → Timed → Ordering
-timed_cmp one other = ordering_then (nat_cmp one.0 other.0) (slice_cmp nat_cmp one.1 other.1)
+abbrev pub listed_in : Option (Vec (List ℕ)) → List (List ℕ)
+listed_in None = []
+listed_in (Some keys) = keys.items
 
--- whether it is the moment of this key, if there is one
-abbrev pub is_timed : Option ℕ → List ℕ → Timed → Bool
-is_timed None key q = false
-is_timed (Some at) key q = is_at (timed_cmp (at, key)) q
+-- the keys that are listed at a moment
+abbrev pub keys_at : Moments → ℕ → List (List ℕ)
+keys_at removals at = listed_in (get nat_cmp removals at)
 
--- the moment that is no more: the one before, where the slot was set, or else the new one
-abbrev pub stale_of : Option ℕ → Option ℕ → Bool → Option ℕ
-stale_of None None set = None
-stale_of None (Some after) set = if set then None else Some after
-stale_of (Some before) None set = if set then Some before else None
-stale_of (Some before) (Some after) set = if before == after then None else (if set then Some before else Some after)
+-- whether a key is among keys
+abbrev pub is_listed : List ℕ → List (List ℕ) → Bool
+is_listed key keys = list_any (is_at (slice_cmp nat_cmp key)) keys
 
--- whether a removal of the key has timed out
-abbrev pub is_due_at : ℕ → List ℕ → Timed → Bool
-is_due_at clock key timed = is_late clock timed.0 && is_at (slice_cmp nat_cmp timed.1) key
+-- whether it is this moment, if there is one
+abbrev pub is_moment : ℕ → Option ℕ → Bool
+is_moment at None = false
+is_moment at (Some moment) = moment == at
 
-abbrev pub is_any_due : ℕ → List ℕ → List Timed → Bool
-is_any_due clock key removals = list_any (is_due_at clock key) removals
+-- whether what stands is a removal that came in at the moment
+abbrev pub is_removed_at : ℕ → Option Slot → Bool
+is_removed_at at slot = is_moment at (removed_at slot)
 
--- just the moments of the removals that stand are kept
-pub record AreIndexed (slots : Entries) (removals : BTreeSet Timed) : Type 0 where
+-- whether what stands is a removal that came in at one of the moments
+abbrev pub is_removed_among : List ℕ → Option Slot → Bool
+is_removed_among moments slot = list_any (λ at. is_removed_at at slot) moments
+
+-- Each removal that stands is listed at its moment. What else is listed is stale.
+pub record AreIndexed (slots : Entries) (removals : Moments) : Type 0 where
   pub ordered : IsStrictlySortedBy (slice_cmp nat_cmp) (keys_of slots)
-  pub in_time : IsOrderedSet timed_cmp removals
-  pub indexed : (q : Timed) → contains timed_cmp removals q ≡ is_timed (removed_at (slot_at q.1 slots)) q.1 q
+  pub in_time : IsOrdered nat_cmp removals
+  pub listed : (key : List ℕ) (at : ℕ) → is_removed_at at (slot_at key slots) ≡ true → is_listed key (keys_at removals at) ≡ true

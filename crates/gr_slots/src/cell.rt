@@ -1,9 +1,22 @@
+ghost use Rattle.std.specs.Prelude.{◌≡◌, option_copied};
+ghost use Rattle.std.specs.List.{slice_get};
+
 use crate::Slot;
 use gr_value::Key;
 
-/// A key and what stands at it.
+/// A key and what stands at it. The cells whose keys have one seat are a chain, in which each has the
+/// place, plus 1, of the next older one, or 0.
 #[derive(Drop)]
 pub struct Cell {
     pub key: Key,
     pub slot: Slot,
+    pub next: u32,
+}
+
+/// The cell at a place.
+#[inline(always)]
+pub fn cell_at(cells: &[Cell], place: usize) -> Option<&Cell>
+    ensures { option_copied result ≡ slice_get cells.now place }
+{
+    cells.get(place)
 }

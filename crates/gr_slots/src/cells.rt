@@ -8,30 +8,32 @@ ghost use Rattle.gr_slots.specs.Slots.{removed_at, slot_at, with_slot, without};
 
 use crate::Slot;
 use crate::cell::Cell;
-use crate::hints::Hints;
 use crate::places::{enter, leave, place_of, put_in, rows_in, slot_in};
+use crate::seats::{Seats, link, make_room};
 use gr_value::{Key, Memory};
 use std::alloc::Global;
 use std::collections::BTreeMap;
 use std::marker::Model;
 
-/// Slots in cells, one for each key. A hint may lead to a key's cell without a search for the key.
+/// Slots in cells, one for each key. The chain of a key's seat leads to its cell, or tells that it has
+/// none, without a search for the key.
 #[derive(Drop)]
 pub struct Cells {
     places: BTreeMap<Key, usize>,
     cells: Vec<Cell>,
-    hints: Hints,
+    seats: Seats,
 }
 
 impl Model for Cells {
     ghost use Rattle.gr_slots.specs.Slots.{Entries};
     ghost use Rattle.gr_slots.specs.Cells.{rows_in, AreTied};
+    ghost use Rattle.gr_slots.specs.Links.{IsKept};
 
     ghost Value = { Entries };
 
     ghost view = { λ s. rows_in s.cells.items s.places.entries };
 
-    ghost invariant = { λ s. AreTied s.places s.cells.items };
+    ghost invariant = { λ s. AreTied s.places s.cells.items × IsKept s.seats s.cells.items };
 }
 
 impl Cells {
@@ -41,7 +43,7 @@ impl Cells {
         Cells {
             places: BTreeMap::new(alloc),
             cells: Vec::new(alloc),
-            hints: Hints::new(alloc),
+            seats: Seats::new(alloc),
         }
     }
 
@@ -49,12 +51,7 @@ impl Cells {
     pub fn find(&self, key: &Key) -> Option<&Slot>
         ensures { option_copied result ≡ slot_at key.now self.now }
     {
-        let place = place_of(
-            &self.places,
-            self.cells.as_slice(),
-            self.hints.guess(key),
-            key,
-        )?;
+        let place = place_of(&self.places, self.cells.as_slice(), &self.seats, key)?;
         slot_in(self.cells.as_slice(), place)
     }
 
@@ -65,7 +62,7 @@ impl Cells {
         rows_in(alloc, &self.places, self.cells.as_slice())
     }
 
-    // Sets what stands at a key that has no slot.
+    // Sets what stands at a key that has no slot. A place beyond 32 bits is refused as memory is.
     #[inline(never)]
     fn enter(&mut self, alloc: Global, key: &Key, slot: Slot) -> Result<(), Memory>
         requires { slot_at key.now self.old ≡ None }
@@ -73,9 +70,10 @@ impl Cells {
         ensures err { OnErr result (self.new ≡ self.old) }
     {
         let place = self.cells.len();
-        self.hints.widen(alloc, place + 1)?;
+        let keys = u32::try_from(place + 1).map_err(|_| Memory)?;
+        make_room(alloc, &mut self.seats, &mut self.cells, keys)?;
         enter(alloc, &mut self.places, &mut self.cells, key, slot)?;
-        self.hints.note(key, place);
+        link(&mut self.seats, &mut self.cells, place);
         Ok(())
     }
 
@@ -86,12 +84,8 @@ impl Cells {
         ensures err { OnErr result.1 (self.new ≡ self.old) }
         ensures ordered { IsStrictlySortedBy (slice_cmp nat_cmp) (keys_of self.new) }
     {
-        let guess = self.hints.guess(key);
-        match place_of(&self.places, self.cells.as_slice(), guess, key) {
-            Some(place) => {
-                self.hints.note(key, place);
-                (put_in(&mut self.cells, place, slot), Ok(()))
-            }
+        match place_of(&self.places, self.cells.as_slice(), &self.seats, key) {
+            Some(place) => (put_in(&mut self.cells, place, slot), Ok(())),
             None => (None, self.enter(alloc, key, slot)),
         }
     }
@@ -103,6 +97,8 @@ impl Cells {
         ensures gone { self.new ≡ without key.now self.old }
         ensures ordered { IsStrictlySortedBy (slice_cmp nat_cmp) (keys_of self.new) }
     {
-        leave(&mut self.places, &mut self.cells, key)
+        let left = leave(&mut self.places, &mut self.cells, key)?;
+        self.seats.left = self.seats.left.saturating_add(1);
+        Some(left)
     }
 }

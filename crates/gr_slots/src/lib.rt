@@ -3,11 +3,13 @@
 
 mod cell;
 mod cells;
-mod hints;
 mod places;
 mod removals;
+mod seats;
+mod sifting;
 mod slot;
 mod slots;
+mod walk;
 
 pub use slot::Slot;
 pub use slots::Slots;

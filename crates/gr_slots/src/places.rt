@@ -1,4 +1,4 @@
-ghost use Rattle.std.specs.Prelude.{◌≡◌, ◌==◌, ◌<◌, ◌++◌, ◌∷◌, [], ℕ, List, Some, None, OnOk, OnErr, IfOk, cond, length, map, option_copied, option_map, IfSome, IsSome};
+ghost use Rattle.std.specs.Prelude.{◌≡◌, ◌==◌, ◌<◌, ◌++◌, ◌∷◌, [], ℕ, List, Some, None, OnOk, OnErr, IfOk, cond, length, map, option_copied, option_map, IfSome, IfNone, IsSome};
 ghost use Rattle.std.specs.Ordering.{nat_cmp};
 ghost use Rattle.std.specs.Cmp.Lexicographic.{slice_cmp};
 ghost use Rattle.std.specs.BTreeMap.{get, is_at, IsOrdered};
@@ -6,40 +6,44 @@ ghost use Rattle.std.specs.List.{slice_get};
 ghost use Rattle.std.specs.Map.Iter.{deref_pair};
 ghost use Rattle.gr_slots.specs.Slots.{removed_at, slot_at, with_slot, without};
 ghost use Rattle.gr_slots.specs.Cells.{key_in, slot_in, left_at, rows_in, AreTied};
+ghost use Rattle.gr_slots.specs.Links.{next_in, IsKept};
 
 use crate::Slot;
-use crate::cell::Cell;
+use crate::cell::{Cell, cell_at};
 use crate::removals::removed_at;
+use crate::seats::Seats;
+use crate::walk::{Met, walk};
 use gr_value::{Copied, Key, Memory};
 use std::alloc::Global;
 use std::collections::BTreeMap;
 use std::mem;
 
-// The cell at a place.
-#[inline(always)]
-fn cell_at(cells: &[Cell], place: usize) -> Option<&Cell>
-    ensures { option_copied result ≡ slice_get cells.now place }
+// The place of a key, which is looked for among all.
+#[inline(never)]
+fn search(places: &BTreeMap<Key, usize>, key: &Key) -> Option<usize>
+    ensures { result ≡ get (slice_cmp nat_cmp) places.now key.now }
 {
-    cells.get(place)
+    places.get(key).copied()
 }
 
-/// The place of a key, which is looked for where it may stand, and then among all.
+/// The place of a key. Where no cell left since all were linked, the chain of its seat tells that it has
+/// none.
 #[inline(always)]
 pub fn place_of(
     places: &BTreeMap<Key, usize>,
     cells: &[Cell],
-    guess: usize,
+    seats: &Seats,
     key: &Key,
 ) -> Option<usize>
-    requires { AreTied places.now cells.now }
+    requires tied { AreTied places.now cells.now }
+    requires kept { IsKept seats.now cells.now }
     ensures { result ≡ get (slice_cmp nat_cmp) places.now key.now }
 {
-    if let Some(cell) = cell_at(cells, guess) {
-        if cell.key == *key {
-            return Some(guess);
-        }
+    match walk(seats, cells, key) {
+        Met::Place(place) => Some(place),
+        Met::End if seats.left == 0 => None,
+        _ => search(places, key),
     }
-    places.get(key).copied()
 }
 
 /// What stands at a place.
@@ -58,6 +62,8 @@ pub fn put_in(cells: &mut Vec<Cell>, place: usize, slot: Slot) -> Option<u64>
     ensures before { result ≡ removed_at (slot_in cells.old.items place) }
     ensures keys { (other : ℕ) → key_in cells.new.items other ≡ key_in cells.old.items other }
     ensures slots { (other : ℕ) → slot_in cells.new.items other ≡ cond (other == place) (Some slot) (slot_in cells.old.items other) }
+    ensures nexts { (other : ℕ) → next_in cells.new.items other ≡ next_in cells.old.items other }
+    ensures length { length cells.new.items ≡ length cells.old.items }
 {
     let before = mem::replace(&mut cells[place].slot, slot);
     removed_at(Some(&before))
@@ -89,13 +95,16 @@ pub fn enter(
     requires absent { get (slice_cmp nat_cmp) places.old key.now ≡ None }
     ensures tied { AreTied places.new cells.new.items }
     ensures ok { OnOk result (rows_in cells.new.items places.new.entries ≡ with_slot key.now slot (rows_in cells.old.items places.old.entries)) }
+    ensures grown { OnOk result (cells.new.items ≡ cells.old.items ++ record { key = key.now; slot = slot; next = 0 } ∷ []) }
     ensures err { OnErr result (rows_in cells.new.items places.new.entries ≡ rows_in cells.old.items places.old.entries) }
+    ensures same { OnErr result (cells.new.items ≡ cells.old.items) }
 {
     let place = cells.len();
     let entered = key.copy(alloc)?;
     cells.push(Cell {
         key: key.copy(alloc)?,
         slot,
+        next: 0,
     })?;
     match add_place(places, entered, place) {
         Ok(()) => Ok(()),
@@ -142,6 +151,7 @@ pub fn leave(
     ensures tied { AreTied places.new cells.new.items }
     ensures key { IfSome result (λ left. left.0 ≡ key.now) }
     ensures slot { option_map (λ left. left.1) result ≡ slot_at key.now (rows_in cells.old.items places.old.entries) }
+    ensures none { IfNone result (cells.new.items ≡ cells.old.items) }
     ensures gone { rows_in cells.new.items places.new.entries ≡ without key.now (rows_in cells.old.items places.old.entries) }
 {
     let (key, place) = places.remove_entry(key)?;

@@ -1,15 +1,14 @@
-ghost use Rattle.std.specs.Prelude.{◌≡◌, ℕ, List, true, false, cond, OnOk, OnErr, IfOk, Some, option_copied};
+ghost use Rattle.std.specs.Prelude.{◌≡◌, ℕ, List, true, ◌==◌, [], ◌∷◌, ◌++◌, OnOk, OnErr, IfOk, if◌then◌else◌, filter, option_copied};
 ghost use Rattle.std.specs.Ordering.{nat_cmp};
-ghost use Rattle.std.specs.Cmp.Lexicographic.{slice_cmp};
-ghost use Rattle.std.specs.BTreeSet.{contains, IsOrdered as IsOrderedSet};
-ghost use Rattle.gr_slots.specs.Slots.{removed_at};
-ghost use Rattle.gr_slots.specs.Removals.{Timed, timed_cmp, is_timed, is_any_due, stale_of};
+ghost use Rattle.std.specs.BTreeMap.{keys, IsOrdered};
+ghost use Rattle.gr_slots.specs.Slots.{removed_at, is_late};
+ghost use Rattle.gr_slots.specs.Removals.{keys_at, is_listed, is_moment};
 
 use crate::Slot;
 use gr_stamp::Kind;
 use gr_value::{Copied, Key, KeyList, Memory};
 use std::alloc::Global;
-use std::collections::BTreeSet;
+use std::collections::{BTreeMap, BTreeSet};
 
 /// How many seconds after it came in a removal has timed out.
 const TIMEOUT: u64 = 600;
@@ -30,95 +29,63 @@ pub fn removed_at(slot: Option<&Slot>) -> Option<u64>
     }
 }
 
-/// Which of the two moments has no removal any more, where a slot was to be set: the earlier slot's if
-/// it was, and else the new one's.
-pub fn stale_of(before: Option<u64>, after: Option<u64>, set: bool) -> Option<u64>
-    ensures { result ≡ stale_of before after set }
-{
-    if before == after {
-        None
-    } else if set {
-        before
-    } else {
-        after
-    }
-}
-
-// Adds the moment and the key of a removal. Few steps come here.
-#[inline(never)]
-fn add_at(
+// Puts a key last in the list of a moment.
+fn append(
     alloc: Global,
-    removals: &mut BTreeSet<(u64, Key)>,
+    removals: &mut BTreeMap<u64, Vec<Key>>,
     at: u64,
-    key: &Key,
+    key: Key,
 ) -> Result<(), Memory>
-    ensures ok { OnOk result ((q : Timed) → contains timed_cmp removals.new q
-        ≡ cond (is_timed (Some at) key.now q) true (contains timed_cmp removals.old q)) }
-    ensures err { OnErr result (removals.new.keys ≡ removals.old.keys) }
-    ensures ordered { IsOrderedSet timed_cmp removals.old → IsOrderedSet timed_cmp removals.new }
+    ensures ok { OnOk result ((moment : ℕ) → keys_at removals.new moment
+        ≡ keys_at removals.old moment ++ (if at == moment then key ∷ [] else [])) }
+    ensures err { OnErr result ((moment : ℕ) → keys_at removals.new moment ≡ keys_at removals.old moment) }
+    ensures ordered { IsOrdered nat_cmp removals.old → IsOrdered nat_cmp removals.new }
 {
-    removals.insert((at, key.copy(alloc)?))?;
+    match removals.get_mut(&at) {
+        Some(keys) => keys.push(key)?,
+        None => {
+            let mut keys = Vec::new(alloc);
+            keys.push(key)?;
+            removals.insert(at, keys)?;
+        }
+    }
     Ok(())
 }
 
-// Takes the moment and the key of a removal away. Few steps come here.
-#[inline(never)]
-fn take_at(removals: &mut BTreeSet<(u64, Key)>, at: u64, key: Key)
-    ensures gone { (q : Timed) → contains timed_cmp removals.new q
-        ≡ cond (is_timed (Some at) key q) false (contains timed_cmp removals.old q) }
-    ensures ordered { IsOrderedSet timed_cmp removals.old → IsOrderedSet timed_cmp removals.new }
-{
-    removals.remove(&(at, key));
-}
-
-/// Adds the moment and the key of a removal, if there is one.
-#[inline(always)]
-pub fn add(
+/// Lists a key at the moment when its removal came in, if that is what is to stand there.
+pub fn note(
     alloc: Global,
-    removals: &mut BTreeSet<(u64, Key)>,
+    removals: &mut BTreeMap<u64, Vec<Key>>,
     at: Option<u64>,
     key: &Key,
 ) -> Result<(), Memory>
-    ensures ok { OnOk result ((q : Timed) → contains timed_cmp removals.new q
-        ≡ cond (is_timed at key.now q) true (contains timed_cmp removals.old q)) }
-    ensures err { OnErr result (removals.new.keys ≡ removals.old.keys) }
-    ensures ordered { IsOrderedSet timed_cmp removals.old → IsOrderedSet timed_cmp removals.new }
+    ensures listed { OnOk result ((moment : ℕ) → is_moment moment at ≡ true → is_listed key.now (keys_at removals.new moment) ≡ true) }
+    ensures stays { (q : List ℕ) (moment : ℕ) → is_listed q (keys_at removals.old moment) ≡ true
+        → is_listed q (keys_at removals.new moment) ≡ true }
+    ensures ordered { IsOrdered nat_cmp removals.old → IsOrdered nat_cmp removals.new }
 {
     if let Some(at) = at {
-        add_at(alloc, removals, at, key)?;
+        append(alloc, removals, at, key.copy(alloc)?)?;
     }
     Ok(())
 }
 
-/// Takes the moment and the key of a removal away, if there is one.
-#[inline(always)]
-pub fn take(removals: &mut BTreeSet<(u64, Key)>, at: Option<u64>, key: Key)
-    ensures gone { (q : Timed) → contains timed_cmp removals.new q
-        ≡ cond (is_timed at key q) false (contains timed_cmp removals.old q) }
-    ensures ordered { IsOrderedSet timed_cmp removals.old → IsOrderedSet timed_cmp removals.new }
-{
-    if let Some(at) = at {
-        take_at(removals, at, key);
-    }
-}
-
-/// The keys of the removals that have timed out, which come first.
-pub fn timed_out(
+/// The moments of lists that have timed out, which come first.
+pub fn late_moments(
     alloc: Global,
-    removals: &BTreeSet<(u64, Key)>,
+    removals: &BTreeMap<u64, Vec<Key>>,
     clock: u64,
-) -> Result<BTreeSet<Key>, Memory>
-    ensures due { IfOk result (λ due. (q : List ℕ) → contains (slice_cmp nat_cmp) due q ≡ is_any_due clock q removals.now.keys) }
-    ensures ordered { IfOk result (λ due. IsOrderedSet (slice_cmp nat_cmp) due) }
+) -> Result<Vec<u64>, Memory>
+    ensures { IfOk result (λ moments. moments.items ≡ filter (is_late clock) (keys removals.now)) }
 {
-    let mut due = BTreeSet::new(alloc);
-    for (taken_at, key) in removals {
-        if clock.saturating_sub(*taken_at) < TIMEOUT {
-            return Ok(due);
+    let mut moments = Vec::new(alloc);
+    for (at, _) in removals {
+        if clock.saturating_sub(*at) < TIMEOUT {
+            return Ok(moments);
         }
-        due.insert(key.copy(alloc)?)?;
+        moments.push(*at)?;
     }
-    Ok(due)
+    Ok(moments)
 }
 
 /// The keys as a list, in order.

@@ -1,4 +1,4 @@
-ghost use Rattle.std.specs.Prelude.{◌≡◌, [], OnOk, OnErr, IfOk, option_copied, is_some, map};
+ghost use Rattle.std.specs.Prelude.{◌≡◌, [], ◌+◌, ◌-◌, ◌^◌, ◌<◌, true, if◌then◌else◌, OnOk, OnErr, IfOk, option_copied, is_some, map};
 ghost use Rattle.std.specs.Ordering.{nat_cmp};
 ghost use Rattle.std.specs.Cmp.Lexicographic.{slice_cmp};
 ghost use Rattle.std.specs.List.Sorted.{IsStrictlySortedBy};
@@ -8,30 +8,46 @@ ghost use Rattle.gr_slots.specs.Slots.{slot_at, with_slot, without, timed_out, t
 
 use crate::Slot;
 use crate::cells::Cells;
-use crate::removals::{add, listed, removed_at, stale_of, take, timed_out};
+use crate::removals::{late_moments, listed, note, removed_at};
+use crate::sifting::sift_all;
 use gr_value::{Copied, Key, KeyList, Memory};
 use std::alloc::Global;
-use std::collections::BTreeSet;
+use std::collections::BTreeMap;
 use std::marker::Model;
 
-/// Slots by their keys. Contracts see them as a list in the order of the keys. Beside them stands when
-/// each removal came in, in that order, so that those that have timed out are found without a scan.
+/// Slots by their keys. Contracts see them as a list in the order of the keys. Beside them each removal
+/// is listed by the moment at which it came in, so that those that have timed out are found without a
+/// scan, and it is counted. A key stays listed where its removal stands no more, until a sweep finds it.
 #[derive(Drop)]
 pub struct Slots {
     alloc: Global,
     cells: Cells,
-    removals: BTreeSet<(u64, Key)>,
+    removals: BTreeMap<u64, Vec<Key>>,
+    count: u64,
+}
+
+// How many removals there are once one more stands, or not, and one that stood is gone, or not.
+fn counted(count: u64, gone: bool, more: bool) -> u64
+    requires { more ≡ true → count + 1 < 2 ^ 64 }
+    ensures { result ≡ count + (if more then 1 else 0) - (if gone then 1 else 0) }
+{
+    match (gone, more) {
+        (false, true) => count + 1,
+        (true, false) => count.saturating_sub(1),
+        _ => count,
+    }
 }
 
 impl Model for Slots {
-    ghost use Rattle.gr_slots.specs.Slots.{Entries};
+    ghost use Rattle.std.specs.Prelude.{◌≡◌};
+    ghost use Rattle.gr_slots.specs.Slots.{Entries, tombstones};
     ghost use Rattle.gr_slots.specs.Removals.{AreIndexed};
 
     ghost Value = { Entries };
 
     ghost view = { λ s. s.cells };
 
-    ghost invariant = { λ s. AreIndexed s.cells s.removals };
+    ghost invariant = { λ s. AreIndexed s.cells s.removals × (s.count ≡ tombstones s.cells) };
 }
 
 impl Slots {
@@ -41,7 +57,8 @@ impl Slots {
         Slots {
             alloc,
             cells: Cells::new(alloc),
-            removals: BTreeSet::new(alloc),
+            removals: BTreeMap::new(alloc),
+            count: 0,
         }
     }
 
@@ -64,15 +81,16 @@ impl Slots {
         ensures ok { OnOk result (self.new ≡ with_slot key slot self.old) }
         ensures err { OnErr result (self.new ≡ self.old) }
     {
+        // One more could not be counted. There is never memory for so many.
+        if self.count == u64::MAX {
+            return Err(Memory);
+        }
         let after = removed_at(Some(&slot));
-        add(self.alloc, &mut self.removals, after, &key)?;
+        note(self.alloc, &mut self.removals, after, &key)?;
         let (before, set) = self.cells.set(self.alloc, &key, slot);
-        take(
-            &mut self.removals,
-            stale_of(before, after, set.is_ok()),
-            key,
-        );
-        set
+        set?;
+        self.count = counted(self.count, before.is_some(), after.is_some());
+        Ok(())
     }
 
     /// Takes the key's slot away, and answers whether it had one.
@@ -80,27 +98,29 @@ impl Slots {
         ensures had { result ≡ is_some (slot_at key.now self.old) }
         ensures gone { self.new ≡ without key.now self.old }
     {
-        let Some((key, slot)) = self.cells.leave(key) else {
+        let Some((_, slot)) = self.cells.leave(key) else {
             return false;
         };
-        take(&mut self.removals, removed_at(Some(&slot)), key);
+        self.count = counted(self.count, removed_at(Some(&slot)).is_some(), false);
         true
     }
 
-    /// The keys whose removal came in 600 seconds or more before the clock, in order. Only these are
-    /// looked at.
-    pub fn timed_out(&self, alloc: Global, clock: u64) -> Result<KeyList, Memory>
-        ensures keys { IfOk result (λ keys. keys ≡ timed_out clock self.now) }
-        ensures ordered { IsStrictlySortedBy (slice_cmp nat_cmp) (keys_of self.now) }
+    /// The keys whose removal came in 600 seconds or more before the clock, in order. Only the lists of
+    /// such moments are looked at, and they are rid of what is stale.
+    pub fn timed_out(&mut self, alloc: Global, clock: u64) -> Result<KeyList, Memory>
+        ensures keys { IfOk result (λ keys. keys ≡ timed_out clock self.old) }
+        ensures ordered { IsStrictlySortedBy (slice_cmp nat_cmp) (keys_of self.old) }
+        ensures same { self.new ≡ self.old }
     {
-        let due = timed_out(alloc, &self.removals, clock)?;
-        listed(alloc, &due)
+        let moments = late_moments(alloc, &self.removals, clock)?;
+        let found = sift_all(alloc, &self.cells, &mut self.removals, moments.as_slice())?;
+        listed(alloc, &found)
     }
 
     /// How many of the slots are removals.
     pub fn tombstones(&self) -> u64
         ensures { result ≡ tombstones self.now }
     {
-        self.removals.len() as u64
+        self.count
     }
 }

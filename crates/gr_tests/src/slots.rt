@@ -19,7 +19,7 @@ fn slot(alloc: Global, stamp: Stamp, removal: bool, taken_at: u64) -> Result<Slo
 }
 
 // The keys that have timed out, one behind another.
-fn words(alloc: Global, slots: &Slots, clock: u64) -> Result<Vec<u8>, Fail> {
+fn words(alloc: Global, slots: &mut Slots, clock: u64) -> Result<Vec<u8>, Fail> {
     let mut words = Vec::new(alloc);
     for key in slots.timed_out(alloc, clock)?.as_slice() {
         words.extend_from_slice(key.bytes())?;
@@ -60,12 +60,12 @@ fn removals_time_out_in_order_of_keys(rt: HostRuntime) -> Result<(), Fail> {
         (1, b""),
     ];
     for (clock, keys) in cases {
-        assert!(rt; words(alloc, &slots, clock)?.as_slice() == keys);
+        assert!(rt; words(alloc, &mut slots, clock)?.as_slice() == keys);
     }
     assert!(rt; slots.drop_slot(&Key::read(alloc, b"c")?));
     assert!(rt; !slots.drop_slot(&Key::read(alloc, b"c")?));
     assert!(rt; slots.drop_slot(&Key::read(alloc, b"b")?));
     assert_eq!(rt; slots.tombstones(), 2);
-    assert!(rt; words(alloc, &slots, 601)?.as_slice() == b"a".as_slice());
+    assert!(rt; words(alloc, &mut slots, 601)?.as_slice() == b"a".as_slice());
     Ok(())
 }

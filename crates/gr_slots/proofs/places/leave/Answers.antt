@@ -24,14 +24,14 @@ pub follow-requires-clause-known : goal.follow-requires-clause-known
 follow-requires-clause-known c =
     rw c.deref.ensures.value (follow_known c.args.places.now c.args.cells.now.items c.requires c.remove_entry.new.self
     c.remove_entry.new.self c.take_out-slot.new.cells.items c.args.key.now c.in_ok-key.place
-    (record { key = c.args.key.now; slot = c.take_out-slot.result }) (sym c.in_ok-key.ensures.value) c.in_ok-key.ensures.updates.0
+    (record { key = c.args.key.now; slot = c.take_out-slot.result; next = 0 }) (sym c.in_ok-key.ensures.value) c.in_ok-key.ensures.updates.0
     c.take_out-slot.ensures.left)
 
 pub returns-clause-tied : goal.returns-clause-tied
 returns-clause-tied c =
     leave_tied c.args.places.now c.args.cells.now.items c.requires c.remove_entry.new.self
     c.follow.new.places c.take_out-slot.new.cells.items c.args.key.now c.in_ok-key.place
-    (record { key = c.args.key.now; slot = c.take_out-slot.result }) (sym c.in_ok-key.ensures.value) c.in_ok-key.ensures.updates.0
+    (record { key = c.args.key.now; slot = c.take_out-slot.result; next = 0 }) (sym c.in_ok-key.ensures.value) c.in_ok-key.ensures.updates.0
     c.take_out-slot.ensures.left (rw (sym c.deref.ensures.value) c.follow.ensures.none)
     (rw (sym c.deref.ensures.value) c.follow.ensures.some) c.follow.ensures.ordered
 
@@ -47,6 +47,6 @@ pub returns-clause-gone : goal.returns-clause-gone
 returns-clause-gone c =
     leave_rows c.args.places.now c.args.cells.now.items c.requires c.remove_entry.new.self
     c.follow.new.places c.take_out-slot.new.cells.items c.args.key.now c.in_ok-key.place
-    (record { key = c.args.key.now; slot = c.take_out-slot.result }) (sym c.in_ok-key.ensures.value) c.in_ok-key.ensures.updates.0
+    (record { key = c.args.key.now; slot = c.take_out-slot.result; next = 0 }) (sym c.in_ok-key.ensures.value) c.in_ok-key.ensures.updates.0
     c.take_out-slot.ensures.left (rw (sym c.deref.ensures.value) c.follow.ensures.none)
     (rw (sym c.deref.ensures.value) c.follow.ensures.some) c.follow.ensures.ordered

@@ -9,8 +9,8 @@ use Rattle.gr_shard.proofs.Pushed.{on_ok}
 use Rattle.gr_shard.proofs.Sweeps.{expired_is, kept_swept}
 use Rattle.gr_shard.proofs.shard.Shard.sweep.Goals as goal
 
-pub invariant_of-self-2 : goal.invariant_of-self-2
-invariant_of-self-2 c =
+pub invariant_of-self-3 : goal.invariant_of-self-3
+invariant_of-self-3 c =
     let was = c.self.inside in
     let past = reverse was.history.deeds in
     let now = kept was.slots was.vector.ids was.floor was.clock was.joined was.to was.heard was.given was.queries.entries in
@@ -19,14 +19,17 @@ invariant_of-self-2 c =
     let is : expired ≡ due was.id c.args.moment past =
     expired_is was.id was.opening c.args.moment c.max-clock.result now past c.as_slice.result.now expired c.self.invariant ordered
     c.max-clock.ensures (c.as_slice.ensures ∙ c.in_ok-timed_out.ensures.keys)
-    (rw (← c.self.view_is) at c.in_ok-expired.ensures) in
+    c.in_ok-expired.ensures in
+    let same = c.timed_out.ensures.same in
     let rises : c.risen-self-inside.result ≡ risen was.slots was.floor expired = c.risen-self-inside.ensures.risen
+    ∙ ap (λ slots. risen slots was.floor c.as_slice-2.result.now) same
     ∙ ap (risen was.slots was.floor) c.as_slice-2.ensures in
     let low : risen was.slots was.floor expired ≤ LIMIT = subst (λ n. n ≤ LIMIT) rises c.risen-self-inside.ensures.within in
     let pushed : c.push.new.self.deeds ≡ was.history.deeds ++ Swept c.args.moment expired ∷ [] =
     on_ok c.push.result (c.push.ensures.room c.in_ok-reserve.ensures.room) c.push.ensures.ok
     ∙ ap (λ deeds. deeds ++ Swept c.args.moment expired ∷ []) c.in_ok-reserve.ensures.deeds in
     let dropped : c.drop_all.new.slots ≡ without_all expired was.slots = c.drop_all.ensures
+    ∙ ap (without_all c.as_slice-3.result.now) same
     ∙ ap (λ keys. without_all keys was.slots) c.as_slice-3.ensures in
     rw (pushed, reverse-append, dropped, rises, c.max-clock.ensures)
     (kept_swept was.id was.opening c.args.moment now past expired c.self.invariant ordered is low)
@@ -40,7 +43,7 @@ returns-clause-expired c =
     ∙ ap length (expired_is was.id was.opening c.args.moment c.max-clock.result now past c.as_slice.result.now
     c.in_ok-expired.expired c.self.invariant c.in_ok-timed_out.ensures.ordered c.max-clock.ensures
     (c.as_slice.ensures ∙ c.in_ok-timed_out.ensures.keys)
-    (rw (← c.self.view_is) at c.in_ok-expired.ensures)))
+    c.in_ok-expired.ensures))
 
 pub returns-clause-added : goal.returns-clause-added
 returns-clause-added c =
@@ -50,7 +53,7 @@ returns-clause-added c =
     let is : c.in_ok-expired.expired ≡ due was.id c.args.moment past =
     expired_is was.id was.opening c.args.moment c.max-clock.result now past c.as_slice.result.now c.in_ok-expired.expired
     c.self.invariant c.in_ok-timed_out.ensures.ordered c.max-clock.ensures (c.as_slice.ensures ∙ c.in_ok-timed_out.ensures.keys)
-    (rw (← c.self.view_is) at c.in_ok-expired.ensures) in
+    c.in_ok-expired.ensures in
     let pushed : c.push.new.self.deeds ≡ was.history.deeds ++ Swept c.args.moment (due was.id c.args.moment past) ∷ [] =
     on_ok c.push.result (c.push.ensures.room c.in_ok-reserve.ensures.room) c.push.ensures.ok
     ∙ ap (λ deeds. deeds ++ Swept c.args.moment c.in_ok-expired.expired ∷ []) c.in_ok-reserve.ensures.deeds

@@ -5,27 +5,36 @@ use Rattle.std.specs.Map.{keys_of}
 use Rattle.std.specs.Ordering.{nat_cmp}
 use Rattle.gr_slots.specs.Slots.{removed_at, slot_at, with_slot}
 use Rattle.gr_slots.proofs.Found.{sorted_either}
+use Rattle.gr_slots.proofs.Links.{kept_same}
 use Rattle.gr_slots.proofs.Tied.{found_at, within, put_tied, put_rows, rows_ordered}
 use Rattle.gr_slots.proofs.cells.Cells.set.Goals as goal
 
 pub put_in-requires : goal.put_in-requires
 put_in-requires c =
-    within c.self.inside.places c.self.inside.cells.items c.self.invariant c.args.key.now c.in-Some.place (sym c.in-Some.ensures)
+    within c.self.inside.places c.self.inside.cells.items c.self.invariant.0 c.args.key.now c.in-Some.place (sym c.in-Some.ensures)
 
 pub enter-requires : goal.enter-requires
 enter-requires c =
     ap (slot_at c.args.key.now) (sym c.self.view_is)
-    ∙ found_at c.self.inside.places c.self.inside.cells.items c.self.invariant c.args.key.now None c.in-None.ensures
+    ∙ found_at c.self.inside.places c.self.inside.cells.items c.self.invariant.0 c.args.key.now None c.in-None.ensures
+
+pub invariant_of-self : goal.invariant_of-self
+invariant_of-self c = (
+  put_tied c.self.inside.places c.self.inside.cells.items c.self.invariant.0 c.put_in.new.cells.items c.args.key.now c.in-Some.place
+      c.args.slot (sym c.in-Some.ensures) c.put_in.ensures.keys c.put_in.ensures.slots,
+  kept_same c.self.inside.seats c.self.inside.cells.items c.put_in.new.cells.items c.put_in.ensures.keys c.put_in.ensures.nexts
+      c.put_in.ensures.length c.self.invariant.1,
+)
 
 pub returns-in-Some-clause-before : goal.returns-in-Some-clause-before
 returns-in-Some-clause-before c =
     c.put_in.ensures.before
-    ∙ ap removed_at (sym (found_at c.self.inside.places c.self.inside.cells.items c.self.invariant c.args.key.now (Some c.in-Some.place)
+    ∙ ap removed_at (sym (found_at c.self.inside.places c.self.inside.cells.items c.self.invariant.0 c.args.key.now (Some c.in-Some.place)
     c.in-Some.ensures) ∙ ap (slot_at c.args.key.now) c.self.view_is)
 
 pub returns-in-Some-clause-ok : goal.returns-in-Some-clause-ok
 returns-in-Some-clause-ok c =
-    put_rows c.self.inside.places c.self.inside.cells.items c.self.invariant c.put_in.new.cells.items c.args.key.now c.in-Some.place
+    put_rows c.self.inside.places c.self.inside.cells.items c.self.invariant.0 c.put_in.new.cells.items c.args.key.now c.in-Some.place
     c.args.slot (sym c.in-Some.ensures)
     c.put_in.ensures.keys c.put_in.ensures.slots
     ∙ ap (with_slot c.args.key.now c.args.slot) c.self.view_is
@@ -33,17 +42,17 @@ returns-in-Some-clause-ok c =
 pub returns-in-Some-clause-ordered : goal.returns-in-Some-clause-ordered
 returns-in-Some-clause-ordered c =
     rows_ordered c.self.inside.places c.put_in.new.cells.items
-    (put_tied c.self.inside.places c.self.inside.cells.items c.self.invariant c.put_in.new.cells.items c.args.key.now c.in-Some.place
+    (put_tied c.self.inside.places c.self.inside.cells.items c.self.invariant.0 c.put_in.new.cells.items c.args.key.now c.in-Some.place
     c.args.slot (sym c.in-Some.ensures)
     c.put_in.ensures.keys c.put_in.ensures.slots)
 
 pub returns-in-None-clause-before : goal.returns-in-None-clause-before
 returns-in-None-clause-before c =
-    ap removed_at (sym (found_at c.self.inside.places c.self.inside.cells.items c.self.invariant c.args.key.now None c.in-None.ensures)
+    ap removed_at (sym (found_at c.self.inside.places c.self.inside.cells.items c.self.invariant.0 c.args.key.now None c.in-None.ensures)
     ∙ ap (slot_at c.args.key.now) c.self.view_is)
 
 pub returns-in-None-clause-ordered : goal.returns-in-None-clause-ordered
 returns-in-None-clause-ordered c =
     sorted_either c.enter.result c.args.key.now c.args.slot c.args.self.now c.enter.new.self c.enter.ensures.ok c.enter.ensures.err
     (subst (λ es. IsStrictlySortedBy (slice_cmp nat_cmp) (keys_of es)) c.self.view_is
-    (rows_ordered c.self.inside.places c.self.inside.cells.items c.self.invariant))
+    (rows_ordered c.self.inside.places c.self.inside.cells.items c.self.invariant.0))

@@ -1,0 +1,133 @@
+ghost use Rattle.std.specs.Prelude.{◌≡◌, ◌<◌, ◌+◌, ℕ, List, length, IfOk};
+ghost use Rattle.std.specs.List.{slice_get, slice_set};
+ghost use Rattle.gr_slots.specs.Cells.{key_in, slot_in};
+ghost use Rattle.gr_slots.specs.Links.{seat_of, AreLinked, IsKept};
+
+use crate::cell::Cell;
+use gr_value::{Key, Memory};
+use std::alloc::Global;
+
+/// The fewest seats, where there are some.
+const FEWEST: u32 = 64;
+
+/// Each key has one of so many seats, by its hash, and the cells of the keys of one seat are a chain.
+/// A seat has the place, plus 1, of the newest cell of its chain, or 0. Once cells left, places have
+/// moved, and chains may be broken until all cells are linked anew.
+#[derive(Drop)]
+pub struct Seats {
+    pub size: u32,
+    pub heads: Vec<u32>,
+    pub left: usize,
+}
+
+impl Seats {
+    pub fn new(alloc: Global) -> Seats
+        ensures { (cells : List Cell) → length cells ≡ 0 → IsKept result cells }
+    {
+        Seats {
+            size: 0,
+            heads: Vec::new(alloc),
+            left: 0,
+        }
+    }
+
+    // Seats without chains, four for each key at least.
+    fn wide(alloc: Global, keys: u32) -> Result<Seats, Memory>
+        ensures { IfOk result (λ seats. (cells : List Cell) → AreLinked seats cells 0) }
+    {
+        let size = keys.saturating_mul(4).max(FEWEST);
+        Ok(Seats {
+            size,
+            heads: vec![in alloc; 0; size as usize]?,
+            left: 0,
+        })
+    }
+
+    // Which seat a key has.
+    #[inline(always)]
+    fn seat(&self, key: &Key) -> usize
+        ensures { result ≡ seat_of self.now.size key.now }
+    {
+        ((u64::from(key.hash()) * u64::from(self.size)) >> 32) as usize
+    }
+
+    /// Where the chain of a key's seat begins.
+    #[inline(always)]
+    pub fn head(&self, key: &Key) -> Option<u32>
+        ensures { result ≡ slice_get self.now.heads.items (seat_of self.now.size key.now) }
+    {
+        self.heads.get(self.seat(key)).copied()
+    }
+
+    // Sets where the chain of a key's seat begins.
+    #[inline(always)]
+    fn set_head(&mut self, key: &Key, at: u32)
+        ensures heads { self.new.heads.items ≡ slice_set self.old.heads.items (seat_of self.old.size key.now) at }
+        ensures size { self.new.size ≡ self.old.size }
+        ensures left { self.new.left ≡ self.old.left }
+    {
+        let seat = self.seat(key);
+        if let Some(head) = self.heads.get_mut(seat) {
+            *head = at;
+        }
+    }
+
+    // Whether all cells are to be linked anew before there are so many: where a key has fewer than two
+    // seats, or where more cells left than a half of those that there are. Nothing rests on it but time.
+    #[inline(always)]
+    fn is_worn(&self, keys: u32) -> bool {
+        self.size / 2 < keys || self.left > keys as usize / 2
+    }
+}
+
+/// Puts a cell in front of the chain of its key's seat, where those before it are linked.
+pub fn link(seats: &mut Seats, cells: &mut Vec<Cell>, place: usize)
+    requires within { place < length cells.old.items }
+    requires few { length cells.old.items < 4294967296 }
+    ensures linked { AreLinked seats.old cells.old.items place → AreLinked seats.new cells.new.items (place + 1) }
+    ensures keys { (other : ℕ) → key_in cells.new.items other ≡ key_in cells.old.items other }
+    ensures slots { (other : ℕ) → slot_in cells.new.items other ≡ slot_in cells.old.items other }
+    ensures left { seats.new.left ≡ seats.old.left }
+    ensures length { length cells.new.items ≡ length cells.old.items }
+{
+    let cell = &mut cells[place];
+    cell.next = seats.head(&cell.key).unwrap_or(0);
+    seats.set_head(&cell.key, place as u32 + 1);
+}
+
+// Links all cells, where none is linked yet.
+fn link_all(seats: &mut Seats, cells: &mut Vec<Cell>)
+    requires few { length cells.old.items < 4294967296 }
+    requires none { AreLinked seats.old cells.old.items 0 }
+    ensures linked { AreLinked seats.new cells.new.items (length cells.new.items) }
+    ensures keys { (other : ℕ) → key_in cells.new.items other ≡ key_in cells.old.items other }
+    ensures slots { (other : ℕ) → slot_in cells.new.items other ≡ slot_in cells.old.items other }
+    ensures length { length cells.new.items ≡ length cells.old.items }
+{
+    let mut place = 0;
+    while place < cells.len() {
+        link(seats, cells, place);
+        place += 1;
+    }
+}
+
+/// Makes room for the seats of so many keys, and links all cells anew where that is due.
+pub fn make_room(
+    alloc: Global,
+    seats: &mut Seats,
+    cells: &mut Vec<Cell>,
+    keys: u32,
+) -> Result<(), Memory>
+    requires more { length cells.old.items < keys }
+    requires kept { IsKept seats.old cells.old.items }
+    ensures kept { IsKept seats.new cells.new.items }
+    ensures keys { (other : ℕ) → key_in cells.new.items other ≡ key_in cells.old.items other }
+    ensures slots { (other : ℕ) → slot_in cells.new.items other ≡ slot_in cells.old.items other }
+    ensures length { length cells.new.items ≡ length cells.old.items }
+{
+    if seats.is_worn(keys) {
+        *seats = Seats::wide(alloc, keys)?;
+        link_all(seats, cells);
+    }
+    Ok(())
+}
