@@ -1,6 +1,6 @@
 -- What every line that was read is behind the earlier ones.
 use Rattle.std.proofs.Common.{◌≡◌, ℕ, zero, suc, ◌+◌, ◌≤◌, ◌<◌, List, [], ◌∷◌, length, Bool, true, false, cond, ltb, not, ◌&&◌, Option}
-use Rattle.std.proofs.Common.{Some, None, Result, Ok, Err, refl, sym, ap, ◌∙◌, subst, arith, bytes_eq}
+use Rattle.std.proofs.Common.{◌⊎◌, inl, inr, Some, None, Result, Ok, Err, refl, sym, ap, ◌∙◌, subst, arith, bytes_eq}
 use Rattle.std.specs.List.{list_all, AllByRecursion}
 use Rattle.std.specs.Str.{is_utf8}
 use Rattle.std.specs.Char.{is_ascii_digit}
@@ -178,17 +178,29 @@ all_follow runs text all e =
     from_follows runs 1 [] (lines_of text) all (lines_are_lines text)
     (end_ok (ltb most_lines (line_count text)) _ (sayings_from runs 1 [] (lines_of text)) all e).1 tt
 
+-- A line is skipped, or says one thing more.
+longer_by : (skipped : Bool) (past : List Saying) (read : Result Saying Reason) (longer : List Saying)
+    → with skipped past read ≡ Ok longer → (past ≡ longer) ⊎ ((saying : Saying) × (saying ∷ past ≡ longer))
+longer_by true past read longer e = inl (done_is past longer e)
+longer_by false past read longer e =
+    let b = bind_ok read _ longer e in
+    inr (b.0, done_is (b.0 ∷ past) longer b.2)
+
+pub longer_is : (runs : Bool) (past : List Saying) (line : List ℕ) (longer : List Saying) → past_with runs past line ≡ Ok longer
+    → (past ≡ longer) ⊎ ((saying : Saying) × (saying ∷ past ≡ longer))
+longer_is runs past line longer e =
+    let t = bind_ok (text_at line) _ longer e in
+    longer_by (is_skipped (text_said t.0)) past (saying_at runs past (text_said t.0)) longer t.2
+
 -- ---- how many there are
 
-with_length : (skipped : Bool) (past : List Saying) (read : Result Saying Reason) (longer : List Saying)
-    → with skipped past read ≡ Ok longer → length longer ≤ length past + 1
-with_length true past read longer e =
-    let same = ap (length {A = Saying}) (done_is past longer e) in
-    omega (arith, same)
-with_length false past read longer e =
-    let b = bind_ok read _ longer e in
-    let same = ap (length {A = Saying}) (done_is (b.0 ∷ past) longer b.2) in
-    omega (arith, same)
+pub with_length : (runs : Bool) (past : List Saying) (line : List ℕ) (longer : List Saying) → past_with runs past line ≡ Ok longer
+    → length longer ≤ length past + 1
+with_length runs past line longer e =
+    elim (longer_is runs past line longer e) [
+      | inl same ↦ let counted = ap (length {A = Saying}) same in omega (arith, counted)
+      | inr more ↦ let counted = ap (length {A = Saying}) more.1 in omega (arith, counted)
+    ]
 
 from_length : (runs : Bool) (number : ℕ) (past : List Saying) (lines : List (List ℕ)) (all : List Saying)
     → sayings_from runs number past lines ≡ Ok all → length all ≤ length past + length lines
@@ -197,8 +209,7 @@ from_length runs number past [] all e =
     omega (arith, same)
 from_length runs number past (line ∷ lines) all e =
     let g = go_on_ok number (past_with runs past line) _ all e in
-    let t = bind_ok (text_at line) _ g.0 g.1 in
-    let one = with_length (is_skipped (text_said t.0)) past (saying_at runs past (text_said t.0)) g.0 t.2 in
+    let one = with_length runs past line g.0 g.1 in
     let rest = from_length runs (number + 1) g.0 lines all g.2 in
     omega (arith, one, rest)
 

@@ -1,6 +1,6 @@
 -- What is kept of the earlier lines, with one more behind the heading.
 use Rattle.std.proofs.Common.{◌≡◌, ◌∙◌, ◌+◌, ℕ, ◌≤◌, ◌<◌, List, [], ◌∷◌, ◌++◌, Bool, false, ◌&&◌, length, cond, eqb, sym, ap, arith}
-use Rattle.std.proofs.Common.{Option}
+use Rattle.std.proofs.Common.{Option, zero, suc, replicate, refl}
 use Rattle.std.proofs.lemmas.Bool.{cond-false}
 use Rattle.std.proofs.lemmas.List.Sums.{sum_by-cons}
 use Rattle.gr_script.specs.declared.forms.LineKind.{LineKind}
@@ -87,3 +87,9 @@ index_behind stage_now held founders_now sizes_now homes_now steps reports joins
       counts = lines_are;
       few = omega (arith, room);
     }
+
+-- where no line is counted
+pub none_counted : (many n : ℕ) → count_in (replicate many 0) n ≡ 0
+none_counted zero n = refl
+none_counted (suc many) zero = refl
+none_counted (suc many) (suc n) = none_counted many n

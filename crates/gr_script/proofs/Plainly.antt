@@ -1,10 +1,10 @@
 -- A step whose line is spelled as it is printed.
 use Rattle.std.proofs.Common.{◌≡◌, ◌∙◌, ℕ, ◌+◌, ◌*◌, ◌-◌, ◌/◌, ◌%◌, ◌≤◌, ◌<◌, List, [], ◌∷◌, ◌++◌, Bool, true, false, ◌&&◌, eqb, Option, Some, None}
 use Rattle.std.proofs.Common.{refl, sym, ap, subst, arith, inl, inr, decimal, length, take, drop, slice_index_or}
-use Rattle.std.specs.Prelude.{bytes_eq, IfSome}
-use Rattle.std.proofs.lemmas.Bool.{cases_Bool, eqb-true, cond-true, cond-false}
+use Rattle.std.specs.Prelude.{IfSome, bytes_eq}
+use Rattle.std.proofs.lemmas.Bool.{cases_Bool, eqb-true, cond-true}
 use Rattle.std.proofs.lemmas.Fmt.{decimal_digit}
-use Rattle.std.proofs.lemmas.List.{append-nil}
+use Rattle.std.proofs.lemmas.List.{append-nil, take-append-drop}
 use Rattle.std.proofs.lemmas.Slice.Eq.{bytes_eq-Decides}
 use Rattle.itoa.proofs.Decimal.{decimal_two, pair}
 use Rattle.std.proofs.Math.Seq.{take-length}
@@ -17,7 +17,7 @@ use Rattle.gr_script.specs.declared.forms.LineKind.{LineKind}
 use Rattle.gr_script.specs.declared.forms.LineKind.TheVariants as kind
 use Rattle.gr_script.specs.declared.line.Act.{Act}
 use Rattle.gr_script.specs.declared.line.Act.TheVariants.{Call, Query, Peek}
-use Rattle.gr_script.specs.Forms.{word, kind_of, step_kinds}
+use Rattle.gr_script.specs.Forms.{word}
 use Rattle.gr_script.specs.Plain.{IsPrinted, IsSpelled, IsPlain}
 use Rattle.gr_script.specs.Printed.{act_saying}
 use Rattle.gr_script.specs.Refusals.{is_replayed}
@@ -83,29 +83,12 @@ two_digits (a ∷ b ∷ c ∷ rest) tens ones long a_is b_is space some few smal
     ∙ ap (λ (digits : List ℕ). digits ++ 0x20 ∷ take (length (a ∷ b ∷ c ∷ rest) - 3) rest)
     (sym (decimal_two (tens * 10 + ones) (omega (arith, some)) (omega (arith, few, small)) ∙ two_pair tens ones small))
 
--- ---- the word
+-- ---- what stands in front
 
-word_is : (text : List ℕ) (form : LineKind) → bytes_eq text (word form) ≡ true → text ≡ word form
-word_is text form same = (bytes_eq-Decides text (word form)).0 same
-
-worded : (text : List ℕ) (kinds : List LineKind) → IfSome (kind_of kinds text) (λ form. text ≡ word form)
-worded text [] = tt
-worded text (form ∷ kinds) =
-    elim (cases_Bool (bytes_eq text (word form))) [
-      | inl same ↦
-          subst (λ (found : Option LineKind). IfSome found (λ form. text ≡ word form))
-          (sym (cond-true (bytes_eq text (word form)) (Some form) (kind_of kinds text) same)) (word_is text form same)
-      | inr other ↦
-          subst (λ (found : Option LineKind). IfSome found (λ form. text ≡ word form))
-          (sym (cond-false (bytes_eq text (word form)) (Some form) (kind_of kinds text) other)) (worded text kinds)
-    ]
-
--- what stands behind the word of a kind
-pub word_joined : (text front rest : List ℕ) (form : LineKind) → text ≡ front ++ 0x20 ∷ rest → kind_of step_kinds front ≡ Some form
-    → text ≡ word form ++ 0x20 ∷ rest
-word_joined text front rest form is found =
-    let spelled = subst (λ (k : Option LineKind). IfSome k (λ form. front ≡ word form)) found (worded front step_kinds) in
-    is ∙ ap (λ (f : List ℕ). f ++ 0x20 ∷ rest) spelled
+pub front_joined : (text front rest : List ℕ) → bytes_eq (take (length front) text) front ≡ true → rest ≡ drop (length front) text
+    → text ≡ front ++ rest
+front_joined text front rest same is =
+    sym (take-append-drop (length front) text) ∙ (λ k. (bytes_eq-Decides (take (length front) text) front).0 same k ++ sym is k)
 
 pub space_joined : (text : List ℕ) (parts : List ℕ × List ℕ) → cut 0x20 text ≡ Some parts → text ≡ parts.0 ++ 0x20 ∷ parts.1
 space_joined text parts is =

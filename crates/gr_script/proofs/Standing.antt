@@ -186,7 +186,7 @@ no_lines_yet (saying ∷ past) all early =
 
 -- ---- all lines
 
-same_heading : (past : List Saying) (form : LineKind) (items : List Item) → 8 ≤ rank form
+pub same_heading : (past : List Saying) (form : LineKind) (items : List Item) → 8 ≤ rank form
     → heading_said past ≡ heading_said (record { kind = form; items = items } ∷ past)
 same_heading past kind.Georep items le = absurd (omega (arith, le))
 same_heading past kind.Region items le = absurd (omega (arith, le))

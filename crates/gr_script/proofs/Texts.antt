@@ -1,9 +1,11 @@
 -- What cutting a text gives, and how lines make a text.
-use Rattle.std.proofs.Common.{◌≡◌, ℕ, suc, ◌+◌, ◌-◌, slice_get, ◌<◌, ◌≤◌, List, [], ◌∷◌, length, take, drop, Bool, true, false, not, cond}
+use Rattle.std.proofs.Common.{◌≡◌, ℕ, suc, ◌+◌, ◌-◌, slice_get, slice_index, ◌<◌, ◌≤◌, List, [], ◌∷◌, length, take, drop, Bool, true, false, not, cond}
 use Rattle.std.proofs.Common.{eqb, ltb, Option, Some, None, option_map, position, refl, ap, ◌∙◌, sym, arith, inl, inr}
 use Rattle.std.specs.List.{prefix_len, onto_first}
 use Rattle.std.proofs.lemmas.Bool.{cases_Bool, cases_lt, lt-ltb, le-ltb, cond-true, cond-false}
 use Rattle.std.proofs.lemmas.List.{take_all, length-drop}
+use Rattle.std.proofs.lemmas.List.Sums.{prefix_len_stops, prefix_len_is}
+use Rattle.memchr.specs.Find.{IsFirstByte, is_byte}
 use Rattle.gr_script.specs.Texts.{cut, lines_of, is_ended}
 
 -- how many bytes stand in front of the mark
@@ -141,3 +143,33 @@ ended_by (byte ∷ bytes) last e =
 pub lines_alone : (bytes : List ℕ) → (length bytes ≡ 0 → ⊥) → cut 10 bytes ≡ None → lines_of bytes ≡ bytes ∷ lines_of []
 lines_alone [] some e = absurd (some refl)
 lines_alone (byte ∷ bytes) some e = lines_uncut byte bytes e
+
+-- ---- the first mark
+
+there : (test : Bool) → not test ≡ false → test ≡ true
+there true is = refl
+there false is = sym is
+
+not_there : (test : Bool) → ¬ (test ≡ true) → not test ≡ true
+not_there true isnt = absurd (isnt refl)
+not_there false isnt = refl
+
+-- The first place that holds the mark is the place of it.
+pub first_place : (mark : ℕ) (bytes : List ℕ) (found : Option ℕ) → IsFirstByte (is_byte mark) bytes found
+    → found ≡ position (λ byte. eqb byte mark) bytes
+first_place mark bytes None none =
+    elim (cases_lt (before mark bytes) (length bytes)) [
+      | inl lt ↦
+          absurd
+          (none (before mark bytes) (omega arith) lt
+          (there (eqb (slice_index bytes (before mark bytes)) mark) (prefix_len_stops (λ byte. not (eqb byte mark)) bytes 0 lt)))
+      | inr le ↦ sym (cond-false (ltb (before mark bytes) (length bytes)) _ _ (le-ltb (before mark bytes) (length bytes) le))
+    ]
+first_place mark bytes (Some place) is =
+    let earlier = is.0 in
+    let all : before mark bytes ≡ place =
+    prefix_len_is (λ byte. not (eqb byte mark)) bytes place 0 (omega (arith, earlier.high))
+    (λ k lt. not_there (eqb (slice_index bytes k) mark) (earlier.before k (omega arith) lt)) (λ lt. ap not is.1) in
+    ap Some (sym all)
+    ∙ sym (cond-true (ltb (before mark bytes) (length bytes)) _ _
+    (lt-ltb (before mark bytes) (length bytes) (omega (arith, all, earlier.high))))

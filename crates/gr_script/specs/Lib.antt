@@ -24,5 +24,6 @@ pub mod Sayings
 pub mod Scripts
 pub mod Steps
 pub mod Suiting
+pub mod Taken
 pub mod Tallies
 pub mod Texts

@@ -51,9 +51,13 @@ abbrev pub end_at : ℕ → Halt → ScriptEnd
 end_at line (Refused reason) = end.Fault (fault line reason)
 end_at line Memory = end.Memory
 
+-- Reading gives no more than this end, unless memory was refused.
+abbrev pub Ends : {Y : Type 0} → ScriptEnd → Result Y ScriptEnd → Type 0
+Ends end.Memory read = ⊤
+Ends (end.Fault fault) read = read ≡ Err (end.Fault fault)
+Ends (end.TooManyLines lines) read = read ≡ Err (end.TooManyLines lines)
+
 -- What a function returned, seen by view, is what reading gives, unless memory was refused.
 abbrev pub Gives : {X Y : Type 0} → (X → Y) → Result X ScriptEnd → Result Y ScriptEnd → Type 0
 Gives view (Ok x) read = read ≡ Ok (view x)
-Gives view (Err end.Memory) read = ⊤
-Gives view (Err (end.Fault fault)) read = read ≡ Err (end.Fault fault)
-Gives view (Err (end.TooManyLines lines)) read = read ≡ Err (end.TooManyLines lines)
+Gives view (Err end) read = Ends end read

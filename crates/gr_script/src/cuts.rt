@@ -5,6 +5,9 @@ ghost use Rattle.gr_script.specs.Cuts.{is_skipped, field_len};
 
 use crate::text::is_ended;
 
+/// So many bytes are looked at together.
+const BLOCK: usize = 128;
+
 fn ends_with(byte: u8, text: &[u8]) -> bool
     ensures { result ≡ ends_with byte text.now }
 {
@@ -14,16 +17,33 @@ fn ends_with(byte: u8, text: &[u8]) -> bool
     }
 }
 
-// How many line feeds there are. No byte ends the count early, so that many are looked at at once.
+// How many line feeds there are in a few bytes. No byte ends the count early, and so small a count
+// fits a byte, so that many bytes are looked at at once.
+fn feeds_among(few: &[u8]) -> u8
+    requires few { length few.now ≤ 128 }
+    ensures exact { result ≡ count_by (λ byte. byte == 0x0A) few.now }
+    ensures within { result ≤ length few.now }
+{
+    let mut feeds = 0u8;
+    for byte in few {
+        feeds += u8::from(*byte == b'\n');
+    }
+    feeds
+}
+
+// How many line feeds there are.
 fn feeds_in(text: &[u8]) -> u64
     ensures exact { result ≡ count_by (λ byte. byte == 0x0A) text.now }
     ensures within { result ≤ length text.now }
 {
     let mut feeds = 0;
-    for byte in text {
-        feeds += u64::from(*byte == b'\n');
+    let mut rest = text;
+    while rest.len() > BLOCK {
+        let (block, behind) = rest.split_at(BLOCK);
+        feeds += u64::from(feeds_among(block));
+        rest = behind;
     }
-    feeds
+    feeds + u64::from(feeds_among(rest))
 }
 
 /// How many lines a text has.

@@ -7,6 +7,7 @@ mod drill_lines;
 mod drill_queries;
 mod drill_step;
 mod ending;
+mod feed;
 mod form;
 mod forms;
 mod generating;
@@ -37,6 +38,7 @@ mod text;
 
 pub use cuts::line_count;
 pub use ending::{ScriptEnd, ScriptFault};
+pub use feed::Feed;
 pub use form::Form;
 pub use generating::generate;
 pub use line::{Act, Line, LineList, Step, StepList};

@@ -1,27 +1,29 @@
-ghost use Rattle.std.specs.Prelude.{◌≡◌, ◌<◌, ◌≤◌, ◌+◌, ◌^◌, ℕ, [], ◌∷◌, List, length, reverse, IfOk, OnOk, OnErr, Some};
-ghost use Rattle.gr_script.specs.Tallies.{count_in, CountsOne, CountsNone};
+ghost use Rattle.std.specs.Prelude.{◌≡◌, ◌<◌, ◌≤◌, ◌+◌, ◌^◌, ℕ, ◌∷◌, List, length, IfOk, OnOk, MatchOption, [], option_copied};
+ghost use Rattle.std.specs.List.{cons_option};
+ghost use Rattle.gr_script.specs.Tallies.{count_in, CountsOne};
 ghost use Rattle.gr_script.specs.declared.forms.LineKind.TheVariants as kind;
 ghost use Rattle.gr_script.specs.Forms.{is_kind, is_step, rank};
 ghost use Rattle.gr_script.specs.Index.{most_lines, counted};
-ghost use Rattle.gr_script.specs.Kept.{CanBeKept};
 ghost use Rattle.gr_script.specs.Plain.{IsPlain};
 ghost use Rattle.gr_script.specs.Printed.{act_saying, saying_in};
-ghost use Rattle.gr_script.specs.Said.{line_of as line_said, lines_said};
+ghost use Rattle.gr_script.specs.Said.{line_of as line_said};
 ghost use Rattle.gr_script.specs.declared.saying.Saying.{Saying};
 ghost use Rattle.gr_script.specs.Past.{stage, region, members, founders, clients, steps, reports, joins};
 ghost use Rattle.gr_script.specs.Past.{homes as homes_of, home, number as number_in, setting, sizes};
+ghost use Rattle.gr_script.specs.Taken.{IsNext, IsTaken, advanced, ahead, lines_taken, said};
+ghost use Rattle.gr_script.specs.Texts.{lines_of};
 
+use crate::Line;
 use crate::forms::{LineKind, is_kind, is_step, rank};
 use crate::items::Setting;
 use crate::note::{counted, homes_with, is_query, next_rank, region_with, stated_with};
 use crate::plain::PlainStep;
 use crate::said::line_of;
 use crate::saying::{Saying, number};
-use crate::tally::{count_in as count_of, count_up};
-use crate::{Line, LineList};
-use gr_value::{ItemList, Key, Memory};
+use crate::tally::Counts;
+use crate::text::next_line;
+use gr_value::{Copied, ItemList, Key, Memory};
 use std::alloc::Global;
-use std::collections::BTreeMap;
 use std::marker::Model;
 use std::mem::replace;
 
@@ -50,61 +52,55 @@ pub(crate) struct Sizes {
     pub(crate) floor: u128,
 }
 
-/// What the earlier lines of a script say, which contracts see as these, the last one first. Those of
-/// the heading are kept as what they say, and those behind it as the lines that they are. The rest is
-/// kept so that none of them is looked at again.
+/// A text of which the first lines were taken in. What they say isn't kept as such: contracts see the
+/// text and how many lines were taken, by which all else here is fixed. It is kept so that none of them
+/// is looked at again.
 #[derive(Drop)]
-pub(crate) struct Past {
-    heading: ItemList<Saying>,
-    lines: LineList,
+pub(crate) struct Past<'a> {
+    runs: bool,
+    text: &'a [u8],
+    rest: &'a [u8],
+    count: u32,
     stage: u8,
     setting: Setting,
     founders: u128,
     sizes: Sizes,
     homes: ItemList<u128>,
-    steps: BTreeMap<u128, u32>,
-    reports: BTreeMap<u128, u32>,
-    joins: BTreeMap<u128, u32>,
+    steps: Counts,
+    reports: Counts,
+    joins: Counts,
     counted: Counted,
 }
 
-/// What a script is made of, once all its lines are read.
-#[derive(Drop)]
-pub(crate) struct Told {
-    pub(crate) region: Option<Key>,
-    pub(crate) members: u128,
-    pub(crate) founders: u128,
-    pub(crate) sizes: Sizes,
-    pub(crate) homes: ItemList<u128>,
-    pub(crate) lines: LineList,
+/// The next line of a text, and what follows it.
+#[derive(Clone, Copy)]
+pub(crate) struct Ahead<'a> {
+    pub(crate) line: &'a [u8],
+    pub(crate) after: &'a [u8],
 }
 
-impl Model for Past {
-    ghost use Rattle.std.specs.Prelude.{◌≡◌, List, reverse};
-    ghost use Rattle.gr_script.specs.declared.saying.Saying.{Saying};
+impl<'a> Model for Past<'a> {
+    ghost use Rattle.std.specs.Prelude.{◌≡◌};
+    ghost use Rattle.gr_script.specs.Taken.{Taken};
     ghost use Rattle.gr_script.specs.Index.{IsIndex};
-    ghost use Rattle.gr_script.specs.Kept.{kept_sayings};
-    ghost use Rattle.gr_script.specs.Plain.{IsPlain};
-    ghost use Rattle.gr_script.specs.Printed.{act_saying, saying_in};
-    ghost use Rattle.gr_script.specs.Said.{line_of as line_said, lines_said};
-    ghost use Rattle.std.specs.Coded.{codes};
-    ghost use Rattle.gr_oql.specs.Code.{tree_code};
+    ghost use Rattle.gr_script.specs.Taken.{IsTaken, ahead, said};
+    ghost use Rattle.gr_script.specs.Texts.{lines_of};
 
-    ghost Value = { List Saying };
+    ghost Value = { Taken };
 
-    ghost coded = { Prim.hlevel (codes, tree_code) };
-
-    ghost view = { λ past. kept_sayings past.heading past.lines };
+    ghost view = { λ past. record { runs = past.runs; text = past.text.now; count = past.count } };
 
     ghost invariant = { λ past. IsIndex past.stage past.setting past.founders past.sizes past.homes past.steps past.reports
-        past.joins past.counted (kept_sayings past.heading past.lines)
-        × (past.lines ≡ reverse (lines_said (kept_sayings past.heading past.lines))) };
+        past.joins past.counted (said (record { runs = past.runs; text = past.text.now; count = past.count }))
+        × IsTaken (record { runs = past.runs; text = past.text.now; count = past.count })
+        × (ahead (record { runs = past.runs; text = past.text.now; count = past.count }) ≡ lines_of past.rest.now) };
 }
 
-impl Past {
-    /// No lines.
-    pub(crate) fn new(alloc: Global) -> Result<Past, Memory>
-        ensures { IfOk result (λ past. past ≡ []) }
+impl<'a> Past<'a> {
+    /// A text of which no line was taken in.
+    pub(crate) fn new(alloc: Global, runs: bool, text: &'a [u8]) -> Result<Past<'a>, Memory>
+        requires { length (lines_of text.now) ≤ most_lines }
+        ensures { IfOk result (λ past. past ≡ record { runs = runs; text = text.now; count = 0 }) }
     {
         let setting = Setting {
             region: None,
@@ -125,50 +121,52 @@ impl Past {
             floor: 0,
         };
         Ok(Past {
-            heading: ItemList::new(alloc)?,
-            lines: LineList::new(alloc)?,
+            runs,
+            text,
+            rest: text,
+            count: 0,
             stage: 0,
             setting,
             founders: 0,
             sizes,
             homes: ItemList::new(alloc)?,
-            steps: BTreeMap::new(alloc),
-            reports: BTreeMap::new(alloc),
-            joins: BTreeMap::new(alloc),
+            steps: Counts::new(),
+            reports: Counts::new(),
+            joins: Counts::new(),
             counted,
         })
     }
 
     /// The least rank that a line may have now.
     pub(crate) fn stage(&self) -> u8
-        ensures { result ≡ stage self.now }
+        ensures { result ≡ stage (said self.now) }
     {
         self.stage
     }
 
     /// What fields are compared with.
     pub(crate) fn setting(&self) -> &Setting
-        ensures { result.now ≡ setting self.now }
+        ensures { result.now ≡ setting (said self.now) }
     {
         &self.setting
     }
 
     pub(crate) fn founders(&self) -> u128
-        ensures { result ≡ founders self.now }
+        ensures { result ≡ founders (said self.now) }
     {
         self.founders
     }
 
     /// How many clients are stated.
     pub(crate) fn clients(&self) -> u128
-        ensures { result ≡ clients self.now }
+        ensures { result ≡ clients (said self.now) }
     {
         self.setting.clients
     }
 
     /// The client's member.
     pub(crate) fn home(&self, client: u128) -> u128
-        ensures { result ≡ home client self.now }
+        ensures { result ≡ home client (said self.now) }
     {
         let place = client.saturating_sub(1);
         let homes = self.homes.as_slice();
@@ -181,138 +179,168 @@ impl Past {
 
     /// How many steps of the client there are.
     pub(crate) fn steps(&self, client: u128) -> u32
-        ensures { result ≡ steps client self.now }
+        ensures { result ≡ steps client (said self.now) }
     {
-        count_of(&self.steps, client)
+        self.steps.of(client)
     }
 
     pub(crate) fn reports(&self, member: u128) -> u32
-        ensures { result ≡ reports member self.now }
+        ensures { result ≡ reports member (said self.now) }
     {
-        count_of(&self.reports, member)
+        self.reports.of(member)
     }
 
     pub(crate) fn joins(&self, member: u128) -> u32
-        ensures { result ≡ joins member self.now }
+        ensures { result ≡ joins member (said self.now) }
     {
-        count_of(&self.joins, member)
+        self.joins.of(member)
     }
 
     pub(crate) fn counted(&self) -> Counted
-        ensures { result ≡ counted self.now }
+        ensures { result ≡ counted (said self.now) }
     {
         self.counted
     }
 
-    /// What is kept of the lines, taken apart.
-    pub(crate) fn into_told(self) -> Told
-        ensures region { result.region ≡ region self }
-        ensures members { result.members ≡ members self }
-        ensures founders { result.founders ≡ founders self }
-        ensures sizes { result.sizes ≡ sizes self }
-        ensures homes { result.homes ≡ homes_of self }
-        ensures lines { result.lines ≡ reverse (lines_said self) }
+    /// The number of the next line, counted from 1.
+    pub(crate) fn next_number(&self) -> u32
+        ensures { result ≡ self.now.count + 1 }
     {
-        let setting = self.setting;
-        Told {
-            region: setting.region,
-            members: setting.members,
-            founders: self.founders,
-            sizes: self.sizes,
-            homes: self.homes,
-            lines: self.lines,
+        self.count + 1
+    }
+
+    /// Whether the lines may not say what comes of themselves.
+    pub(crate) fn runs(&self) -> bool
+        ensures { result ≡ self.now.runs }
+    {
+        self.runs
+    }
+
+    /// The next line.
+    pub(crate) fn ahead(&self) -> Option<Ahead<'a>>
+        ensures taken { IsTaken self.now }
+        ensures next { MatchOption result (ahead self.now ≡ []) (λ next. ahead self.now ≡ next.line.now ∷ lines_of next.after.now) }
+    {
+        let (line, after) = next_line(self.rest)?;
+        Some(Ahead { line, after })
+    }
+
+    pub(crate) fn region(&self) -> Option<&Key>
+        ensures { option_copied result ≡ region (said self.now) }
+    {
+        self.setting.region.as_ref()
+    }
+
+    pub(crate) fn sizes(&self) -> Sizes
+        ensures { result ≡ sizes (said self.now) }
+    {
+        self.sizes
+    }
+
+    /// The member of each client.
+    pub(crate) fn homes(&self) -> &[u128]
+        ensures { result.now ≡ homes_of (said self.now) }
+    {
+        self.homes.as_slice()
+    }
+
+    /// Takes in the next line, which is skipped.
+    pub(crate) fn skip(&mut self, after: &'a [u8])
+        requires { IsNext self.old (said self.old) after.now }
+        ensures { self.new ≡ advanced self.old }
+    {
+        self.rest = after;
+        self.count += 1;
+    }
+
+    /// Takes in the next line, and hands out the line of the script that it is, if it is one.
+    pub(crate) fn push(
+        &mut self,
+        alloc: Global,
+        saying: Saying,
+        after: &'a [u8],
+    ) -> Result<Option<Line>, Memory>
+        requires { IsNext self.old (saying ∷ said self.old) after.now }
+        ensures taken { OnOk result (self.new ≡ advanced self.old) }
+        ensures line { IfOk result (λ line. lines_taken self.new ≡ cons_option line (lines_taken self.old)) }
+    {
+        if rank(saying.kind) < LAST_RANK {
+            self.push_heading(alloc, saying, after)?;
+            Ok(None)
+        } else {
+            Ok(Some(self.push_behind(saying, after)))
         }
     }
 
-    /// Puts one line more behind these. Where memory is refused, no line stands for sure.
-    pub(crate) fn push(&mut self, alloc: Global, line: Saying) -> Result<(), Memory>
-        requires room { length self.old < most_lines }
-        requires kept { CanBeKept self.old line }
-        ensures { OnOk result (self.new ≡ line ∷ self.old) }
+    // One line of the heading more. Few lines come here.
+    #[inline(never)]
+    fn push_heading(&mut self, alloc: Global, saying: Saying, after: &'a [u8]) -> Result<(), Memory>
+        requires next { IsNext self.old (saying ∷ said self.old) after.now }
+        requires early { rank saying.kind < 8 }
+        ensures { OnOk result (self.new ≡ advanced self.old) }
     {
-        if rank(line.kind) < LAST_RANK {
-            let past = replace(self, Past::new(alloc)?);
-            *self = past.with(alloc, line)?;
-            Ok(())
-        } else {
-            self.push_behind(line)
-        }
+        let past = replace(self, Past::new(alloc, false, &[])?);
+        *self = past.with(alloc, saying, after)?;
+        Ok(())
     }
 
     // One line more behind the heading.
-    fn push_behind(&mut self, saying: Saying) -> Result<(), Memory>
-        requires room { length self.old < most_lines }
-        requires kept { CanBeKept self.old saying }
+    fn push_behind(&mut self, saying: Saying, after: &'a [u8]) -> Line
+        requires next { IsNext self.old (saying ∷ said self.old) after.now }
         requires late { 8 ≤ rank saying.kind }
-        ensures { OnOk result (self.new ≡ saying ∷ self.old) }
+        ensures taken { self.new ≡ advanced self.old }
+        ensures line { lines_taken self.new ≡ result ∷ lines_taken self.old }
     {
         let kind = saying.kind;
         let first = number(0, saying.items.as_slice());
-        let line = self.line_said(first, saying);
-        self.put(kind, first, line)
+        let seq = self.steps.of(first) + 1;
+        let line = line_of(seq, saying).unwrap();
+        self.put(kind, first, after);
+        line
     }
 
-    // The line that is said, where the saying has this number first.
-    fn line_said(&self, first: u128, saying: Saying) -> Line
-        requires first { first ≡ number_in 0 saying.items }
-        requires kept { CanBeKept self.now saying }
-        requires late { 8 ≤ rank saying.kind }
-        ensures says { saying_in result ≡ saying }
-        ensures line { line_said self.now (saying_in result) ≡ Some result }
-    {
-        let seq = count_of(&self.steps, first) + 1;
-        line_of(seq, saying).unwrap()
-    }
-
-    /// Puts one step more behind these, which is a call or a peek. Where memory is refused, no line
-    /// stands for sure.
-    pub(crate) fn push_step(&mut self, step: PlainStep) -> Result<(), Memory>
-        requires room { length self.old < most_lines }
+    /// Takes in the next line, which is a call or a peek, and hands it out.
+    pub(crate) fn push_step(&mut self, step: PlainStep, after: &'a [u8]) -> Line
+        requires next { IsNext self.old (act_saying step.client step.act ∷ said self.old) after.now }
         requires kind { (act_saying step.client step.act).kind ≡ step.kind }
         requires plain { IsPlain step.act }
-        ensures { OnOk result (self.new ≡ act_saying step.client step.act ∷ self.old) }
+        ensures taken { self.new ≡ advanced self.old }
+        ensures line { lines_taken self.new ≡ result ∷ lines_taken self.old }
     {
         let PlainStep { kind, client, act } = step;
         let first = u128::from(client);
-        let seq = count_of(&self.steps, first) + 1;
-        self.put(kind, first, Line::Step { client, seq, act })
+        let seq = self.steps.of(first) + 1;
+        self.put(kind, first, after);
+        Line::Step { client, seq, act }
     }
 
-    // Puts a line of this kind, which has this number first, behind these.
-    fn put(&mut self, kind: LineKind, first: u128, line: Line) -> Result<(), Memory>
-        requires room { length self.old < most_lines }
-        requires kind { kind ≡ (saying_in line).kind }
-        requires first { first ≡ number_in 0 (saying_in line).items }
-        requires line { line_said self.old (saying_in line) ≡ Some line }
-        ensures { OnOk result (self.new ≡ saying_in line ∷ self.old) }
+    // Takes in the next line, which has this kind and this number first, behind the heading.
+    fn put(&mut self, kind: LineKind, first: u128, after: &'a [u8])
+        requires late { 8 ≤ rank kind }
+        requires narrow { first < 2 ^ 8 }
+        requires next { (saying : Saying) × (kind ≡ saying.kind) × (first ≡ number_in 0 saying.items)
+            × IsNext self.old (saying ∷ said self.old) after.now }
+        ensures { self.new ≡ advanced self.old }
     {
         let counted = counted_with(kind, self.counted);
-        self.lines.push(line)?;
-        match count_line(
+        count_line(
             kind,
             first,
             &mut self.steps,
             &mut self.reports,
             &mut self.joins,
-        ) {
-            Ok(()) => {
-                self.stage = LAST_RANK;
-                self.counted = counted;
-                Ok(())
-            }
-            Err(refused) => {
-                self.lines.pop();
-                Err(refused)
-            }
-        }
+        );
+        self.stage = LAST_RANK;
+        self.counted = counted;
+        self.rest = after;
+        self.count += 1;
     }
 
-    // These lines of the heading and one more.
-    fn with(self, alloc: Global, line: Saying) -> Result<Past, Memory>
-        requires room { length self < most_lines }
-        requires order { stage self ≤ rank line.kind }
+    // These with one line of the heading more.
+    fn with(self, alloc: Global, line: Saying, after: &'a [u8]) -> Result<Past<'a>, Memory>
+        requires next { IsNext self (line ∷ said self) after.now }
         requires early { rank line.kind < 8 }
-        ensures { IfOk result (λ past. past ≡ line ∷ self) }
+        ensures { IfOk result (λ past. past ≡ advanced self.entry) }
     {
         let kind = line.kind;
         let homes = homes_with(&line, self.homes)?;
@@ -320,11 +348,11 @@ impl Past {
         let founders = stated_with(LineKind::Members, 1, &line, self.founders);
         let sizes = sizes_with(&line, self.sizes);
         let counted = counted_with(kind, self.counted);
-        let mut heading = self.heading;
-        heading.push(line)?;
         Ok(Past {
-            heading,
-            lines: self.lines,
+            runs: self.runs,
+            text: self.text,
+            rest: after,
+            count: self.count + 1,
             stage: next_rank(kind),
             setting,
             founders,
@@ -342,26 +370,24 @@ impl Past {
 fn count_line(
     form: LineKind,
     first: u128,
-    steps: &mut BTreeMap<u128, u32>,
-    reports: &mut BTreeMap<u128, u32>,
-    joins: &mut BTreeMap<u128, u32>,
-) -> Result<(), Memory>
+    steps: &mut Counts,
+    reports: &mut Counts,
+    joins: &mut Counts,
+)
+    requires narrow { first < 2 ^ 8 }
     requires steps { count_in steps.old first + 1 < 2 ^ 32 }
     requires reports { count_in reports.old first + 1 < 2 ^ 32 }
     requires joins { count_in joins.old first + 1 < 2 ^ 32 }
-    ensures steps { OnOk result (CountsOne (is_step form) first steps.old steps.new) }
-    ensures reports { OnOk result (CountsOne (is_kind kind.Report form) first reports.old reports.new) }
-    ensures joins { OnOk result (CountsOne (is_kind kind.Join form) first joins.old joins.new) }
-    ensures err { OnErr result (CountsNone steps.old steps.new × CountsNone reports.old reports.new × CountsNone joins.old joins.new) }
+    ensures steps { CountsOne (is_step form) first steps.old steps.new }
+    ensures reports { CountsOne (is_kind kind.Report form) first reports.old reports.new }
+    ensures joins { CountsOne (is_kind kind.Join form) first joins.old joins.new }
 {
     if is_step(form) {
-        count_up(steps, first)
+        steps.count_up(first);
     } else if is_kind(LineKind::Report, form) {
-        count_up(reports, first)
+        reports.count_up(first);
     } else if is_kind(LineKind::Join, form) {
-        count_up(joins, first)
-    } else {
-        Ok(())
+        joins.count_up(first);
     }
 }
 

@@ -11,7 +11,7 @@ ghost use Rattle.gr_script.specs.Forms.{word};
 ghost use Rattle.gr_script.specs.Plain.{IsPrinted, IsSpelled};
 
 use crate::Act;
-use crate::forms::{LineKind, kind_of};
+use crate::forms::LineKind;
 use crate::text::cut;
 use gr_history::Ask;
 use gr_value::{Key, KeyFault, Memory, Value};
@@ -70,13 +70,45 @@ fn spaced(text: &[u8]) -> Option<(&[u8], &[u8])>
     Some((front, rest))
 }
 
-// The kind whose word stands in front, and what stands behind the space that follows it.
-#[tactic(auto, using(crate::proofs::Plainly::word_joined))]
+// What stands behind these bytes, where the text begins with them.
+fn behind_front<'a>(front: &[u8], text: &'a [u8]) -> Option<&'a [u8]>
+    ensures { IfSome result (λ rest. text.now ≡ front.now ++ rest.now) }
+{
+    let rest = text.strip_prefix(front)?;
+    Some(rest)
+}
+
+// The kind whose word, made of two, stands in front, and what stands behind the space that follows it.
+fn joined_kind_in(text: &[u8]) -> Option<(LineKind, &[u8])>
+    ensures { IfSome result (λ parts. text.now ≡ word parts.0 ++ 0x20 ∷ parts.1.now) }
+{
+    match behind_front(b"putIfAbsent ", text) {
+        Some(rest) => Some((LineKind::PutIfAbsent, rest)),
+        None => {
+            let rest = behind_front(b"replaceIf ", text)?;
+            Some((LineKind::ReplaceIf, rest))
+        }
+    }
+}
+
+// The kind whose word stands in front, and what stands behind the space that follows it. To look at
+// the bytes themselves costs less than to compare with each word.
 fn kind_in(text: &[u8]) -> Option<(LineKind, &[u8])>
     ensures { IfSome result (λ parts. text.now ≡ word parts.0 ++ 0x20 ∷ parts.1.now) }
 {
-    let (word, rest) = spaced(text)?;
-    Some((kind_of(true, word)?, rest))
+    match text {
+        [b'g', b'e', b't', b' ', rest @ ..] => Some((LineKind::Get, rest)),
+        [b'p', b'u', b't', b' ', rest @ ..] => Some((LineKind::Put, rest)),
+        [b'p', b'e', b'e', b'k', b' ', rest @ ..] => Some((LineKind::Peek, rest)),
+        [b'r', b'e', b'm', b'o', b'v', b'e', b' ', rest @ ..] => Some((LineKind::Remove, rest)),
+        [b'r', b'e', b'p', b'l', b'a', b'c', b'e', b' ', rest @ ..] => {
+            Some((LineKind::Replace, rest))
+        }
+        [b'd', b'e', b's', b't', b'r', b'o', b'y', b' ', rest @ ..] => {
+            Some((LineKind::Destroy, rest))
+        }
+        _ => joined_kind_in(text),
+    }
 }
 
 // The key that these bytes are.

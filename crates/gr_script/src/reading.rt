@@ -2,10 +2,7 @@ ghost use Rattle.gr_script.specs.Said.{script_of as text_script};
 ghost use Rattle.gr_script.specs.Sayings.{Gives};
 ghost use Rattle.gr_script.specs.Scripts.{heading_of, is_run as is_run_form};
 
-use crate::form::is_run;
-use crate::sayings::read_sayings;
-use crate::telling::script_of;
-use crate::{Form, Script, ScriptEnd};
+use crate::{Feed, Form, LineList, Script, ScriptEnd};
 use std::alloc::Global;
 
 /// Reads a script.
@@ -13,6 +10,10 @@ pub fn read(alloc: Global, bytes: &[u8], form: Form) -> Result<Script, ScriptEnd
     // Which script it is, or which end.
     ensures exact { Gives (λ script. (heading_of script, script.lines)) result (text_script (is_run_form form) bytes.now) }
 {
-    let past = read_sayings(alloc, is_run(form), bytes)?;
-    Ok(script_of(alloc, past)?)
+    let mut feed = Feed::new(alloc, bytes, form)?;
+    let mut lines = LineList::new(alloc)?;
+    while let Some(line) = feed.next(alloc)? {
+        lines.push(line)?;
+    }
+    Ok(feed.script(alloc, lines)?)
 }

@@ -5,6 +5,7 @@ ghost use Rattle.gr_script.specs.declared.reason.Reason.TheVariants.{Later, Itse
 ghost use Rattle.gr_script.specs.Halts.{Yields};
 ghost use Rattle.gr_script.specs.Refusals.{is_begun, lacks, is_missing, is_full, is_no_join, is_replayed, tests, refusal, form_at};
 ghost use Rattle.gr_script.specs.Refusals.{saying_at};
+ghost use Rattle.gr_script.specs.Taken.{said};
 
 use crate::forms::{LineKind, is_kind, rank};
 use crate::halt::Halt;
@@ -69,7 +70,7 @@ fn is_full(most: u32, count: u32) -> bool
 }
 
 fn is_no_join(past: &Past, member: u128, provider: u128) -> bool
-    ensures { result ≡ is_no_join member provider past.now }
+    ensures { result ≡ is_no_join member provider (said past.now) }
 {
     member <= past.founders() || past.joins(member) != 0 || past.founders() < provider
 }
@@ -82,7 +83,7 @@ fn reason_where(test: bool, why: Reason) -> Option<Reason>
 }
 
 fn delivery_refusal(past: &Past, items: &[Item]) -> Option<Reason>
-    ensures { result ≡ refusal (tests past.now kind.Deliver items.now) }
+    ensures { result ≡ refusal (tests (said past.now) kind.Deliver items.now) }
 {
     let client = number(1, items);
     if is_missing(number(2, items), past.steps(client)) {
@@ -108,7 +109,7 @@ fn refusal_of(late: bool, own: bool, full: bool) -> Option<Reason>
 }
 
 fn hearing_refusal(past: &Past, items: &[Item]) -> Option<Reason>
-    ensures { result ≡ refusal (tests past.now kind.Hear items.now) }
+    ensures { result ≡ refusal (tests (said past.now) kind.Hear items.now) }
 {
     let of = number(1, items);
     let late = is_missing(number(2, items), past.reports(of));
@@ -117,7 +118,7 @@ fn hearing_refusal(past: &Past, items: &[Item]) -> Option<Reason>
 }
 
 fn joining_refusal(past: &Past, items: &[Item]) -> Option<Reason>
-    ensures { result ≡ refusal (tests past.now kind.Join items.now) }
+    ensures { result ≡ refusal (tests (said past.now) kind.Join items.now) }
 {
     let (member, provider) = (number(0, items), number(1, items));
     if is_no_join(past, member, provider) {
@@ -129,7 +130,7 @@ fn joining_refusal(past: &Past, items: &[Item]) -> Option<Reason>
 
 // The reason against a line with good fields.
 fn refusal(past: &Past, kind: LineKind, items: &[Item]) -> Option<Reason>
-    ensures { result ≡ refusal (tests past.now kind items.now) }
+    ensures { result ≡ refusal (tests (said past.now) kind items.now) }
 {
     let counted = past.counted();
     match kind {
@@ -183,7 +184,7 @@ fn form_at(runs: bool, stage: u8, text: &[u8]) -> Result<LineKind, Halt>
 
 /// What a line says that isn't skipped, behind earlier ones.
 pub(crate) fn saying_at(alloc: Global, runs: bool, past: &Past, text: &[u8]) -> Result<Saying, Halt>
-    ensures { Yields (λ saying. saying) result (saying_at runs past.now text.now) }
+    ensures { Yields (λ saying. saying) result (saying_at runs (said past.now) text.now) }
 {
     let kind = form_at(runs, past.stage(), text)?;
     let items = items_at(alloc, past.setting(), kind.fields(), text)?;

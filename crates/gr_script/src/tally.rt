@@ -1,30 +1,51 @@
-ghost use Rattle.std.specs.Prelude.{◌≡◌, ℕ, ◌+◌, ◌≤◌, ◌<◌, ◌^◌, true, ◌&&◌, ◌==◌, if◌then◌else◌, IfOk, OnOk, OnErr};
-ghost use Rattle.gr_script.specs.Tallies.{count_in};
+ghost use Rattle.std.specs.Prelude.{◌≡◌, ℕ, ◌+◌, ◌<◌, ◌^◌, true};
+ghost use Rattle.gr_script.specs.Tallies.{count_in, CountsOne};
 
-use gr_value::Memory;
-use std::collections::BTreeMap;
+use std::marker::Model;
 
-/// How many lines have this number.
-pub(crate) fn count_in(counts: &BTreeMap<u128, u32>, number: u128) -> u32
-    ensures { result ≡ count_in counts.now number }
-{
-    match counts.get(&number) {
-        Some(count) => *count,
-        None => 0,
-    }
+/// The numbers of members and clients are below this.
+const NUMBERS: usize = 256;
+
+/// How many lines have each number.
+#[derive(Drop)]
+pub(crate) struct Counts {
+    counts: [u32; NUMBERS],
 }
 
-/// Counts one more line of this number.
-pub(crate) fn count_up(counts: &mut BTreeMap<u128, u32>, number: u128) -> Result<(), Memory>
-    requires { count_in counts.old number + 1 < 2 ^ 32 }
-    ensures ok { OnOk result ((n : ℕ) → count_in counts.new n ≡ (if number == n then 1 else 0) + count_in counts.old n) }
-    ensures err { OnErr result ((n : ℕ) → count_in counts.new n ≡ count_in counts.old n) }
-{
-    match counts.get_mut(&number) {
-        Some(count) => *count += 1,
-        None => {
-            counts.insert(number, 1)?;
+impl Model for Counts {
+    ghost use Rattle.std.specs.Prelude.{List, ℕ};
+
+    ghost Value = { List ℕ };
+
+    ghost view = { λ counts. counts.counts };
+}
+
+impl Counts {
+    /// Of no lines.
+    pub(crate) fn new() -> Counts
+        ensures { (n : ℕ) → count_in result n ≡ 0 }
+    {
+        let counts = [0; NUMBERS];
+        Counts { counts }
+    }
+
+    /// How many lines have this number.
+    pub(crate) fn of(&self, number: u128) -> u32
+        ensures { result ≡ count_in self.now number }
+    {
+        if number < NUMBERS as u128 {
+            self.counts[number as usize]
+        } else {
+            0
         }
     }
-    Ok(())
+
+    /// Counts one more line of this number.
+    pub(crate) fn count_up(&mut self, number: u128)
+        requires narrow { number < 2 ^ 8 }
+        requires room { count_in self.old number + 1 < 2 ^ 32 }
+        ensures { CountsOne true number self.old self.new }
+    {
+        self.counts[number as usize] += 1;
+    }
 }

@@ -1,11 +1,13 @@
 ghost use Rattle.std.specs.Prelude.{◌≡◌, ◌==◌, ◌<◌, ◌∷◌, [], length, position, option_map, IfSome, MatchOption};
 ghost use Rattle.gr_script.specs.Texts.{cut, lines_of, is_ended};
 
+use memchr::memchr;
+
 fn place_of(mark: u8, bytes: &[u8]) -> Option<usize>
     ensures place { result ≡ position (λ byte. byte == mark) bytes.now }
     ensures within { IfSome result (λ place. place < length bytes.now) }
 {
-    bytes.iter().position(|byte| *byte == mark)
+    memchr(mark, bytes)
 }
 
 /// What stands in front of the first such byte, and what stands behind it.

@@ -3,11 +3,12 @@ use Rattle.gr_script.specs.declared.past.Counted.{Counted}
 use Rattle.gr_script.specs.declared.reason.Reason.TheVariants.{Later, Itself, Count}
 use Rattle.gr_script.specs.Past.{number, reports}
 use Rattle.gr_script.specs.Refusals.{is_missing, is_full, refusal}
+use Rattle.gr_script.specs.Taken.{said}
 use Rattle.gr_script.proofs.refusal.hearing_refusal.Goals as goal
 
 pub returns : goal.returns
 returns c =
-    let past = c.args.past.now in
+    let past = said c.args.past.now in
     let items = c.args.items.now in
     let late =
     c.is_missing-late.ensures ∙ ap (λ (n : ℕ). is_missing n c.reports.result) c.number.ensures

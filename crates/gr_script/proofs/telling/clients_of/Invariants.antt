@@ -4,6 +4,6 @@ use Rattle.gr_script.proofs.telling.clients_of.Given as goal
 
 abbrev pub invariant-loop-home : goal.invariant-loop-home
 invariant-loop-home l = record {
-  same : l.clients ≡ take l.home-index l.home-items;
-  within : AreWithin 1 8 (drop l.home-index l.home-items);
+  same : l.clients ≡ take l.home-index l.homes;
+  within : AreWithin 1 8 (drop l.home-index l.homes);
 }

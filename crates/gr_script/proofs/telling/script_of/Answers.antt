@@ -9,5 +9,5 @@ wider most more (number ∷ numbers) le within =
 
 pub clients_of-requires : goal.clients_of-requires
 clients_of-requires c =
-    let head = c.requires.ruled.heading in
-    subst (AreWithin 1 8) (sym c.into_told-told.ensures.homes) (wider _ 8 _ head.members.1 head.at_members)
+    let head = c.requires.heading in
+    subst (AreWithin 1 8) (sym c.homes.ensures) (wider _ 8 _ head.members.1 head.at_members)
