@@ -1,5 +1,5 @@
 -- What each cause says of the words, the source, the sink and the record.
-use Rattle.std.specs.Prelude.{◌≡◌, ◌⊎◌, ℕ, ◌+◌, ◌≤◌, List, length, reverse, Option, None, Result, Ok, Err, false, IfSome, IsSomeAnd}
+use Rattle.std.specs.Prelude.{◌≡◌, ◌⊎◌, ℕ, ◌+◌, ◌≤◌, List, length, Option, None, Result, Ok, Err, false, IfSome, IsSomeAnd}
 use Rattle.std.specs.Io.KnownBytes.{IsAtEnd, Appends, Consumes}
 use Rattle.gr_history.specs.declared.record.Record.{Record}
 use Rattle.gr_io.specs.Faults.{Rose}
@@ -12,10 +12,7 @@ use Rattle.gr_script.specs.Cuts.{line_count}
 use Rattle.gr_script.specs.Printed.{script_text}
 use Rattle.gr_script.specs.Said.{script_of}
 use Rattle.gr_script.specs.Scripts.{heading_of}
-use Rattle.gr_world.specs.Clients.{AreServed}
-use Rattle.gr_world.specs.Courses.{course}
-use Rattle.gr_world.specs.Histories.{KeepsLaws}
-use Rattle.gr_world.specs.Records.{IsReplayed}
+use Rattle.gr_world.specs.Played.{IsPlayed}
 use Rattle.gr_top.specs.declared.cause.Cause.{Cause}
 use Rattle.gr_top.specs.declared.cause.Cause.TheVariants.{Finished, Usage, ReadFault, TooLarge, Script, WriteFault, Memory}
 use Rattle.gr_top.specs.Causes.{status_of}
@@ -62,11 +59,8 @@ pub record IsGiven (source : Stream) (text : List ℕ) (script : TheScript) : Ty
 -- were served step by step.
 pub record IsReplayOf (source : Stream) (record_of : Record) : Type 0 where
   pub text : List ℕ
-  pub script : TheScript
-  pub given : IsGiven source text script
-  pub replayed : IsReplayed (heading_of script) script.lines record_of
-  pub laws : KeepsLaws (heading_of script) record_of
-  pub served : AreServed (heading_of script) (reverse script.lines) (course (heading_of script) (reverse script.lines))
+  pub whole : IsWhole source text
+  pub played : IsPlayed text record_of
 
 -- What the source had is no script, and this is its first fault.
 pub record IsRefused (source : Stream) (fault : ScriptFault) : Type 0 where

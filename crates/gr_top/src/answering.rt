@@ -4,7 +4,7 @@ ghost use Rattle.gr_top.specs.Outcomes.{Answers, Explains, IsPrinted, IsReplayOf
 ghost use Rattle.gr_top.specs.Words.{mode_of};
 ghost use Rattle.gr_top.specs.declared.words.Mode.TheVariants as mode;
 
-use crate::giving::script_from;
+use crate::giving::{cause_of, script_from, text_from};
 use crate::words::{Mode, mode_of};
 use crate::{Cause, Outcome};
 use gr_history::Record;
@@ -12,7 +12,7 @@ use gr_io::{Sink, Source, write_all};
 use gr_report::report;
 use gr_script::print;
 use gr_value::Memory;
-use gr_world::play_out;
+use gr_world::play_text;
 use std::alloc::Global;
 
 fn hand_out<K: Sink>(sink: &mut K, text: &[u8]) -> Cause
@@ -46,10 +46,11 @@ fn record_from<S: Source>(alloc: Global, source: &mut S) -> Result<Record, Cause
         → MatchResult result (IsReplayOf (stream (S.left source.old) (S.left source.new) (S.faults source.old) (S.faults source.new)))
         (Stops (mode.Replay histories) (stream (S.left source.old) (S.left source.new) (S.faults source.old) (S.faults source.new))) }
 {
-    let script = script_from(alloc, source)?;
-    match play_out(alloc, script) {
+    let text = text_from(alloc, source)?;
+    let bytes = text.as_slice();
+    match play_text(alloc, bytes) {
         Ok(record_of) => Ok(record_of),
-        Err(Memory) => Err(Cause::Memory),
+        Err(end) => Err(cause_of(end, bytes)),
     }
 }
 

@@ -1,5 +1,7 @@
-ghost use Rattle.std.specs.Prelude.{◌≡◌, ℕ, List, MatchResult};
-ghost use Rattle.gr_top.specs.Outcomes.{IsGiven, IsWhole, Stops, stream};
+ghost use Rattle.std.specs.Prelude.{ℕ, List, false, MatchResult};
+ghost use Rattle.gr_script.specs.Said.{script_of};
+ghost use Rattle.gr_script.specs.Sayings.{Ends};
+ghost use Rattle.gr_top.specs.Outcomes.{IsGiven, IsWhole, Stops, Stream, stream};
 ghost use Rattle.gr_top.specs.declared.words.Mode.{Mode as AMode};
 
 use crate::Cause;
@@ -10,8 +12,8 @@ use std::alloc::Global;
 /// The most bytes of a script.
 const MOST_BYTES: u64 = 8_388_608;
 
-// All that the source has.
-fn text_from<S: Source>(alloc: Global, source: &mut S) -> Result<Vec<u8>, Cause>
+/// All that the source has.
+pub(crate) fn text_from<S: Source>(alloc: Global, source: &mut S) -> Result<Vec<u8>, Cause>
     ensures { (m : AMode) → MatchResult result
         (λ text. IsWhole (stream (S.left source.old) (S.left source.new) (S.faults source.old) (S.faults source.new)) text.items)
         (Stops m (stream (S.left source.old) (S.left source.new) (S.faults source.old) (S.faults source.new))) }
@@ -27,6 +29,20 @@ fn text_from<S: Source>(alloc: Global, source: &mut S) -> Result<Vec<u8>, Cause>
     }
 }
 
+/// Why a text is no script.
+pub(crate) fn cause_of(end: ScriptEnd, text: &[u8]) -> Cause
+    ensures { (m : AMode) (source : Stream) → IsWhole source text.now → Ends end (script_of false text.now) → Stops m source result }
+{
+    match end {
+        ScriptEnd::TooManyLines(lines) => Cause::TooLarge {
+            bytes: text.len() as u64,
+            lines,
+        },
+        ScriptEnd::Fault(fault) => Cause::Script(fault),
+        ScriptEnd::Memory => Cause::Memory,
+    }
+}
+
 /// The script that the source has. Its text isn't kept.
 pub(crate) fn script_from<S: Source>(alloc: Global, source: &mut S) -> Result<Script, Cause>
     ensures { (m : AMode) → MatchResult result
@@ -34,13 +50,9 @@ pub(crate) fn script_from<S: Source>(alloc: Global, source: &mut S) -> Result<Sc
         (Stops m (stream (S.left source.old) (S.left source.new) (S.faults source.old) (S.faults source.new))) }
 {
     let text = text_from(alloc, source)?;
-    match read(alloc, text.as_slice(), Form::Replay) {
+    let bytes = text.as_slice();
+    match read(alloc, bytes, Form::Replay) {
         Ok(script) => Ok(script),
-        Err(ScriptEnd::TooManyLines(lines)) => Err(Cause::TooLarge {
-            bytes: text.len() as u64,
-            lines,
-        }),
-        Err(ScriptEnd::Fault(fault)) => Err(Cause::Script(fault)),
-        Err(ScriptEnd::Memory) => Err(Cause::Memory),
+        Err(end) => Err(cause_of(end, bytes)),
     }
 }

@@ -21,3 +21,4 @@ pub mod Playable
 pub mod Scripts
 pub mod Numbering
 pub mod Kept
+pub mod WhileRead

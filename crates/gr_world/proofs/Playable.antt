@@ -60,8 +60,7 @@ behind_stands heading [] past all = all
 behind_stands heading (line ∷ front) past all = behind_stands heading front past all.1
 
 -- the line that follows those that were played
-pub next_playable : (heading : Heading) (lines rest played : List Line) (line : Line) → IsScript heading lines
-    → rest ++ line ∷ played ≡ reverse lines → CanPlay heading line
-next_playable heading lines rest played line is parted =
-    let stand = subst (AllStand heading) (sym parted) is.lines_stand in
-    line_playable heading line played is.heading (behind_stands heading rest (line ∷ played) stand).0
+pub next_playable : (heading : Heading) (played : List Line) (line : Line) → IsScript heading (reverse (line ∷ played))
+    → CanPlay heading line
+next_playable heading played line is =
+    line_playable heading line played is.heading (subst (AllStand heading) (reverse-reverse (line ∷ played)) is.lines_stand).0

@@ -7,6 +7,7 @@ pub mod Histories
 pub mod Named
 pub mod Noted
 pub mod Numbered
+pub mod Played
 pub mod Records
 pub mod Rows
 pub mod Tasks

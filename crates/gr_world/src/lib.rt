@@ -8,7 +8,7 @@ mod laws;
 mod made;
 mod noted;
 mod place;
-mod playing_out;
+mod playing;
 mod querying;
 mod replaying;
 mod row;
@@ -21,6 +21,6 @@ mod tellings;
 mod world;
 
 pub use laws::laws_of_courses;
-pub use playing_out::play_out;
+pub use playing::play_text;
 pub use replaying::replay;
 pub use rows::{a_repeat_is_told, an_image_drops_a_tombstone, concurrent_puts_meet};

@@ -1,0 +1,23 @@
+-- The record of the script that a text is.
+use Rattle.std.specs.Prelude.{◌≡◌, ℕ, List, reverse, false, Ok}
+use Rattle.gr_history.specs.declared.record.Record.{Record}
+use Rattle.gr_script.specs.declared.line.Line.{Line}
+use Rattle.gr_script.specs.Rules.{Heading, IsScript}
+use Rattle.gr_script.specs.Said.{script_of}
+use Rattle.gr_world.specs.Clients.{AreServed}
+use Rattle.gr_world.specs.Courses.{course}
+use Rattle.gr_world.specs.Histories.{KeepsLaws}
+use Rattle.gr_world.specs.Records.{IsReplayed}
+
+pub record IsPlayed (text : List ℕ) (left : Record) : Type 0 where
+  pub heading : Heading
+  pub lines : List Line
+  -- The text is this script,
+  pub ruled : IsScript heading lines
+  pub read : script_of false text ≡ Ok (heading, lines)
+  -- and the record is all that its course says.
+  pub replayed : IsReplayed heading lines left
+  -- Members that took in the same changes have the same values, and no removed value is back.
+  pub laws : KeepsLaws heading left
+  -- Each client was served step by step.
+  pub served : AreServed heading (reverse lines) (course heading (reverse lines))
