@@ -1,5 +1,6 @@
 -- A history as it is kept: its deeds, the oldest first, and the number of deeds that there is room for.
-use Rattle.std.specs.Prelude.{ℕ, List, Bool, true, false, ◌==◌}
+use Rattle.std.specs.Prelude.{◌≡◌, ℕ, List, Bool, true, false, ◌==◌, Some, None}
+use Rattle.gr_history.specs.Asks.{change_asked}
 use Rattle.gr_history.specs.declared.verdict.Verdict.TheVariants as verdict
 use Rattle.gr_history.specs.declared.deed.Deed.{Deed}
 use Rattle.gr_history.specs.declared.deed.Deed.TheVariants.{Call, Asked, Taken}
@@ -7,6 +8,12 @@ use Rattle.gr_history.specs.declared.deed.Deed.TheVariants.{Call, Asked, Taken}
 pub record Deeds : Type 0 where
   pub deeds : List Deed
   pub spare : ℕ
+
+-- A change that a call made is what was asked for, under its stamp.
+abbrev pub IsAsked : Deed → Type 0
+IsAsked (Call client seq ask reply None to) = Unit
+IsAsked (Call client seq ask reply (Some change) to) = change ≡ change_asked ask change.stamp
+IsAsked _ = Unit
 
 -- whether it is a step of the client
 abbrev pub is_of_client : ℕ → Deed → Bool

@@ -1,8 +1,15 @@
 ghost use Rattle.std.specs.Prelude.{◌≡◌, ◌==◌, ◌≤◌, ◌+◌, [], ◌∷◌, ◌++◌, length};
 ghost use Rattle.std.specs.Prelude.{IsOk, IfOk, OnOk, OnErr, option_copied, slice_get, count_by};
-ghost use Rattle.gr_history.specs.Deeds.{is_of_client, is_discarded, is_repeat};
+ghost use Rattle.std.specs.Prelude.{option_and_then, option_map, reverse};
+ghost use Rattle.gr_history.specs.declared.deed.Deed.TheVariants as deed;
+ghost use Rattle.gr_history.specs.Asks.{change_asked};
+ghost use Rattle.gr_history.specs.Deeds.{IsAsked, is_of_client, is_discarded, is_repeat};
+ghost use Rattle.gr_history.specs.Gifts.{own_changes};
+ghost use Rattle.gr_history.specs.Made.{made_in};
 
-use crate::Deed;
+use crate::kept::Kept;
+use crate::{Ask, Deed, Reply};
+use gr_stamp::{Change, ChangeList, Stamp};
 use gr_value::{Copied, Memory};
 use std::alloc::Global;
 use std::marker::Model;
@@ -11,7 +18,7 @@ use std::marker::Model;
 /// of deeds that there is room for.
 #[derive(Drop)]
 pub struct History {
-    deeds: Vec<Deed>,
+    kept: Vec<Kept>,
 }
 
 impl Model for History {
@@ -19,12 +26,13 @@ impl Model for History {
     ghost use Rattle.std.specs.Coded.{codes};
     ghost use Rattle.gr_oql.specs.Question.{question_code};
     ghost use Rattle.gr_history.specs.Deeds.{Deeds};
+    ghost use Rattle.gr_history.specs.Kept.{deeds_of};
 
     ghost Value = { Deeds };
 
     ghost coded = { Prim.hlevel (codes, question_code) };
 
-    ghost view = { λ history. record { deeds = history.deeds.items; spare = vec_capacity history.deeds - vec_len history.deeds } };
+    ghost view = { λ history. record { deeds = deeds_of history.kept.items; spare = vec_capacity history.kept - vec_len history.kept } };
 }
 
 impl History {
@@ -32,34 +40,53 @@ impl History {
         ensures { IfOk result (λ history. history.deeds ≡ []) }
     {
         Ok(History {
-            deeds: Vec::new(alloc),
+            kept: Vec::new(alloc),
         })
     }
 
     pub fn len(&self) -> u64
         ensures { result ≡ length self.now.deeds }
     {
-        self.deeds.len() as u64
+        self.kept.len() as u64
     }
 
     pub fn is_empty(&self) -> bool
         ensures { result ≡ (length self.now.deeds == 0) }
     {
-        self.deeds.is_empty()
+        self.kept.is_empty()
     }
 
     /// The deed at a place, counted from 0.
-    pub fn get(&self, place: u64) -> Option<&Deed>
-        ensures { option_copied result ≡ slice_get self.now.deeds place }
+    pub fn get(&self, alloc: Global, place: u64) -> Result<Option<Deed>, Memory>
+        ensures { IfOk result (λ found. found ≡ slice_get self.now.deeds place) }
     {
-        self.deeds.get(place as usize)
+        match self.kept.get(place as usize) {
+            None => Ok(None),
+            Some(kept) => Ok(Some(kept.deed(alloc)?)),
+        }
     }
 
-    /// All deeds, the oldest first.
-    pub fn as_slice(&self) -> &[Deed]
-        ensures { result.now ≡ self.now.deeds }
+    /// The change that the deed at a place made, counted from 0.
+    pub fn made(&self, alloc: Global, place: u64) -> Result<Option<Change>, Memory>
+        ensures { IfOk result (λ made. made ≡ option_and_then made_in (slice_get self.now.deeds place)) }
     {
-        self.deeds.as_slice()
+        match self.kept.get(place as usize) {
+            None => Ok(None),
+            Some(kept) => kept.made(alloc),
+        }
+    }
+
+    /// The changes that its calls made, the oldest first. Takes time in proportion to the history.
+    pub fn own_changes(&self, alloc: Global) -> Result<ChangeList, Memory>
+        ensures { IfOk result (λ changes. changes ≡ own_changes (reverse self.now.deeds)) }
+    {
+        let mut changes = ChangeList::new(alloc)?;
+        for kept in &self.kept {
+            if let Some(change) = kept.made(alloc)? {
+                changes.push(change)?;
+            }
+        }
+        Ok(changes)
     }
 
     /// Makes room for so many more deeds.
@@ -67,19 +94,43 @@ impl History {
         ensures deeds { self.new.deeds ≡ self.old.deeds }
         ensures room { OnOk result (more ≤ self.new.spare) }
     {
-        self.deeds.reserve(more)?;
+        self.kept.reserve(more)?;
         Ok(())
     }
 
-    /// Puts a deed last. Where memory is refused the deed is dropped.
+    /// Puts a call last, which made the change of this stamp that was asked for, if it made one. Where
+    /// memory is refused what was moved in is dropped.
     #[inline(always)]
+    pub fn push_call(
+        &mut self,
+        client: u8,
+        seq: u32,
+        ask: Ask,
+        reply: Reply,
+        stamp: Option<Stamp>,
+        to: u8,
+    ) -> Result<(), Memory>
+        ensures ok { OnOk result
+            (self.new.deeds ≡ self.old.deeds ++ deed.Call client seq ask reply (option_map (change_asked ask) stamp) to ∷ []) }
+        ensures err { OnErr result (self.new.deeds ≡ self.old.deeds) }
+        ensures room { 1 ≤ self.old.spare → IsOk result }
+        ensures used { self.old.spare ≤ self.new.spare + 1 }
+    {
+        self.kept
+            .push(Kept::of_call(client, seq, ask, reply, stamp, to))?;
+        Ok(())
+    }
+
+    /// Puts a deed last. A change that a call made is what was asked for. Where memory is refused the
+    /// deed is dropped.
     pub fn push(&mut self, deed: Deed) -> Result<(), Memory>
+        requires { IsAsked deed }
         ensures ok { OnOk result (self.new.deeds ≡ self.old.deeds ++ deed ∷ []) }
         ensures err { OnErr result (self.new.deeds ≡ self.old.deeds) }
         ensures room { 1 ≤ self.old.spare → IsOk result }
         ensures used { self.old.spare ≤ self.new.spare + 1 }
     {
-        self.deeds.push(deed)?;
+        self.kept.push(Kept::of(deed))?;
         Ok(())
     }
 
@@ -87,31 +138,31 @@ impl History {
     pub fn calls_of(&self, client: u8) -> u64
         ensures { result ≡ count_by (is_of_client client) self.now.deeds }
     {
-        self.deeds.iter().filter(|deed| deed.is_of(client)).count() as u64
+        self.kept.iter().filter(|kept| kept.is_of(client)).count() as u64
     }
 
     /// How many changes were discarded. Takes time in proportion to the history.
     pub fn discarded(&self) -> u64
         ensures { result ≡ count_by is_discarded self.now.deeds }
     {
-        self.deeds.iter().filter(|deed| deed.is_discarded()).count() as u64
+        self.kept.iter().filter(|kept| kept.is_discarded()).count() as u64
     }
 
     /// How many changes came again. Takes time in proportion to the history.
     pub fn repeats(&self) -> u64
         ensures { result ≡ count_by is_repeat self.now.deeds }
     {
-        self.deeds.iter().filter(|deed| deed.is_repeat()).count() as u64
+        self.kept.iter().filter(|kept| kept.is_repeat()).count() as u64
     }
 
     /// The same deeds. The copy has no room to spare.
     pub fn copy(&self, alloc: Global) -> Result<History, Memory>
         ensures { IfOk result (λ copy. copy.deeds ≡ self.now.deeds) }
     {
-        let mut deeds = Vec::with_capacity(alloc, self.deeds.len())?;
-        for deed in &self.deeds {
-            deeds.push(deed.copy(alloc)?)?;
+        let mut copies = Vec::with_capacity(alloc, self.kept.len())?;
+        for kept in &self.kept {
+            copies.push(Kept::of(kept.deed(alloc)?))?;
         }
-        Ok(History { deeds })
+        Ok(History { kept: copies })
     }
 }

@@ -1,4 +1,4 @@
-ghost use Rattle.std.specs.Prelude.{◌≡◌, ◌≤◌, OnOk, OnErr, option_copied, option_and_then};
+ghost use Rattle.std.specs.Prelude.{◌≡◌, ◌≤◌, IfOk, OnOk, OnErr, option_copied, option_and_then};
 ghost use Rattle.gr_stamp.specs.Winner.{put_value};
 ghost use Rattle.gr_shard.specs.Entries.{slot_ver, with_change, applied, verdict_at};
 
@@ -29,23 +29,22 @@ pub fn ver_of(slot: Option<&Slot>) -> u64
 /// Sets what came in at this clock, if anything did. Where memory is refused the slots are as before.
 #[inline(always)]
 pub fn enter(
-    alloc: Global,
     slots: &mut Slots,
     clock: u64,
-    came: Option<&Change>,
+    came: Option<Change>,
 ) -> Result<(), Memory>
-    ensures ok { OnOk result (slots.new ≡ with_change (option_copied came.entry) clock slots.old) }
+    ensures ok { OnOk result (slots.new ≡ with_change came clock slots.old) }
     ensures err { OnErr result (slots.new ≡ slots.old) }
 {
     let Some(change) = came else {
         return Ok(());
     };
     let slot = Slot {
-        kind: change.kind.copy(alloc)?,
+        kind: change.kind,
         stamp: change.stamp,
         taken_at: clock,
     };
-    slots.set(change.key.copy(alloc)?, slot)
+    slots.set(change.key, slot)
 }
 
 /// What becomes of a change that is known or isn't, over what stands.
@@ -59,12 +58,16 @@ pub fn verdict_at(known: bool, slot: Option<&Slot>, stamp: &Stamp) -> Verdict
     }
 }
 
-/// The change, where it was applied.
-pub fn applied(verdict: Verdict, change: &Change) -> Option<&Change>
-    ensures { option_copied result ≡ applied verdict change.now }
+/// The change once more, where it was applied.
+pub fn applied(
+    alloc: Global,
+    verdict: Verdict,
+    change: &Change,
+) -> Result<Option<Change>, Memory>
+    ensures { IfOk result (λ came. came ≡ applied verdict change.now) }
 {
     match verdict {
-        Verdict::Applied => Some(change),
-        _ => None,
+        Verdict::Applied => Ok(Some(change.copy(alloc)?)),
+        _ => Ok(None),
     }
 }

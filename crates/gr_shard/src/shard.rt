@@ -25,8 +25,8 @@ ghost use Rattle.gr_shard.specs.Calls.{call_with, served};
 
 use crate::asking::{Replies, answer};
 use crate::entering::{applied, value_of, ver_of, verdict_at};
-use crate::giving::{own_changes, standing};
-use crate::making::{copy_of, deed_of, note, nothing_made, recipients, served};
+use crate::giving::standing;
+use crate::making::{copy_of, note, nothing_made, recipients, served, stamp_of};
 use crate::merging::merged;
 use crate::regions::region;
 use crate::served::Served;
@@ -152,9 +152,9 @@ impl Shard {
         };
         self.history.reserve(1)?;
         self.vector.reserve()?;
-        let came = applied(verdict, change);
+        let came = applied(alloc, verdict, change)?;
         come_in(alloc, &mut self.slots, &mut self.queries, self.clock, came)?;
-        note(&mut self.vector, Some(change));
+        note(&mut self.vector, Some(change.stamp));
         let _ = self.history.push(deed);
         Ok(verdict)
     }
@@ -367,10 +367,13 @@ impl Shard {
     {
         self.history.reserve(1)?;
         self.vector.reserve()?;
-        let made = done.made.as_ref();
+        let Done { reply, made, to } = done;
+        let stamp = stamp_of(made.as_ref());
         come_in(alloc, &mut self.slots, &mut self.queries, self.clock, made)?;
-        note(&mut self.vector, made);
-        let _ = self.history.push(deed_of(client, seq, ask, done));
+        note(&mut self.vector, stamp);
+        let _ = self
+            .history
+            .push_call(client, seq, ask, reply, stamp, to);
         Ok(())
     }
 
@@ -396,7 +399,7 @@ impl Shard {
     {
         match what {
             What::Image => Ok(Gift::Image(self.image(alloc)?)),
-            What::Own => Ok(Gift::Own(own_changes(alloc, self.history.as_slice())?)),
+            What::Own => Ok(Gift::Own(self.history.own_changes(alloc)?)),
         }
     }
 

@@ -104,18 +104,18 @@ pub fn come_in(
     slots: &mut Slots,
     queries: &mut Registry,
     clock: u64,
-    came: Option<&Change>,
+    came: Option<Change>,
 ) -> Result<(), Memory>
-    ensures slots { OnOk result (slots.new ≡ with_change (option_copied came.entry) clock slots.old) }
-    ensures told { OnOk result (queries.new.entries ≡ noted (turned_by_change slots.old (option_copied came.entry)) queries.old.entries) }
+    ensures slots { OnOk result (slots.new ≡ with_change came clock slots.old) }
+    ensures told { OnOk result (queries.new.entries ≡ noted (turned_by_change slots.old came) queries.old.entries) }
     ensures slots_err { OnErr result (slots.new ≡ slots.old) }
     ensures told_err { OnErr result (queries.new.entries ≡ queries.old.entries) }
 {
     if queries.is_empty() {
-        return enter(alloc, slots, clock, came);
+        return enter(slots, clock, came);
     }
-    let foreseen = foresee_change(alloc, queries, slots, came)?;
-    enter(alloc, slots, clock, came)?;
+    let foreseen = foresee_change(alloc, queries, slots, came.as_ref())?;
+    enter(slots, clock, came)?;
     tell(queries, foreseen);
     Ok(())
 }
