@@ -1,3 +1,4 @@
+pub mod Further
 pub mod Digits
 pub mod Commas
 pub mod Gathered

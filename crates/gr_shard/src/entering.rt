@@ -1,4 +1,4 @@
-ghost use Rattle.std.specs.Prelude.{◌≡◌, ◌≤◌, IfOk, OnOk, OnErr, option_copied, option_and_then};
+ghost use Rattle.std.specs.Prelude.{◌≡◌, ◌≤◌, OnOk, OnErr, option_copied, option_and_then};
 ghost use Rattle.gr_stamp.specs.Winner.{put_value};
 ghost use Rattle.gr_shard.specs.Entries.{slot_ver, with_change, applied, verdict_at};
 
@@ -58,16 +58,12 @@ pub fn verdict_at(known: bool, slot: Option<&Slot>, stamp: &Stamp) -> Verdict
     }
 }
 
-/// The change once more, where it was applied.
-pub fn applied(
-    alloc: Global,
-    verdict: Verdict,
-    change: &Change,
-) -> Result<Option<Change>, Memory>
-    ensures { IfOk result (λ came. came ≡ applied verdict change.now) }
+/// The change, where it was applied.
+pub fn applied(verdict: Verdict, change: &Change) -> Option<&Change>
+    ensures { option_copied result ≡ applied verdict change.now }
 {
     match verdict {
-        Verdict::Applied => Ok(Some(change.copy(alloc)?)),
-        _ => Ok(None),
+        Verdict::Applied => Some(change),
+        _ => None,
     }
 }

@@ -37,9 +37,9 @@ pub fn recipients(id: Identity, given: &[bool; 8]) -> u8
 
 /// Notes the stamp of what was made or taken in, for which there is room.
 #[inline(always)]
-pub fn note(vector: &mut Vector, stamp: Option<Stamp>)
+pub fn note(vector: &mut Vector, stamp: Option<&Stamp>)
     requires { 1 ≤ vector.old.spare }
-    ensures { vector.new.ids ≡ with_stamp stamp vector.old.ids }
+    ensures { vector.new.ids ≡ with_stamp (option_copied stamp.entry) vector.old.ids }
 {
     if let Some(stamp) = stamp {
         let _ = vector.note(stamp.member(), stamp.rv());

@@ -31,7 +31,7 @@ use crate::merging::merged;
 use crate::regions::region;
 use crate::served::Served;
 use crate::sweeping::{drop_all, risen};
-use crate::telling::{come_in, take_over};
+use crate::telling::{come_copied, come_in, take_over};
 use crate::told::tells;
 use gr_cq::Registry;
 use gr_history::{
@@ -152,9 +152,9 @@ impl Shard {
         };
         self.history.reserve(1)?;
         self.vector.reserve()?;
-        let came = applied(alloc, verdict, change)?;
-        come_in(alloc, &mut self.slots, &mut self.queries, self.clock, came)?;
-        note(&mut self.vector, Some(change.stamp));
+        let came = applied(verdict, change);
+        come_copied(alloc, &mut self.slots, &mut self.queries, self.clock, came)?;
+        note(&mut self.vector, Some(&change.stamp));
         let _ = self.history.push(deed);
         Ok(verdict)
     }
@@ -367,13 +367,10 @@ impl Shard {
     {
         self.history.reserve(1)?;
         self.vector.reserve()?;
-        let Done { reply, made, to } = done;
-        let stamp = stamp_of(made.as_ref());
-        come_in(alloc, &mut self.slots, &mut self.queries, self.clock, made)?;
-        note(&mut self.vector, stamp);
-        let _ = self
-            .history
-            .push_call(client, seq, ask, reply, stamp, to);
+        let stamp = stamp_of(done.made.as_ref());
+        come_in(alloc, &mut self.slots, &mut self.queries, self.clock, done.made)?;
+        note(&mut self.vector, stamp.as_ref());
+        let _ = self.history.push_call(client, seq, ask, done.reply, stamp, done.to);
         Ok(())
     }
 

@@ -120,6 +120,33 @@ pub fn come_in(
     Ok(())
 }
 
+// The same change once more, if there is one.
+fn copied(alloc: Global, came: Option<&Change>) -> Result<Option<Change>, Memory>
+    ensures { IfOk result (λ copy. copy ≡ option_copied came.entry) }
+{
+    match came {
+        Some(change) => Ok(Some(change.copy(alloc)?)),
+        None => Ok(None),
+    }
+}
+
+/// Does so with a copy of what came in.
+pub fn come_copied(
+    alloc: Global,
+    slots: &mut Slots,
+    queries: &mut Registry,
+    clock: u64,
+    came: Option<&Change>,
+) -> Result<(), Memory>
+    ensures slots { OnOk result (slots.new ≡ with_change (option_copied came.entry) clock slots.old) }
+    ensures told { OnOk result (queries.new.entries ≡ noted (turned_by_change slots.old (option_copied came.entry)) queries.old.entries) }
+    ensures slots_err { OnErr result (slots.new ≡ slots.old) }
+    ensures told_err { OnErr result (queries.new.entries ≡ queries.old.entries) }
+{
+    let copy = copied(alloc, came)?;
+    come_in(alloc, slots, queries, clock, copy)
+}
+
 /// Takes over slots in the place of those before and further ids, and tells the open queries.
 pub fn take_over(
     alloc: Global,
