@@ -15,22 +15,27 @@ use std::alloc::Global;
 use std::marker::Model;
 
 /// The deeds of one shard of one member, the oldest first. Contracts see the list beside the number
-/// of deeds that there is room for.
+/// of deeds that there is room for. The changes that were discarded or came again are counted.
 #[derive(Drop)]
 pub struct History {
     kept: Vec<Kept>,
+    discarded: u64,
+    repeats: u64,
 }
 
 impl Model for History {
-    ghost use Rattle.std.specs.Prelude.{◌-◌, vec_len, vec_capacity};
+    ghost use Rattle.std.specs.Prelude.{◌≡◌, ◌-◌, count_by, vec_len, vec_capacity};
     ghost use Rattle.std.specs.Coded.{codes};
     ghost use Rattle.gr_oql.specs.Question.{question_code};
-    ghost use Rattle.gr_history.specs.Deeds.{Deeds};
+    ghost use Rattle.gr_history.specs.Deeds.{Deeds, is_discarded, is_repeat};
     ghost use Rattle.gr_history.specs.Kept.{deeds_of};
 
     ghost Value = { Deeds };
 
     ghost coded = { Prim.hlevel (codes, question_code) };
+
+    ghost invariant = { λ history. (history.discarded ≡ count_by is_discarded (deeds_of history.kept.items))
+        × (history.repeats ≡ count_by is_repeat (deeds_of history.kept.items)) };
 
     ghost view = { λ history. record { deeds = deeds_of history.kept.items; spare = vec_capacity history.kept - vec_len history.kept } };
 }
@@ -41,6 +46,8 @@ impl History {
     {
         Ok(History {
             kept: Vec::new(alloc),
+            discarded: 0,
+            repeats: 0,
         })
     }
 
@@ -130,7 +137,10 @@ impl History {
         ensures room { 1 ≤ self.old.spare → IsOk result }
         ensures used { self.old.spare ≤ self.new.spare + 1 }
     {
+        let (discarded, repeated) = (deed.is_discarded(), deed.is_repeat());
         self.kept.push(Kept::of(deed))?;
+        self.discarded += u64::from(discarded);
+        self.repeats += u64::from(repeated);
         Ok(())
     }
 
@@ -141,18 +151,18 @@ impl History {
         self.kept.iter().filter(|kept| kept.is_of(client)).count() as u64
     }
 
-    /// How many changes were discarded. Takes time in proportion to the history.
+    /// How many changes were discarded.
     pub fn discarded(&self) -> u64
         ensures { result ≡ count_by is_discarded self.now.deeds }
     {
-        self.kept.iter().filter(|kept| kept.is_discarded()).count() as u64
+        self.discarded
     }
 
-    /// How many changes came again. Takes time in proportion to the history.
+    /// How many changes came again.
     pub fn repeats(&self) -> u64
         ensures { result ≡ count_by is_repeat self.now.deeds }
     {
-        self.kept.iter().filter(|kept| kept.is_repeat()).count() as u64
+        self.repeats
     }
 
     /// The same deeds. The copy has no room to spare.
@@ -163,6 +173,10 @@ impl History {
         for kept in &self.kept {
             copies.push(Kept::of(kept.deed(alloc)?))?;
         }
-        Ok(History { kept: copies })
+        Ok(History {
+            kept: copies,
+            discarded: self.discarded,
+            repeats: self.repeats,
+        })
     }
 }

@@ -1,7 +1,7 @@
 ghost use Rattle.std.specs.Prelude.{◌≡◌, IfOk, Some, None, option_copied, option_map};
 ghost use Rattle.gr_history.specs.declared.deed.Deed.TheVariants as deed;
 ghost use Rattle.gr_history.specs.Asks.{change_asked, kind_asked};
-ghost use Rattle.gr_history.specs.Deeds.{IsAsked, is_of_client, is_discarded, is_repeat};
+ghost use Rattle.gr_history.specs.Deeds.{IsAsked, is_of_client};
 ghost use Rattle.gr_history.specs.Kept.{deed_of};
 ghost use Rattle.gr_history.specs.Made.{made_in};
 
@@ -183,32 +183,6 @@ impl Kept {
             | Kept::Asked { client: own, .. } => *own == client,
             _ => false,
         }
-    }
-
-    /// Whether it takes in a change that loses to what stands.
-    pub(crate) fn is_discarded(&self) -> bool
-        ensures { result ≡ is_discarded (deed_of self.now) }
-    {
-        matches!(
-            self,
-            Kept::Taken {
-                verdict: Verdict::Discarded,
-                ..
-            }
-        )
-    }
-
-    /// Whether it takes in a change that came in before.
-    pub(crate) fn is_repeat(&self) -> bool
-        ensures { result ≡ is_repeat (deed_of self.now) }
-    {
-        matches!(
-            self,
-            Kept::Taken {
-                verdict: Verdict::Repeat,
-                ..
-            }
-        )
     }
 
     /// The change that it made, if it made one.

@@ -1,5 +1,5 @@
 -- Deeds that are put one by one, by their places.
-use Rattle.std.proofs.Common.{◌≡◌, ◌∙◌, ◌+◌, ap, sym, refl, ℕ, suc, List, [], ◌∷◌, ◌++◌, flat_map, take, add-one, append_assoc}
+use Rattle.std.proofs.Common.{◌≡◌, ◌∙◌, ◌+◌, ap, sym, refl, ℕ, zero, suc, List, [], ◌∷◌, ◌++◌, flat_map, take, add-one, append_assoc}
 use Rattle.std.specs.Prelude.{slice_get}
 use Rattle.std.specs.Option.{option_to_list}
 use Rattle.std.proofs.lemmas.Grind.{flat_map-append}
@@ -8,9 +8,9 @@ use Rattle.gr_report.specs.Deeds.{deed_line}
 
 -- the first deeds and the one behind them
 taken_further : {X : Type 0} (xs : List X) (k : ℕ) → take (suc k) xs ≡ take k xs ++ option_to_list (slice_get xs k)
-taken_further [] 0 = refl
+taken_further [] zero = refl
 taken_further [] (suc k) = refl
-taken_further (x ∷ xs) 0 = refl
+taken_further (x ∷ xs) zero = refl
 taken_further (x ∷ xs) (suc k) = ap (λ rest. x ∷ rest) (taken_further xs k)
 
 -- What was put before a deed, and its line.
