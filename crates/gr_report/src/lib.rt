@@ -18,5 +18,5 @@ mod summing;
 mod written;
 
 pub use put::{put_number, put_text};
-pub use reporting::report;
+pub use reporting::{report, report_in};
 pub use summing::summary;

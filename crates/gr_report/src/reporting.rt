@@ -13,7 +13,20 @@ use std::alloc::Global;
 pub fn report(alloc: Global, record_of: &Record, histories: bool) -> Result<Vec<u8>, Memory>
     ensures { IfOk result (λ text. text.items ≡ record_text histories record_of.now) }
 {
-    let mut out = Vec::new(alloc);
+    report_in(alloc, Vec::new(alloc), record_of, histories)
+}
+
+/// The same text, in the memory of a list whose bytes are let go.
+pub fn report_in(
+    alloc: Global,
+    room: Vec<u8>,
+    record_of: &Record,
+    histories: bool,
+) -> Result<Vec<u8>, Memory>
+    ensures { IfOk result (λ text. text.items ≡ record_text histories record_of.now) }
+{
+    let mut out = room;
+    out.clear();
     put_text(&mut out, "replies\n")?;
     put_all(alloc, &mut out, record_of.clients.as_slice())?;
     put_text(&mut out, "regions\n")?;
