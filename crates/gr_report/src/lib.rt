@@ -3,6 +3,7 @@
 
 mod answers;
 mod counts;
+mod decimals;
 mod deeds;
 mod histories;
 mod lists;
