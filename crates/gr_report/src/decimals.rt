@@ -1,19 +1,26 @@
 //! The digits of numbers that have few.
 ghost use Rattle.std.specs.Prelude.{◌≡◌, ◌+◌, ◌/◌, ◌%◌, ◌<◌, ◌≤◌, decimal};
 
+/// The digits of the numbers below 100, two of each.
+static PAIRS: [u8; 200] =
+    *b"00010203040506070809101112131415161718192021222324252627282930313233343536373839404142434445464748495051525354555657585960616263646566676869707172737475767778798081828384858687888990919293949596979899";
+
 #[inline(always)]
+#[tactic(auto, using(crate::proofs::Digits::tens_at))]
 fn tens(pair: u32) -> u8
     requires { pair < 100 }
     ensures { result ≡ 48 + pair / 10 }
 {
-    b'0' + (pair / 10) as u8
+    PAIRS[pair as usize * 2]
 }
 
 #[inline(always)]
+#[tactic(auto, using(crate::proofs::Digits::ones_at))]
 fn ones(pair: u32) -> u8
+    requires { pair < 100 }
     ensures { result ≡ 48 + pair % 10 }
 {
-    b'0' + (pair % 10) as u8
+    PAIRS[pair as usize * 2 + 1]
 }
 
 #[inline(always)]
