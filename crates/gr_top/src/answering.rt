@@ -9,7 +9,7 @@ use crate::words::{Mode, mode_of};
 use crate::{Cause, Outcome};
 use gr_history::Record;
 use gr_io::{Sink, Source, write_all};
-use gr_report::report;
+use gr_report::report_in;
 use gr_script::print;
 use gr_value::Memory;
 use gr_world::play_text;
@@ -40,22 +40,34 @@ fn check<S: Source, K: Sink>(alloc: Global, source: &mut S, sink: &mut K) -> Cau
     }
 }
 
+// A record, and the memory of the text that it was played from.
+#[derive(Drop)]
+struct Replayed {
+    record_of: Record,
+    room: Vec<u8>,
+}
+
 // The record of the script that the source has.
-fn record_from<S: Source>(alloc: Global, source: &mut S) -> Result<Record, Cause>
+fn record_from<S: Source>(alloc: Global, source: &mut S) -> Result<Replayed, Cause>
     ensures { (histories : Bool)
-        → MatchResult result (IsReplayOf (stream (S.left source.old) (S.left source.new) (S.faults source.old) (S.faults source.new)))
+        → MatchResult result (λ replayed. IsReplayOf (stream (S.left source.old) (S.left source.new) (S.faults source.old) (S.faults source.new)) replayed.record_of)
         (Stops (mode.Replay histories) (stream (S.left source.old) (S.left source.new) (S.faults source.old) (S.faults source.new))) }
 {
     let text = text_from(alloc, source)?;
     let bytes = text.as_slice();
     match play_text(alloc, bytes) {
-        Ok(record_of) => Ok(record_of),
+        Ok(record_of) => Ok(Replayed {
+            record_of,
+            room: text,
+        }),
         Err(end) => Err(cause_of(end, bytes)),
     }
 }
 
+// Prints the report into the room, and hands it out.
 fn hand_out_report<K: Sink>(
     alloc: Global,
+    room: Vec<u8>,
     histories: bool,
     record_of: &Record,
     sink: &mut K,
@@ -64,7 +76,7 @@ fn hand_out_report<K: Sink>(
         → Explains (mode.Replay histories) source
         (stream (K.held sink.old) (K.held sink.new) (K.faults sink.old) (K.faults sink.new)) (Some record_of.now) result }
 {
-    match report(alloc, record_of, histories) {
+    match report_in(alloc, room, record_of, histories) {
         Ok(text) => hand_out(sink, text.as_slice()),
         Err(Memory) => Cause::Memory,
     }
@@ -94,8 +106,8 @@ fn report_of<S: Source, K: Sink>(
 {
     match record_from(alloc, source) {
         Err(cause) => ended(cause, None),
-        Ok(record_of) => {
-            let cause = hand_out_report(alloc, histories, &record_of, sink);
+        Ok(Replayed { record_of, room }) => {
+            let cause = hand_out_report(alloc, room, histories, &record_of, sink);
             ended(cause, Some(record_of))
         }
     }

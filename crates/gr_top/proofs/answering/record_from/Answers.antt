@@ -10,7 +10,7 @@ returns-in-Ok g c histories = record {
   played = c.in-Ok.ensures;
 }
 
-pub returns : goal.returns
-returns g c histories =
+pub returns-in-Err : goal.returns-in-Err
+returns-in-Err g c histories =
     c.cause_of.ensures (mode.Replay histories) _
     (subst (IsWhole _) (sym c.as_slice-bytes.ensures.value) (c.in_ok-text.ensures (mode.Replay histories))) c.in-Err.ensures
