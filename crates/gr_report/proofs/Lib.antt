@@ -4,3 +4,4 @@ pub mod Commas
 pub mod Gathered
 pub mod Lines
 pub mod Sameness
+pub mod Ordered

@@ -1,6 +1,7 @@
 -- The rows of several shards, in the order of their keys.
-use Rattle.std.specs.Prelude.{ℕ, List, [], flat_map}
+use Rattle.std.specs.Prelude.{ℕ, List, [], map, flat_map}
 use Rattle.std.specs.List.{fold}
+use Rattle.std.specs.List.Sorted.{IsStrictlySortedBy}
 use Rattle.std.specs.Ordering.{nat_cmp}
 use Rattle.std.specs.Cmp.Lexicographic.{slice_cmp}
 use Rattle.std.specs.BTreeMap.{insert_entry}
@@ -22,3 +23,7 @@ by_key key rows = fold (with_row key) [] rows
 -- the rows of all shards of a member
 abbrev pub rows_of : List ShardRecord → List Change
 rows_of shards = values_of (by_key (λ row. row.key) (flat_map (λ shard. shard.region.rows) shards))
+
+-- Rows stand in the order of their keys, and no two at one key.
+abbrev pub AreInOrder : List Change → Type 0
+AreInOrder rows = IsStrictlySortedBy (slice_cmp nat_cmp) (map (λ row. row.key) rows)

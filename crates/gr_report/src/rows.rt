@@ -1,15 +1,17 @@
 ghost use Rattle.std.specs.Prelude.{◌≡◌, ◌++◌, ℕ, List, IfOk, OnOk, flat_map};
+ghost use Rattle.std.specs.Bool.{OnTrue};
 ghost use Rattle.std.specs.List.{fold};
 ghost use Rattle.std.specs.Map.{values_of};
 ghost use Rattle.gr_report.specs.Regions.{row_line};
-ghost use Rattle.gr_report.specs.Rows.{with_row, by_key, rows_of};
+ghost use Rattle.gr_report.specs.Rows.{with_row, by_key, rows_of, AreInOrder};
 ghost use Rattle.gr_report.specs.Shown.{shown};
 
-use crate::written::Written;
+use crate::written::{Written, put_all};
 use gr_history::ShardRecord;
 use gr_stamp::Change;
 use gr_value::{Copied, Key, Memory};
 use std::alloc::Global;
+use std::cmp::Ordering;
 use std::collections::BTreeMap;
 
 /// What has a key.
@@ -67,9 +69,28 @@ fn gather_all(alloc: Global, shards: &[ShardRecord]) -> Result<BTreeMap<Key, &Ch
     Ok(rows)
 }
 
-/// Puts the rows of all shards last, in the order of their keys.
+#[tactic(auto, using(crate::proofs::Ordered::by_neighbours))]
+fn are_in_order(rows: &[Change]) -> bool
+    ensures { OnTrue result (AreInOrder rows.now) }
+{
+    for place in 1..rows.len() {
+        if rows[place - 1].key.cmp(&rows[place].key) != Ordering::Less {
+            return false;
+        }
+    }
+    true
+}
+
+/// Puts the rows of all shards last, in the order of their keys. Those of a lone shard mostly stand
+/// in it, and aren't gathered.
 pub fn put_rows(alloc: Global, out: &mut Vec<u8>, shards: &[ShardRecord]) -> Result<(), Memory>
     ensures { OnOk result (out.new.items ≡ out.old.items ++ flat_map row_line (rows_of shards.now)) }
 {
+    if let [shard] = shards {
+        let rows = shard.region.rows.as_slice();
+        if are_in_order(rows) {
+            return put_all(alloc, out, rows);
+        }
+    }
     put_gathered(alloc, out, &gather_all(alloc, shards)?)
 }
