@@ -5,7 +5,8 @@ use crate::decimals::{five_digits, four_digits, six_digits, three_digits, two_di
 use gr_value::Memory;
 use itoa::{Buffer, Integer};
 
-/// Puts a text last.
+/// Puts a text last. One that is known where it is put is copied without a call.
+#[inline(always)]
 pub fn put_text(out: &mut Vec<u8>, text: &str) -> Result<(), Memory>
     ensures { OnOk result (out.new.items ≡ out.old.items ++ text.now) }
 {
