@@ -1,11 +1,10 @@
 ghost use Rattle.std.specs.Prelude.{◌≡◌, IfOk};
-ghost use Rattle.gr_history.specs.Deeds.{is_of_client, is_discarded, is_repeat};
+ghost use Rattle.gr_history.specs.Deeds.{is_discarded, is_repeat};
 
 use crate::{Ask, Image, QueryAsk, QueryReply, Reply, Verdict, What};
 use gr_stamp::Change;
-use gr_value::{Copied, KeyList, Memory};
+use gr_value::KeyList;
 use gr_vector::Report;
-use std::alloc::Global;
 
 /// One entry of a history.
 #[derive(Drop)]
@@ -57,17 +56,6 @@ pub enum Deed {
 }
 
 impl Deed {
-    /// Whether it is a step of this client.
-    pub fn is_of(&self, client: u8) -> bool
-        ensures { result ≡ is_of_client client self.now }
-    {
-        match self {
-            Deed::Call { client: own, .. } => *own == client,
-            Deed::Asked { client: own, .. } => *own == client,
-            _ => false,
-        }
-    }
-
     /// Whether it takes in a change that loses to what stands.
     pub fn is_discarded(&self) -> bool
         ensures { result ≡ is_discarded self.now }
@@ -92,59 +80,5 @@ impl Deed {
                 ..
             }
         )
-    }
-}
-
-impl Copied for Deed {
-    fn copy(&self, alloc: Global) -> Result<Deed, Memory> {
-        match self {
-            Deed::Call {
-                client,
-                seq,
-                ask,
-                reply,
-                made,
-                to,
-            } => Ok(Deed::Call {
-                client: *client,
-                seq: *seq,
-                ask: ask.copy(alloc)?,
-                reply: reply.copy(alloc)?,
-                made: made.copy(alloc)?,
-                to: *to,
-            }),
-            Deed::Asked {
-                client,
-                seq,
-                ask,
-                reply,
-            } => Ok(Deed::Asked {
-                client: *client,
-                seq: *seq,
-                ask: ask.copy(alloc)?,
-                reply: reply.copy(alloc)?,
-            }),
-            Deed::Taken { change, verdict } => Ok(Deed::Taken {
-                change: change.copy(alloc)?,
-                verdict: *verdict,
-            }),
-            Deed::Gave { to, what } => Ok(Deed::Gave {
-                to: *to,
-                what: *what,
-            }),
-            Deed::Imaged { image } => Ok(Deed::Imaged {
-                image: image.copy(alloc)?,
-            }),
-            Deed::Reported { report } => Ok(Deed::Reported {
-                report: report.copy(alloc)?,
-            }),
-            Deed::Heard { report } => Ok(Deed::Heard {
-                report: report.copy(alloc)?,
-            }),
-            Deed::Swept { moment, expired } => Ok(Deed::Swept {
-                moment: *moment,
-                expired: expired.copy(alloc)?,
-            }),
-        }
     }
 }

@@ -28,11 +28,7 @@ pub fn ver_of(slot: Option<&Slot>) -> u64
 
 /// Sets what came in at this clock, if anything did. Where memory is refused the slots are as before.
 #[inline(always)]
-pub fn enter(
-    slots: &mut Slots,
-    clock: u64,
-    came: Option<Change>,
-) -> Result<(), Memory>
+pub fn enter(slots: &mut Slots, clock: u64, came: Option<Change>) -> Result<(), Memory>
     ensures ok { OnOk result (slots.new ≡ with_change came clock slots.old) }
     ensures err { OnErr result (slots.new ≡ slots.old) }
 {

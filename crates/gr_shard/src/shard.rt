@@ -368,9 +368,17 @@ impl Shard {
         self.history.reserve(1)?;
         self.vector.reserve()?;
         let stamp = stamp_of(done.made.as_ref());
-        come_in(alloc, &mut self.slots, &mut self.queries, self.clock, done.made)?;
+        come_in(
+            alloc,
+            &mut self.slots,
+            &mut self.queries,
+            self.clock,
+            done.made,
+        )?;
         note(&mut self.vector, stamp.as_ref());
-        let _ = self.history.push_call(client, seq, ask, done.reply, stamp, done.to);
+        let _ = self
+            .history
+            .push_call(client, seq, ask, done.reply, stamp, done.to);
         Ok(())
     }
 

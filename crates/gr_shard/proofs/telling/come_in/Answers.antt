@@ -1,6 +1,6 @@
-use Rattle.std.proofs.Common.{◌≡◌, ◌∙◌, ap, option_copied}
+use Rattle.std.proofs.Common.{◌∙◌, ap, option_copied}
 use Rattle.gr_cq.specs.Entries.{noted}
-use Rattle.gr_shard.specs.Telling.{IsForeseen, turned_by_change}
+use Rattle.gr_shard.specs.Telling.{turned_by_change}
 use Rattle.gr_shard.proofs.Turning.{is_ready, told_noted}
 use Rattle.gr_shard.proofs.telling.come_in.Goals as goal
 

@@ -1,4 +1,4 @@
-use Rattle.std.proofs.Common.{◌≡◌, ◌∙◌, ap, [], ◌∷◌, ◌++◌, reverse, ℕ, List, Option, option_copied}
+use Rattle.std.proofs.Common.{◌≡◌, ◌∙◌, ap, [], ◌∷◌, ◌++◌, reverse, ℕ, List, Option}
 use Rattle.std.specs.Prelude.{option_map}
 use Rattle.std.proofs.lemmas.List.{reverse-append}
 use Rattle.gr_value.specs.Shard.{shard_of}
@@ -11,9 +11,7 @@ use Rattle.gr_history.specs.declared.deed.Deed.TheVariants.{Call}
 use Rattle.gr_history.specs.declared.done.Done.{Done}
 use Rattle.gr_history.specs.declared.identity.Identity.{Identity}
 use Rattle.gr_shard.specs.Calls.{call_with}
-use Rattle.gr_shard.specs.Entries.{stamp_made, with_made, with_stamp, with_change}
-use Rattle.gr_cq.specs.Entries.{noted as noted_}
-use Rattle.gr_shard.specs.Telling.{turned_by_change}
+use Rattle.gr_shard.specs.Entries.{stamp_made, with_made, with_stamp}
 use Rattle.gr_shard.specs.View.{kept}
 use Rattle.gr_shard.proofs.AskedFor.{IsChangeAsked, made_asked}
 use Rattle.gr_shard.proofs.Pushed.{on_ok}
