@@ -114,8 +114,7 @@ impl Shard {
     {
         let done = self.gives(alloc, ask)?;
         let given = copy_of(alloc, &done)?;
-        let asked = ask.copy(alloc)?;
-        self.add_call(alloc, client, seq, asked, done)?;
+        self.add_call(alloc, client, seq, ask.copy(alloc)?, done)?;
         Ok(given)
     }
 
@@ -376,9 +375,8 @@ impl Shard {
             done.made,
         )?;
         note(&mut self.vector, stamp.as_ref());
-        let _ = self
-            .history
-            .push_call(client, seq, ask, done.reply, stamp, done.to);
+        let past = &mut self.history;
+        let _ = past.push_call(client, seq, ask, done.reply, stamp, done.to);
         Ok(())
     }
 
