@@ -2,8 +2,6 @@
 use Rattle.std.specs.Prelude.{ℕ, List, Bool, true, false, Option, Some, None}
 use Rattle.gr_value.specs.declared.value.Field.{Field}
 use Rattle.gr_value.specs.Fields.{value_eq}
-use Rattle.gr_stamp.specs.Version.{Version}
-use Rattle.gr_stamp.specs.declared.change.Change.{Change}
 use Rattle.gr_stamp.specs.declared.change.Kind.{Kind}
 use Rattle.gr_stamp.specs.declared.change.Kind.TheVariants as kind
 use Rattle.gr_history.specs.declared.ask.Ask.{Ask}
@@ -20,20 +18,6 @@ key_of (ask.Replace key value) = key
 key_of (ask.ReplaceIf key old new) = key
 key_of (ask.Destroy key) = key
 key_of (ask.Remove key value) = key
-
--- what a change does to the key that is asked for
-abbrev pub kind_asked : Ask → Kind
-kind_asked (ask.Get key) = kind.Remove
-kind_asked (ask.Put key value) = kind.Put value
-kind_asked (ask.PutIfAbsent key value) = kind.Put value
-kind_asked (ask.Replace key value) = kind.Put value
-kind_asked (ask.ReplaceIf key old new) = kind.Put new
-kind_asked (ask.Destroy key) = kind.Remove
-kind_asked (ask.Remove key value) = kind.Remove
-
--- the change of this stamp that is asked for
-abbrev pub change_asked : Ask → Version → Change
-change_asked ask stamp = record { key = key_of ask; kind = kind_asked ask; stamp = stamp }
 
 -- the value that was there, or that there was none
 abbrev pub reply_of : Option (List Field) → Reply

@@ -1,6 +1,5 @@
 -- A history as it is kept: its deeds, the oldest first, and the number of deeds that there is room for.
-use Rattle.std.specs.Prelude.{◌≡◌, ℕ, List, Bool, true, false, ◌==◌, Some, None}
-use Rattle.gr_history.specs.Asks.{change_asked}
+use Rattle.std.specs.Prelude.{ℕ, List, Bool, true, false, ◌==◌}
 use Rattle.gr_history.specs.declared.verdict.Verdict.TheVariants as verdict
 use Rattle.gr_history.specs.declared.deed.Deed.{Deed}
 use Rattle.gr_history.specs.declared.deed.Deed.TheVariants.{Call, Asked, Taken}
@@ -9,15 +8,9 @@ pub record Deeds : Type 0 where
   pub deeds : List Deed
   pub spare : ℕ
 
--- A change that a call made is what was asked for, under its stamp.
-abbrev pub IsAsked : Deed → Type 0
-IsAsked (Call client seq ask reply None to) = Unit
-IsAsked (Call client seq ask reply (Some change) to) = change ≡ change_asked ask change.stamp
-IsAsked _ = Unit
-
 -- whether it is a step of the client
 abbrev pub is_of_client : ℕ → Deed → Bool
-is_of_client client (Call own seq ask reply made to) = own == client
+is_of_client client (Call own to seq ask reply made) = own == client
 is_of_client client (Asked own seq ask reply) = own == client
 is_of_client client _ = false
 

@@ -14,7 +14,7 @@ removal_of (Some change) = if is_removal change.kind then Some change else None
 
 -- The tombstones that expire at a deed: those of the keys that a sweep names.
 abbrev pub expired_at : Deed → List Deed → List Change
-expired_at (Call client seq ask reply made to) past = []
+expired_at (Call client to seq ask reply made) past = []
 expired_at (Asked client seq ask reply) past = []
 expired_at (Taken change verdict) past = []
 expired_at (Gave to what) past = []
@@ -36,7 +36,7 @@ greatest_ver (change ∷ rest) = max change.stamp.ver (greatest_ver rest)
 -- The floor begins with an opening floor. It rises to the versions of tombstones that expire, and to the floors of images.
 abbrev pub floor : ℕ → List Deed → ℕ
 floor opening [] = opening
-floor opening (Call client seq ask reply made to ∷ past) = floor opening past
+floor opening (Call client to seq ask reply made ∷ past) = floor opening past
 floor opening (Asked client seq ask reply ∷ past) = floor opening past
 floor opening (Taken change verdict ∷ past) = floor opening past
 floor opening (Gave to what ∷ past) = floor opening past

@@ -12,7 +12,7 @@ abbrev pub id_of : Change → Id
 id_of change = record { member = change.stamp.member; rv = change.stamp.rv }
 
 abbrev pub ids_at : Deed → List Id
-ids_at (Call client seq ask reply made to) = map id_of (option_to_list made)
+ids_at (Call client to seq ask reply made) = map id_of (option_to_list made)
 ids_at (Taken change verdict) = id_of change ∷ []
 ids_at (Imaged image) = image.vector.ids
 ids_at _ = []

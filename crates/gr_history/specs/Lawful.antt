@@ -20,7 +20,7 @@ AreInOrder rows = map (λ row. row.key) rows ≡ keys_of rows
 
 -- A deed is lawful where it says what comes of it after the past.
 abbrev pub IsLawfulDeed : Identity → ℕ → Deed → List Deed → Type 0
-IsLawfulDeed id opening (Call client seq ask reply made to) past =
+IsLawfulDeed id opening (Call client to seq ask reply made) past =
     record { reply = reply; made = made; to = to } ≡ call_gives id opening past ask
 IsLawfulDeed id opening (Asked client seq ask reply) past = reply ≡ query_gives client ask past
 IsLawfulDeed id opening (Taken change told) past = told ≡ verdict past change

@@ -5,7 +5,6 @@ pub mod Deeds
 pub mod Floor
 pub mod Gifts
 pub mod Ids
-pub mod Kept
 pub mod Lawful
 pub mod Made
 pub mod Places

@@ -55,19 +55,19 @@ change key kind ver rv = record { key = key; kind = kind; stamp = record { ver =
 
 -- client 1 puts a price where there was none
 abbrev put_first : ℕ → List ℕ → ℕ → Deed
-put_first seq key new = Call 1 seq (ask.Put key (price new)) reply.Null (Some (change key (kind.Put (price new)) 1 seq)) 0
+put_first seq key new = Call 1 0 seq (ask.Put key (price new)) reply.Null (Some (change key (kind.Put (price new)) 1 seq))
 
 -- or where there was this one
 abbrev put_over : ℕ → List ℕ → ℕ → ℕ → Deed
 put_over seq key old new =
-    Call 1 seq (ask.Put key (price new)) (reply.Value (price old)) (Some (change key (kind.Put (price new)) 2 seq)) 0
+    Call 1 0 seq (ask.Put key (price new)) (reply.Value (price old)) (Some (change key (kind.Put (price new)) 2 seq))
 
 abbrev opened : List Deed
 opened = Asked 2 1 (Enrol query_name dear) (told.Opened (row (codes "t1") (price 150) ∷ row (codes "t3") (price 120) ∷ []))
     ∷ put_first 3 (codes "t3") 120 ∷ put_first 2 (codes "t2") 50 ∷ put_first 1 (codes "t1") 150 ∷ []
 
 abbrev turned : List Deed
-turned = Call 1 8 (ask.Destroy (codes "t1")) reply.Done (Some (change (codes "t1") kind.Remove 3 8)) 0
+turned = Call 1 0 8 (ask.Destroy (codes "t1")) reply.Done (Some (change (codes "t1") kind.Remove 3 8))
     ∷ put_first 7 (codes "t4") 10 ∷ put_over 6 (codes "t3") 120 99 ∷ put_over 5 (codes "t1") 150 160 ∷ put_over 4 (codes "t2") 50 101
     ∷ opened
 
@@ -110,7 +110,7 @@ put_by member ver rv new =
 
 abbrev puts : ℕ → ℕ → ℕ → ℕ → Deed
 puts seq ver old new =
-    Call 2 seq (ask.Put (codes "a") (number new)) (reply.Value (number old)) (Some (put_by 2 ver ver new)) 1
+    Call 2 1 seq (ask.Put (codes "a") (number new)) (reply.Value (number old)) (Some (put_by 2 ver ver new))
 
 abbrev found : List Row
 found = row (codes "a") (number 2) ∷ []
@@ -120,7 +120,7 @@ updated = event op.Update base.Update (codes "a") (Some (number 3)) ∷ []
 
 abbrev two_opened : List Deed
 two_opened = Asked 2 3 (Enrol (codes "q") large) (told.Opened found) ∷ Asked 2 2 (Enrol (codes "p") all_rows) (told.Opened found)
-    ∷ Call 2 1 (ask.Put (codes "a") (number 2)) reply.Null (Some (put_by 2 1 1 2)) 1 ∷ []
+    ∷ Call 2 1 1 (ask.Put (codes "a") (number 2)) reply.Null (Some (put_by 2 1 1 2)) ∷ []
 
 -- A change that is discarded tells a query nothing.
 abbrev two_fetched : List Deed

@@ -7,7 +7,7 @@ use Rattle.gr_history.specs.declared.deed.Deed.TheVariants.{Call, Asked, Taken, 
 -- whether an image was merged
 abbrev pub has_image : List Deed → Bool
 has_image [] = false
-has_image (Call client seq ask reply made to ∷ past) = has_image past
+has_image (Call client to seq ask reply made ∷ past) = has_image past
 has_image (Asked client seq ask reply ∷ past) = has_image past
 has_image (Taken change verdict ∷ past) = has_image past
 has_image (Gave to what ∷ past) = has_image past
@@ -23,7 +23,7 @@ is_ready id past = nat_le id.member id.founders || has_image past
 -- whether the member was given something
 abbrev pub gave_to : ℕ → List Deed → Bool
 gave_to member [] = false
-gave_to member (Call client seq ask reply made to ∷ past) = gave_to member past
+gave_to member (Call client to seq ask reply made ∷ past) = gave_to member past
 gave_to member (Asked client seq ask reply ∷ past) = gave_to member past
 gave_to member (Taken change verdict ∷ past) = gave_to member past
 gave_to member (Gave to what ∷ past) = to == member || gave_to member past

@@ -54,7 +54,7 @@ second_report = record {
 -- the first member's two calls
 abbrev pub first_called : List Deed
 first_called =
-    Call 1 2 (ask.Destroy one_key) reply.Done (Some removal) 2 ∷ Call 1 1 (ask.Put one_key []) reply.Null (Some first_put) 2 ∷ []
+    Call 1 2 2 (ask.Destroy one_key) reply.Done (Some removal) ∷ Call 1 2 1 (ask.Put one_key []) reply.Null (Some first_put) ∷ []
 
 -- Behind them it hears the second member, which had made a change that hasn't come.
 abbrev pub first_behind : List Deed
@@ -69,7 +69,7 @@ abbrev pub first_swept : List Deed
 first_swept = Swept 600 (one_key ∷ []) ∷ first_early
 
 abbrev pub first_whole : List Deed
-first_whole = Call 1 3 (ask.Put one_key some_value) reply.Null (Some last_put) 2 ∷ first_swept
+first_whole = Call 1 2 3 (ask.Put one_key some_value) reply.Null (Some last_put) ∷ first_swept
 
 -- an image of nothing, with a floor
 abbrev pub bare_image : Image

@@ -21,7 +21,7 @@ is_later report (Some before) = nat_lt before.at report.at
 -- Of the reports of a member that were heard, the one with the greatest place counts, of several the first.
 abbrev pub last_heard : ℕ → List Deed → Option Report
 last_heard member [] = None
-last_heard member (Call client seq ask reply made to ∷ past) = last_heard member past
+last_heard member (Call client to seq ask reply made ∷ past) = last_heard member past
 last_heard member (Asked client seq ask reply ∷ past) = last_heard member past
 last_heard member (Taken change verdict ∷ past) = last_heard member past
 last_heard member (Gave to what ∷ past) = last_heard member past

@@ -12,7 +12,7 @@ use Rattle.gr_history.specs.Ids.{id_of, ids}
 
 -- The changes that come in at a deed: what a call made, a change that is new, an image's rows that are new.
 abbrev pub came : Deed → List Deed → List Change
-came (Call client seq ask reply made to) past = option_to_list made
+came (Call client to seq ask reply made) past = option_to_list made
 came (Asked client seq ask reply) past = []
 came (Taken change Applied) past = change ∷ []
 came (Taken change Discarded) past = change ∷ []
@@ -46,7 +46,7 @@ is_known ids (Some change) = has_id (id_of change) ids
 -- Whether a deed drops the key, at which this stands: a sweep that names it, or an image that knows what
 -- stands and has no row of the key.
 abbrev pub drops : List ℕ → Deed → Option Change → Bool
-drops key (Call client seq ask reply made to) stands = false
+drops key (Call client to seq ask reply made) stands = false
 drops key (Asked client seq ask reply) stands = false
 drops key (Taken change verdict) stands = false
 drops key (Gave to what) stands = false

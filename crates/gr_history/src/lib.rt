@@ -7,7 +7,6 @@ mod done;
 mod history;
 mod identity;
 mod image;
-mod kept;
 mod query_ask;
 mod query_reply;
 mod query_rows;

@@ -29,7 +29,7 @@ still_made grid m deed change h = at_test (change.stamp.member == m)
     at_test false = h
 
 still_heard : (grid : Grid) (m : ℕ) (deed one : Deed) → IsHeardDeed grid one → IsHeardDeed (pushed grid m deed) one
-still_heard grid m deed (Call client seq ask reply own to) h = tt
+still_heard grid m deed (Call client to seq ask reply own) h = tt
 still_heard grid m deed (Asked client seq ask reply) h = tt
 still_heard grid m deed (Taken change how) h = tt
 still_heard grid m deed (Gave to what) h = tt
@@ -86,7 +86,7 @@ still_gift grid m me deed image gift = record {
     at_test false = gift.gave
 
 still_genuine_deed : (grid : Grid) (m me : ℕ) (deed one : Deed) → IsGenuineDeed grid me one → IsGenuineDeed (pushed grid m deed) me one
-still_genuine_deed grid m me deed (Call client seq ask reply own to) h = tt
+still_genuine_deed grid m me deed (Call client to seq ask reply own) h = tt
 still_genuine_deed grid m me deed (Asked client seq ask reply) h = tt
 still_genuine_deed grid m me deed (Taken change how) h = still_made grid m deed change h
 still_genuine_deed grid m me deed (Gave to what) h = tt
@@ -118,7 +118,7 @@ at_each grid m deed P new old i = at_test (i == m) refl
     at_test false e = old i
 
 once_more : (deed : Deed) (past : List Deed) → IsFirstImage deed past → IsImagedOnce past → IsImagedOnce (deed ∷ past)
-once_more (Call client seq ask reply own to) past first h = h
+once_more (Call client to seq ask reply own) past first h = h
 once_more (Asked client seq ask reply) past first h = h
 once_more (Taken change how) past first h = h
 once_more (Gave to what) past first h = h

@@ -55,11 +55,11 @@ settled : (grid : Grid) → IsSound grid → (me : ℕ) (past : List Deed) → O
     → IsLawful (identity grid me) (grid.opening me) past → IsGenuine grid me past → IsOrderly grid past → AreGiven grid past
     → (key : List ℕ) → IsSettled key (took grid past) (gone grid past) (standing key past)
 settled grid sound me [] o law own orderly given key = inl (λ change a same. a)
-settled grid sound me (Call client seq ask reply None to ∷ past) o law own orderly given key =
-    settled grid sound me past (older_past (Call client seq ask reply None to) past (grid.history me) o) law.1 own.1 orderly.2 given key
-settled grid sound me (Call client seq ask reply (Some c) to ∷ past) o law own orderly given key =
+settled grid sound me (Call client to seq ask reply None ∷ past) o law own orderly given key =
+    settled grid sound me past (older_past (Call client to seq ask reply None) past (grid.history me) o) law.1 own.1 orderly.2 given key
+settled grid sound me (Call client to seq ask reply (Some c) ∷ past) o law own orderly given key =
     more_settled key (took grid past) (gone grid past) c (standing key past)
-    (settled grid sound me past (older_past (Call client seq ask reply (Some c) to) past
+    (settled grid sound me past (older_past (Call client to seq ask reply (Some c)) past
     (grid.history me) o) law.1 own.1 orderly.2 given key) (orderly.0 c (inl refl))
 settled grid sound me (Asked client seq ask reply ∷ past) o law own orderly given key =
     settled grid sound me past (older_past (Asked client seq ask reply) past (grid.history me) o) law.1 own.1 orderly.2 given key
@@ -107,8 +107,8 @@ settled grid sound me (Swept moment named ∷ past) o law own orderly given key 
 founder_took : (grid : Grid) (me : ℕ) (past : List Deed) → me ≤ grid.founders → IsGenuine grid me past
     → (took grid past ≡ taken past) × (gone grid past ≡ expired past) × AreGiven grid past
 founder_took grid me [] le own = (refl, refl, tt)
-founder_took grid me (Call client seq ask reply one to ∷ past) le own = let s = founder_took grid me past le own.1 in
-    (ap (λ z. taken_at (Call client seq ask reply one to) ++ z) s.0, s.1, s.2)
+founder_took grid me (Call client to seq ask reply one ∷ past) le own = let s = founder_took grid me past le own.1 in
+    (ap (λ z. taken_at (Call client to seq ask reply one) ++ z) s.0, s.1, s.2)
 founder_took grid me (Taken c how ∷ past) le own = let s = founder_took grid me past le own.1 in (ap (λ z. c ∷ z) s.0, s.1, s.2)
 founder_took grid me (Imaged image ∷ past) le own = absurd (omega (arith, le, own.0.0))
 founder_took grid me (Swept moment named ∷ past) le own = let s = founder_took grid me past le own.1 in
@@ -151,7 +151,7 @@ all_given grid sound me (deed ∷ past) own late = all_given grid sound me past 
 -- Of a deed that isn't a merge nothing is to be shown here.
 apart_at : (grid : Grid) (all : List Change) (deed : Deed) → ((image : Image) → deed ≡ Imaged image → IsApart grid all (Imaged image))
     → IsApart grid all deed
-apart_at grid all (Call client seq ask reply one to) h = tt
+apart_at grid all (Call client to seq ask reply one) h = tt
 apart_at grid all (Asked client seq ask reply) h = tt
 apart_at grid all (Taken c how) h = tt
 apart_at grid all (Gave to what) h = tt
@@ -193,7 +193,7 @@ apart_gone grid all change a (deed ∷ past) h unknown tombstone t same = ⊎_el
 
     at_deed : (d : Deed) → IsApart grid all d → has_id (id_of change) (ids_at d) ≡ false → Among tombstone (gone_at grid d past)
         → Among tombstone (expired_at d past ++ expired past) ⊎ (beats change.stamp tombstone.stamp ≡ true)
-    at_deed (Call client seq ask reply one to) h none t = absurd t
+    at_deed (Call client to seq ask reply one) h none t = absurd t
     at_deed (Asked client seq ask reply) h none t = absurd t
     at_deed (Taken c how) h none t = absurd t
     at_deed (Gave to what) h none t = absurd t
@@ -216,7 +216,7 @@ orderly_from grid id opening (deed ∷ past) law late apart = (
 )
   where
     at_deed : (d : Deed) → IsApart grid (came deed past ++ changes past) d → IsOrderlyDeed grid d past
-    at_deed (Call client seq ask reply one to) h = tt
+    at_deed (Call client to seq ask reply one) h = tt
     at_deed (Asked client seq ask reply) h = tt
     at_deed (Taken c how) h = tt
     at_deed (Gave to what) h = tt
@@ -306,7 +306,7 @@ givers_late grid whole me [] = tt
 givers_late grid whole me (deed ∷ past) = (at_deed deed, givers_late grid whole me past)
   where
     at_deed : (d : Deed) → IsGiverLate grid d
-    at_deed (Call client seq ask reply one to) = tt
+    at_deed (Call client to seq ask reply one) = tt
     at_deed (Asked client seq ask reply) = tt
     at_deed (Taken c how) = tt
     at_deed (Gave to what) = tt

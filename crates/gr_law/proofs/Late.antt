@@ -95,7 +95,7 @@ due_stable id moment from past change h =
 
 expired_here : (id : Identity) (opening : ℕ) (deed : Deed) (past : List Deed) → IsLawfulDeed id opening deed past
     → (tombstone : Change) → Among tombstone (expired_at deed past) → IsExpired id past tombstone
-expired_here id opening (Call client seq ask reply own to) past law tombstone a = absurd a
+expired_here id opening (Call client to seq ask reply own) past law tombstone a = absurd a
 expired_here id opening (Asked client seq ask reply) past law tombstone a = absurd a
 expired_here id opening (Taken change how) past law tombstone a = absurd a
 expired_here id opening (Gave to what) past law tombstone a = absurd a
@@ -156,7 +156,7 @@ last_among i [] report h = absurd (no h)
   where
     no : None ≡ Some report → ⊥
     no e = cc
-last_among i (Call client seq ask reply own to ∷ past) report h = let s = last_among i past report h in (inr s.0, s.1)
+last_among i (Call client to seq ask reply own ∷ past) report h = let s = last_among i past report h in (inr s.0, s.1)
 last_among i (Asked client seq ask reply ∷ past) report h = let s = last_among i past report h in (inr s.0, s.1)
 last_among i (Taken change how ∷ past) report h = let s = last_among i past report h in (inr s.0, s.1)
 last_among i (Gave to what ∷ past) report h = let s = last_among i past report h in (inr s.0, s.1)

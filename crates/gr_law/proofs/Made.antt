@@ -76,12 +76,12 @@ unknown_past id deed past h = at_test (either (has_id id (ids past)))
 
 -- what is made at a deed has its id among the deed's
 pub made_known_at : (change : Change) (deed : Deed) → Among change (made_at deed) → has_id (id_of change) (ids_at deed) ≡ true
-made_known_at change (Call client seq ask reply None to) a = absurd a
-made_known_at change (Call client seq ask reply (Some own) to) (inl is) = rw is (has_first own)
+made_known_at change (Call client to seq ask reply None) a = absurd a
+made_known_at change (Call client to seq ask reply (Some own)) (inl is) = rw is (has_first own)
   where
     has_first : (c : Change) → has_id (id_of c) (id_of c ∷ []) ≡ true
     has_first c = let e : is_same_id (id_of c) (id_of c) ≡ true = same_id_itself (id_of c) in rw e refl
-made_known_at change (Call client seq ask reply (Some own) to) (inr a) = absurd a
+made_known_at change (Call client to seq ask reply (Some own)) (inr a) = absurd a
 made_known_at change deed a = absurd a
 
 pub made_known : (change : Change) (h : List Deed) → Among change (made h) → has_id (id_of change) (ids h) ≡ true
@@ -136,9 +136,9 @@ gives_stamped id opening past ask change h = at_test (is_ready id past) h
 
 pub made_stamped : (id : Identity) (opening : ℕ) (change : Change) (deed : Deed) (past : List Deed) → IsLawfulDeed id opening deed past
     → Among change (made_at deed) → IsStamped id.member opening past change
-made_stamped id opening change (Call client seq ask reply (Some own) to) past law (inl is) =
+made_stamped id opening change (Call client to seq ask reply (Some own)) past law (inl is) =
     gives_stamped id opening past ask change (sym (ap (λ d. d.made) law) ∙ ap Some (sym is))
-made_stamped id opening change (Call client seq ask reply (Some own) to) past law (inr a) = absurd a
+made_stamped id opening change (Call client to seq ask reply (Some own)) past law (inr a) = absurd a
 made_stamped id opening change deed past law a = absurd a
 
 pub made_member : (id : Identity) (opening : ℕ) (change : Change) (h : List Deed) → IsLawful id opening h
@@ -158,9 +158,9 @@ made_below id opening change h law a =
 
 -- at a deed at most one change is made
 made_one_at : (one two : Change) (deed : Deed) → Among one (made_at deed) → Among two (made_at deed) → one ≡ two
-made_one_at one two (Call client seq ask reply (Some own) to) (inl is) (inl too) = is ∙ sym too
-made_one_at one two (Call client seq ask reply (Some own) to) (inl is) (inr b) = absurd b
-made_one_at one two (Call client seq ask reply (Some own) to) (inr a) b = absurd a
+made_one_at one two (Call client to seq ask reply (Some own)) (inl is) (inl too) = is ∙ sym too
+made_one_at one two (Call client to seq ask reply (Some own)) (inl is) (inr b) = absurd b
+made_one_at one two (Call client to seq ask reply (Some own)) (inr a) b = absurd a
 made_one_at one two deed a b = absurd a
 
 -- changes that were made in one history under one number are one

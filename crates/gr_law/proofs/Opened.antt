@@ -70,7 +70,7 @@ at_deed client name (Asked own seq ask reply) past opening law e = at_query (own
         subst (λ c. (state c name past ≡ Running opening) ⊎ IsOpenedIn c name opening (Asked own seq ask reply ∷ past)) one
         (subst (λ n. (state own n past ≡ Running opening) ⊎ IsOpenedIn own n opening (Asked own seq ask reply ∷ past)) named found)
     at_query false h e = inl e
-at_deed client name (Call own seq ask reply made to) past opening law e = inl e
+at_deed client name (Call own to seq ask reply made) past opening law e = inl e
 at_deed client name (Taken change verdict) past opening law e = inl e
 at_deed client name (Gave to what) past opening law e = inl e
 at_deed client name (Imaged image) past opening law e = inl e

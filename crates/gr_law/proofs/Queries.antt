@@ -14,7 +14,7 @@ use Rattle.gr_law.proofs.Opened.{running_opened}
 
 asked_lawful : (id : Identity) (opening : ℕ) (deed : Deed) (past : List Deed) → IsLawfulDeed id opening deed past → IsLawfulAsked deed
     past
-asked_lawful id opening (Call client seq ask reply made to) past law = tt
+asked_lawful id opening (Call client to seq ask reply made) past law = tt
 asked_lawful id opening (Asked client seq ask reply) past law = law
 asked_lawful id opening (Taken change verdict) past law = tt
 asked_lawful id opening (Gave to what) past law = tt

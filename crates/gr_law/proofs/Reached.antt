@@ -31,7 +31,7 @@ use Rattle.gr_law.proofs.Steps.{kept_ver}
 use Rattle.gr_law.proofs.Steps.{came_ver, named_expires, among_greatest, named_due, repeat_known}
 
 floor_grows : (opening : ℕ) (deed : Deed) (past : List Deed) → floor opening past ≤ floor opening (deed ∷ past)
-floor_grows opening (Call client seq ask reply own to) past = omega arith
+floor_grows opening (Call client to seq ask reply own) past = omega arith
 floor_grows opening (Asked client seq ask reply) past = omega arith
 floor_grows opening (Taken change how) past = omega arith
 floor_grows opening (Gave to what) past = omega arith
@@ -107,7 +107,7 @@ reach_grows grid sound me deed past o law own carried key =
     dropped : (d : Deed) → IsLawfulDeed (identity grid me) (grid.opening me) d past → IsCarriedDeed grid d
         → drops key d (standing key past) ≡ true
         → ver_of (standing key past) ≤ floor (grid.opening me) (d ∷ past)
-    dropped (Call client seq ask reply own_ to) law carried h = absurd (true_isnt_false (sym h))
+    dropped (Call client to seq ask reply own_) law carried h = absurd (true_isnt_false (sym h))
     dropped (Asked client seq ask reply) law carried h = absurd (true_isnt_false (sym h))
     dropped (Taken change how) law carried h = absurd (true_isnt_false (sym h))
     dropped (Gave to what) law carried h = absurd (true_isnt_false (sym h))
@@ -160,11 +160,11 @@ new_reached : (grid : Grid) → IsSound grid → (me : ℕ) (deed : Deed) (past 
     → ((key : List ℕ) → reach (grid.opening me) key past ≤ reach (grid.opening me) key (deed ∷ past))
     → (change : Change) → IsMade grid change → has_id (id_of change) (ids_at deed) ≡ true
     → change.stamp.ver ≤ reach (grid.opening me) change.key (deed ∷ past)
-new_reached grid sound me (Call client seq ask reply None to) past o law own carried before grows change is has =
+new_reached grid sound me (Call client to seq ask reply None) past o law own carried before grows change is has =
     absurd (true_isnt_false (sym has))
-new_reached grid sound me (Call client seq ask reply (Some one) to) past o law own carried before grows change is has =
-    let s = came_sound grid sound me (Call client seq ask reply (Some one) to) past o law.0 own.0 carried.0 one (inl refl) in
-    came_reached (grid.opening me) (Call client seq ask reply (Some one) to) past change refl
+new_reached grid sound me (Call client to seq ask reply (Some one)) past o law own carried before grows change is has =
+    let s = came_sound grid sound me (Call client to seq ask reply (Some one)) past o law.0 own.0 carried.0 one (inl refl) in
+    came_reached (grid.opening me) (Call client to seq ask reply (Some one)) past change refl
     (inl (one_id grid sound change one is s.0 has))
 new_reached grid sound me (Taken c Applied) past o law own carried before grows change is has =
     came_reached (grid.opening me) (Taken c Applied) past change refl (inl (one_id grid sound change c is own.0 has))
@@ -275,7 +275,7 @@ all_carried grid sound me [] own = tt
 all_carried grid sound me (deed ∷ past) own = (at_deed deed own.0, all_carried grid sound me past own.1)
   where
     at_deed : (d : Deed) → IsGenuineDeed grid me d → IsCarriedDeed grid d
-    at_deed (Call client seq ask reply own_ to) own = tt
+    at_deed (Call client to seq ask reply own_) own = tt
     at_deed (Asked client seq ask reply) own = tt
     at_deed (Taken change how) own = tt
     at_deed (Gave to what) own = tt

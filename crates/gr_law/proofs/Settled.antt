@@ -35,13 +35,13 @@ unbeaten-transitive a b c h k = grind (arith, nat_tests)
 -- what is made or taken in at a deed is what it makes known, but for images
 known_here : (grid : Grid) → IsSound grid
     → (me : ℕ) (client seq : ℕ) (ask : Ask) (reply : Reply) (own : Option Change) (to : ℕ) (past : List Deed)
-    → Older (Call client seq ask reply own to ∷ past) (grid.history me)
-    → IsLawfulDeed (identity grid me) (grid.opening me) (Call client seq ask reply own to) past
-    → (change : Change) → IsMade grid change → has_id (id_of change) (ids_at (Call client seq ask reply own to)) ≡ true
+    → Older (Call client to seq ask reply own ∷ past) (grid.history me)
+    → IsLawfulDeed (identity grid me) (grid.opening me) (Call client to seq ask reply own) past
+    → (change : Change) → IsMade grid change → has_id (id_of change) (ids_at (Call client to seq ask reply own)) ≡ true
     → Among change (option_to_list own)
 known_here grid sound me client seq ask reply None to past o law change is h = absurd (true_isnt_false (sym h))
 known_here grid sound me client seq ask reply (Some one) to past o law change is h =
-    let s = came_sound grid sound me (Call client seq ask reply (Some one) to) past o law tt tt one (inl refl) in
+    let s = came_sound grid sound me (Call client to seq ask reply (Some one)) past o law tt tt one (inl refl) in
     inl (one_id grid sound change one is s.0 h)
 
 -- What a founder knows it made or took in.
@@ -58,7 +58,7 @@ known_taken grid sound me (deed ∷ past) le o law own change is h = ⊎_elim
     at_deed : (d : Deed) → Older (d ∷ past) (grid.history me) → IsLawfulDeed (identity grid me) (grid.opening me) d past
         → IsGenuineDeed grid me d
         → has_id (id_of change) (ids_at d) ≡ true → Among change (taken_at d)
-    at_deed (Call client seq ask reply one to) o law own h = known_here grid sound me client seq ask reply one to past o law change is h
+    at_deed (Call client to seq ask reply one) o law own h = known_here grid sound me client seq ask reply one to past o law change is h
     at_deed (Asked client seq ask reply) o law own h = absurd (true_isnt_false (sym h))
     at_deed (Taken c how) o law own h = inl (one_id grid sound change c is own h)
     at_deed (Gave to what) o law own h = absurd (true_isnt_false (sym h))
@@ -81,7 +81,7 @@ known_took grid sound me (deed ∷ past) o law own change is h = ⊎_elim
     at_deed : (d : Deed) → Older (d ∷ past) (grid.history me) → IsLawfulDeed (identity grid me) (grid.opening me) d past
         → IsGenuineDeed grid me d
         → has_id (id_of change) (ids_at d) ≡ true → Among change (took_at grid d)
-    at_deed (Call client seq ask reply one to) o law own h = known_here grid sound me client seq ask reply one to past o law change is h
+    at_deed (Call client to seq ask reply one) o law own h = known_here grid sound me client seq ask reply one to past o law change is h
     at_deed (Asked client seq ask reply) o law own h = absurd (true_isnt_false (sym h))
     at_deed (Taken c how) o law own h = inl (one_id grid sound change c is own h)
     at_deed (Gave to what) o law own h = absurd (true_isnt_false (sym h))

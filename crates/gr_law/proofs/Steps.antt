@@ -55,13 +55,13 @@ true_isnt_false h = cc
 pub came_sound : (grid : Grid) → IsSound grid → (me : ℕ) (deed : Deed) (past : List Deed) → Older (deed ∷ past) (grid.history me)
     → IsLawfulDeed (identity grid me) (grid.opening me) deed past → IsGenuineDeed grid me deed → IsCarriedDeed grid deed
     → (change : Change) → Among change (came deed past) → IsMade grid change × (has_id (id_of change) (ids_at deed) ≡ true)
-came_sound grid sound me (Call client seq ask reply own to) past o law own_ carried change a =
-    let a' : Among change (made_at (Call client seq ask reply own to)) = a in
-    let s = made_stamped (identity grid me) (grid.opening me) change (Call client seq ask reply own to) past law a' in (
+came_sound grid sound me (Call client to seq ask reply own) past o law own_ carried change a =
+    let a' : Among change (made_at (Call client to seq ask reply own)) = a in
+    let s = made_stamped (identity grid me) (grid.opening me) change (Call client to seq ask reply own) past law a' in (
       subst (λ k. Among change (made (grid.history k))) (sym s.member_is)
-          (older_made change (Call client seq ask reply own to ∷ past) (grid.history me) o
-          (among_left change (made_at (Call client seq ask reply own to)) (made past) a')),
-      made_known_at change (Call client seq ask reply own to) a',
+          (older_made change (Call client to seq ask reply own ∷ past) (grid.history me) o
+          (among_left change (made_at (Call client to seq ask reply own)) (made past) a')),
+      made_known_at change (Call client to seq ask reply own) a',
     )
 came_sound grid sound me (Taken c Applied) past o law own carried change (inl is) =
     (subst (IsMade grid) (sym is) own, rw (is, same_id_itself (id_of c)) refl)
@@ -104,8 +104,8 @@ repeat_known false (Some one) change h = absurd (at_test (beats change.stamp one
 pub came_fresh : (id : Identity) (opening : ℕ) (deed : Deed) (past : List Deed)
     → IsLawfulDeed id opening deed past
     → (change : Change) → Among change (came deed past) → has_id (id_of change) (ids past) ≡ false
-came_fresh id opening (Call client seq ask reply own to) past law change a =
-    let s = made_stamped id opening change (Call client seq ask reply own to) past law a in
+came_fresh id opening (Call client to seq ask reply own) past law change a =
+    let s = made_stamped id opening change (Call client to seq ask reply own) past law a in
     not_true _ (λ has. omega (
       arith,
       has-top id.member change.stamp.rv (ids past)

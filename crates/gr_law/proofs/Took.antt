@@ -30,8 +30,8 @@ made_here grid me deed past o law change a =
 taken_here : (grid : Grid) (me : ℕ) (deed : Deed) (past : List Deed) → Older (deed ∷ past) (grid.history me)
     → IsLawfulDeed (identity grid me) (grid.opening me) deed past → IsGenuineDeed grid me deed
     → (change : Change) → Among change (taken_at deed) → IsMade grid change × (has_id (id_of change) (ids_at deed) ≡ true)
-taken_here grid me (Call client seq ask reply one to) past o law own change a =
-    made_here grid me (Call client seq ask reply one to) past o law change a
+taken_here grid me (Call client to seq ask reply one) past o law own change a =
+    made_here grid me (Call client to seq ask reply one) past o law change a
 taken_here grid me (Taken c how) past o law own change (inl is) =
     (subst (IsMade grid) (sym is) own, rw (is, same_id_itself (id_of c)) refl)
 taken_here grid me (Taken c how) past o law own change (inr a) = absurd a
@@ -68,8 +68,8 @@ giver_genuine grid sound image =
 took_here : (grid : Grid) → IsSound grid → (me : ℕ) (deed : Deed) (past : List Deed) → Older (deed ∷ past) (grid.history me)
     → IsLawfulDeed (identity grid me) (grid.opening me) deed past → IsGenuineDeed grid me deed
     → (change : Change) → Among change (took_at grid deed) → IsMade grid change × (has_id (id_of change) (ids_at deed) ≡ true)
-took_here grid sound me (Call client seq ask reply one to) past o law own change a =
-    made_here grid me (Call client seq ask reply one to) past o law change a
+took_here grid sound me (Call client to seq ask reply one) past o law own change a =
+    made_here grid me (Call client to seq ask reply one) past o law change a
 took_here grid sound me (Taken c how) past o law own change (inl is) =
     (subst (IsMade grid) (sym is) own, rw (is, same_id_itself (id_of c)) refl)
 took_here grid sound me (Taken c how) past o law own change (inr a) = absurd a

@@ -57,9 +57,9 @@ turned_exactly deed past keys in_order all only =
 none : (deed : Deed) (past : List Deed) → ((key : List ℕ) → standing key (deed ∷ past) ≡ standing key past) → turned deed past ≡ []
 none deed past same = ap (map (turned_at deed past)) (none_turned deed past same)
 
-pub turned_unmade : (client seq : ℕ) (ask : Ask) (reply : Reply) (to : ℕ) (past : List Deed) → turned (Call client seq ask reply None to)
+pub turned_unmade : (client seq : ℕ) (ask : Ask) (reply : Reply) (to : ℕ) (past : List Deed) → turned (Call client to seq ask reply None)
     past ≡ []
-turned_unmade client seq ask reply to past = none (Call client seq ask reply None to) past (λ key. refl)
+turned_unmade client seq ask reply to past = none (Call client to seq ask reply None) past (λ key. refl)
 
 pub turned_repeat : (change : Change) (past : List Deed) → turned (Taken change Repeat) past ≡ []
 turned_repeat change past = none (Taken change Repeat) past (λ key. refl)
@@ -132,11 +132,11 @@ one_more n = omega arith
 
 -- A lawful call that makes a change turns the change's key.
 pub turned_call : (id : Identity) (opening client seq : ℕ) (ask : Ask) (reply : Reply) (change : Change) (to : ℕ) (past : List Deed)
-    → IsLawfulDeed id opening (Call client seq ask reply (Some change) to) past
-    → turned (Call client seq ask reply (Some change) to) past ≡ turned_to change past ∷ []
+    → IsLawfulDeed id opening (Call client to seq ask reply (Some change)) past
+    → turned (Call client to seq ask reply (Some change)) past ≡ turned_to change past ∷ []
 turned_call id opening client seq ask reply change to past law =
-    let s = made_stamped id opening change (Call client seq ask reply (Some change) to) past law (inl refl) in
-    turned_one (Call client seq ask reply (Some change) to) past change (λ key. refl)
+    let s = made_stamped id opening change (Call client to seq ask reply (Some change)) past law (inl refl) in
+    turned_one (Call client to seq ask reply (Some change)) past change (λ key. refl)
     (made_wins change (standing change.key past) (reach opening change.key past) (omega arith) (s.ver_is ∙ one_more (reach opening
     change.key past)))
 

@@ -162,7 +162,7 @@ asked_is client name (Asked own seq ask reply) asking e = at_test (own == client
         let replies : reply ≡ asking.reply = cc in
         record { seq = seq; deed_is = cc; named = ap name_of (sym asks) ∙ named }
     at_test false h is = absurd (cc)
-asked_is client name (Call own seq ask reply made to) asking e = absurd (cc)
+asked_is client name (Call own to seq ask reply made) asking e = absurd (cc)
 asked_is client name (Taken change verdict) asking e = absurd (cc)
 asked_is client name (Gave to what) asking e = absurd (cc)
 asked_is client name (Imaged image) asking e = absurd (cc)

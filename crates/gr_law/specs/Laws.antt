@@ -17,7 +17,7 @@ use Rattle.gr_law.specs.Integrity.{IsMade, giver_of}
 
 -- what is made or taken in at a deed
 abbrev pub taken_at : Deed → List Change
-taken_at (Call client seq ask reply made to) = option_to_list made
+taken_at (Call client to seq ask reply made) = option_to_list made
 taken_at (Taken change verdict) = change ∷ []
 taken_at _ = []
 
@@ -28,7 +28,7 @@ taken (deed ∷ past) = taken_at deed ++ taken past
 
 -- the same, where an image brings what its giver had made or taken in by then
 abbrev pub took_at : Grid → Deed → List Change
-took_at grid (Call client seq ask reply made to) = option_to_list made
+took_at grid (Call client to seq ask reply made) = option_to_list made
 took_at grid (Taken change verdict) = change ∷ []
 took_at grid (Imaged image) = taken (giver_of grid image)
 took_at grid _ = []
@@ -93,7 +93,7 @@ law_4 grid = (member : ℕ) (past : List Deed) → Older past (grid.history memb
 -- Law 5: law 3 of one history, from three facts: what came in late to it beats what had expired there, so it was
 -- at the givers of its images, and what an image didn't know beats what had expired at its giver.
 abbrev pub IsGiverLate : Grid → Deed → Type 0
-IsGiverLate grid (Call client seq ask reply made to) = Unit {0}
+IsGiverLate grid (Call client to seq ask reply made) = Unit {0}
 IsGiverLate grid (Asked client seq ask reply) = Unit {0}
 IsGiverLate grid (Taken change verdict) = Unit {0}
 IsGiverLate grid (Gave to what) = Unit {0}
@@ -108,7 +108,7 @@ AreGiversLate grid (deed ∷ past) = IsGiverLate grid deed × AreGiversLate grid
 
 -- the changes that an image's vector doesn't hold beat what had expired at the giver
 abbrev pub IsApart : Grid → List Change → Deed → Type 0
-IsApart grid all (Call client seq ask reply made to) = Unit {0}
+IsApart grid all (Call client to seq ask reply made) = Unit {0}
 IsApart grid all (Asked client seq ask reply) = Unit {0}
 IsApart grid all (Taken change verdict) = Unit {0}
 IsApart grid all (Gave to what) = Unit {0}

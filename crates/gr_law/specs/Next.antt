@@ -8,7 +8,7 @@ use Rattle.gr_law.specs.Integrity.{IsGenuineDeed, HasNoImage, IsHeardDeed}
 
 -- an image comes once
 abbrev pub IsFirstImage : Deed → List Deed → Type 0
-IsFirstImage (Call client seq ask reply made to) past = Unit {0}
+IsFirstImage (Call client to seq ask reply made) past = Unit {0}
 IsFirstImage (Asked client seq ask reply) past = Unit {0}
 IsFirstImage (Taken change verdict) past = Unit {0}
 IsFirstImage (Gave to what) past = Unit {0}

@@ -43,15 +43,15 @@ abbrev pub image : Image
 image = record { from = 2; at = 5; rows = []; vector = record { ids = first_id ∷ removal_id ∷ []; spare = 0 }; floor = 2 }
 
 abbrev pub history_1 : List Deed
-history_1 = Gave 3 what.Own ∷ Reported report_1 ∷ Taken removal Applied ∷ Call 1 1 (asks.Put key []) replies.Null (Some first) 2 ∷ []
+history_1 = Gave 3 what.Own ∷ Reported report_1 ∷ Taken removal Applied ∷ Call 1 2 1 (asks.Put key []) replies.Null (Some first) ∷ []
 
 abbrev pub history_2 : List Deed
 history_2 = Gave 3 what.Image ∷ Swept 600 (key ∷ []) ∷ Heard report_3 ∷ Heard report_1
-    ∷ Call 2 1 (asks.Destroy key) replies.Done (Some removal) 1 ∷ Taken first Applied
+    ∷ Call 2 1 1 (asks.Destroy key) replies.Done (Some removal) ∷ Taken first Applied
     ∷ []
 
 abbrev pub history_3 : List Deed
-history_3 = Call 3 1 (asks.Put key []) replies.Null (Some second) 3 ∷ Imaged image ∷ Taken first Discarded ∷ Reported report_3
+history_3 = Call 3 3 1 (asks.Put key []) replies.Null (Some second) ∷ Imaged image ∷ Taken first Discarded ∷ Reported report_3
     ∷ Taken removal Applied ∷ []
 
 abbrev pub history : ℕ → List Deed

@@ -1,4 +1,3 @@
-pub mod Further
 pub mod Digits
 pub mod Commas
 pub mod Gathered

@@ -102,7 +102,7 @@ abbrev pub swept_text : ℕ → List (List ℕ) → List ℕ
 swept_text moment expired = codes "sweep " ++ decimal moment ++ codes " expired " ++ decimal (length expired) ++ spaced expired
 
 abbrev pub deed_text : Deed → List ℕ
-deed_text (deed.Call client seq ask reply made to) = asked_text client seq ask ++ told_text reply made to
+deed_text (deed.Call client to seq ask reply made) = asked_text client seq ask ++ told_text reply made to
 deed_text (deed.Asked client seq ask reply) = query_step_text client seq ask ++ codes " -> " ++ shard_line reply
 deed_text (deed.Taken change verdict) = taken_text change verdict
 deed_text (deed.Gave to what) = codes "gave " ++ decimal to ++ what_text what

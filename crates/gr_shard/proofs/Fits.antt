@@ -26,7 +26,7 @@ all_of P [] each = tt
 all_of P (x ∷ xs) each = (each x (inl refl), all_of P xs (λ y a. each y (inr a)))
 
 made_came_at : (deed : Deed) (past : List Deed) (change : Change) → Among change (made_at deed) → Among change (came deed past)
-made_came_at (Call client seq ask reply made to) past change a = a
+made_came_at (Call client to seq ask reply made) past change a = a
 made_came_at (Asked client seq ask reply) past change a = absurd a
 made_came_at (Taken taken verdict) past change a = absurd a
 made_came_at (Gave to what) past change a = absurd a

@@ -20,8 +20,8 @@ use Rattle.gr_shard.proofs.Following.{new_in_step, quiet_in_step}
 use Rattle.gr_shard.proofs.Slots.{stands_unchanged}
 
 at_most_one : (deed : Deed) → reverse (made_at deed) ≡ made_at deed
-at_most_one (Call client seq ask reply None to) = refl
-at_most_one (Call client seq ask reply (Some change) to) = refl
+at_most_one (Call client to seq ask reply None) = refl
+at_most_one (Call client to seq ask reply (Some change)) = refl
 at_most_one _ = refl
 
 -- what a deed made comes last

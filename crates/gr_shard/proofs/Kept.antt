@@ -56,14 +56,14 @@ made_wins id opening past key change made q same =
 slots_called : (id : Identity) (opening : ℕ) (now : Kept) (past : List Deed) (client seq : ℕ) (ask : Ask) (reply : Reply)
     (made : Option Change)
     (to : ℕ) → IsKept id opening now past → record { reply = reply; made = made; to = to } ≡ call_gives id opening past ask
-    → Hold (with_change made now.clock now.slots) (Call client seq ask reply made to ∷ past)
+    → Hold (with_change made now.clock now.slots) (Call client to seq ask reply made ∷ past)
 slots_called id opening now past client seq ask reply None to kept gives =
-    stands_unchanged now.slots (Call client seq ask reply None to) past (λ key. refl) kept.stands
+    stands_unchanged now.slots (Call client to seq ask reply None) past (λ key. refl) kept.stands
 slots_called id opening now past client seq ask reply (Some change) to kept gives =
     let is = made_by_call id opening past ask reply change to gives in
     let win = made_wins id opening past (key_of ask) change is in
-    subst (λ at. Hold (with_change (Some change) at now.slots) (Call client seq ask reply (Some change) to ∷ past)) (sym kept.clocked)
-    (stands_with now.slots (Call client seq ask reply (Some change) to) past change
+    subst (λ at. Hold (with_change (Some change) at now.slots) (Call client to seq ask reply (Some change) ∷ past)) (sym kept.clocked)
+    (stands_with now.slots (Call client to seq ask reply (Some change)) past change
     (λ key. stands_after key change past (bytes_eq change.key key) refl (win key)) win kept.stands)
 
 of_shard_taken : (id : Identity) (past : List Deed) (change : Change) (told : Verdict) → shard_of change.key id.shards ≡ id.shard
@@ -139,25 +139,25 @@ module _ (id : Identity) (opening : ℕ) (now : Kept) (past : List Deed) where
         vector = with_made made now.vector;
         queries = noted (turned_by_change now.slots made) now.queries;
       })
-      (Call client seq ask reply made to ∷ past)
+      (Call client to seq ask reply made ∷ past)
   unfolding recipients
   kept_called client seq ask reply None to kept here gives =
-      kept_on id opening now (Call client seq ask reply None to) past kept refl gives kept.of_shard
+      kept_on id opening now (Call client to seq ask reply None) past kept refl gives kept.of_shard
       now.slots (slots_called id opening now past client seq ask reply None to kept gives)
-      now.vector kept.noted now.heard (kept.told ∙ sym (heard_next (Call client seq ask reply None to) past))
+      now.vector kept.noted now.heard (kept.told ∙ sym (heard_next (Call client to seq ask reply None) past))
       (noted [] now.queries)
-      (told_in_step (Call client seq ask reply None to) past [] now.queries (λ client name. refl)
+      (told_in_step (Call client to seq ask reply None) past [] now.queries (λ client name. refl)
       (turned_unmade client seq ask reply to past) kept.in_step)
   kept_called client seq ask reply (Some change) to kept here gives =
       let is = made_by_call id opening past ask reply change to gives in
-      kept_on id opening now (Call client seq ask reply (Some change) to) past kept refl gives
+      kept_on id opening now (Call client to seq ask reply (Some change)) past kept refl gives
       (ap (λ k. shard_of k id.shards) is.key_is ∙ here, kept.of_shard)
       (with_change (Some change) now.clock now.slots)
       (slots_called id opening now past client seq ask reply (Some change) to kept gives)
       (with_id (id_of change) now.vector) (ap (with_id (id_of change)) kept.noted)
-      now.heard (kept.told ∙ sym (heard_next (Call client seq ask reply (Some change) to) past))
+      now.heard (kept.told ∙ sym (heard_next (Call client to seq ask reply (Some change)) past))
       (noted (turned_by_change now.slots (Some change)) now.queries)
-      (told_in_step (Call client seq ask reply (Some change) to) past (turned_by_change now.slots (Some change)) now.queries
+      (told_in_step (Call client to seq ask reply (Some change)) past (turned_by_change now.slots (Some change)) now.queries
       (λ client name. refl)
       (turned_call id opening client seq ask reply change to past gives ∙ turned_change change past now.slots kept.stands) kept.in_step)
 

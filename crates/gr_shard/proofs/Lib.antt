@@ -16,4 +16,3 @@ pub mod Following
 pub mod Turning
 pub mod Opened
 pub mod Asked
-pub mod AskedFor

@@ -12,4 +12,4 @@ served done = record { reply = done.reply; made = is_some done.made }
 
 -- the deed of a client's call that gave this
 abbrev pub call_with : ℕ → ℕ → Ask → Done → Deed
-call_with client seq ask done = Call client seq ask done.reply done.made done.to
+call_with client seq ask done = Call client done.to seq ask done.reply done.made

@@ -4,6 +4,7 @@ use Rattle.gr_stamp.specs.declared.change.Change.{Change}
 use Rattle.gr_stamp.specs.Version.{Version, beats}
 use Rattle.gr_vector.specs.Ids.{Id}
 use Rattle.gr_vector.specs.Order.{with_id}
+use Rattle.gr_history.specs.Ids.{id_of}
 use Rattle.gr_stamp.specs.Winner.{is_removal}
 use Rattle.gr_history.specs.declared.verdict.Verdict.{Verdict}
 use Rattle.gr_history.specs.declared.verdict.Verdict.TheVariants.{Applied, Discarded, Repeat}
@@ -55,16 +56,7 @@ puts_of changes = filter (λ change. not (is_removal change.kind)) changes
 abbrev pub removals_of : List Change → ℕ
 removals_of changes = count_by (λ change. is_removal change.kind) changes
 
--- the stamp of what was made, if anything was
-abbrev pub stamp_made : Option Change → Option Version
-stamp_made None = None
-stamp_made (Some change) = Some change.stamp
-
--- the ids with that of a stamp, if there is one
-abbrev pub with_stamp : Option Version → List Id → List Id
-with_stamp None ids = ids
-with_stamp (Some stamp) ids = with_id (record { member = stamp.member; rv = stamp.rv }) ids
-
 -- the ids with that of a change, if there is one
 abbrev pub with_made : Option Change → List Id → List Id
-with_made made ids = with_stamp (stamp_made made) ids
+with_made None ids = ids
+with_made (Some change) ids = with_id (id_of change) ids

@@ -28,19 +28,24 @@ pub fn ver_of(slot: Option<&Slot>) -> u64
 
 /// Sets what came in at this clock, if anything did. Where memory is refused the slots are as before.
 #[inline(always)]
-pub fn enter(slots: &mut Slots, clock: u64, came: Option<Change>) -> Result<(), Memory>
-    ensures ok { OnOk result (slots.new ≡ with_change came clock slots.old) }
+pub fn enter(
+    alloc: Global,
+    slots: &mut Slots,
+    clock: u64,
+    came: Option<&Change>,
+) -> Result<(), Memory>
+    ensures ok { OnOk result (slots.new ≡ with_change (option_copied came.entry) clock slots.old) }
     ensures err { OnErr result (slots.new ≡ slots.old) }
 {
     let Some(change) = came else {
         return Ok(());
     };
     let slot = Slot {
-        kind: change.kind,
+        kind: change.kind.copy(alloc)?,
         stamp: change.stamp,
         taken_at: clock,
     };
-    slots.set(change.key, slot)
+    slots.set(change.key.copy(alloc)?, slot)
 }
 
 /// What becomes of a change that is known or isn't, over what stands.

@@ -1,10 +1,14 @@
-ghost use Rattle.std.specs.Prelude.{◌≡◌, IfOk, OnOk};
+ghost use Rattle.std.specs.Prelude.{◌≡◌, IfOk, OnOk, option_copied, reverse};
 ghost use Rattle.std.specs.Ordering.{nat_cmp};
 ghost use Rattle.std.specs.Cmp.Lexicographic.{slice_cmp};
 ghost use Rattle.std.specs.List.Sorted.{IsStrictlySortedBy};
 ghost use Rattle.std.specs.Map.{keys_of};
+ghost use Rattle.std.specs.Option.{option_to_list};
+ghost use Rattle.gr_history.specs.Gifts.{own_changes};
+ghost use Rattle.gr_history.specs.Made.{made_at};
 ghost use Rattle.gr_shard.specs.Entries.{change_of, changes_in};
 
+use gr_history::Deed;
 use gr_slots::{Slot, Slots};
 use gr_stamp::{Change, ChangeList};
 use gr_value::{Copied, Key, Memory};
@@ -29,6 +33,29 @@ pub fn standing(alloc: Global, slots: &Slots) -> Result<ChangeList, Memory>
     let mut changes = ChangeList::new(alloc)?;
     for (key, slot) in slots.rows(alloc)? {
         changes.push(change_of(alloc, key, slot)?)?;
+    }
+    Ok(changes)
+}
+
+// The change that a deed made, if it made one.
+fn made_of(deed: &Deed) -> Option<&Change>
+    ensures { option_to_list (option_copied result) ≡ made_at deed.now }
+{
+    match deed {
+        Deed::Call { made, .. } => made.as_ref(),
+        _ => None,
+    }
+}
+
+/// The changes that the calls of a history made, the oldest first.
+pub fn own_changes(alloc: Global, deeds: &[Deed]) -> Result<ChangeList, Memory>
+    ensures { IfOk result (λ changes. changes ≡ own_changes (reverse deeds.now)) }
+{
+    let mut changes = ChangeList::new(alloc)?;
+    for deed in deeds {
+        if let Some(change) = made_of(deed) {
+            changes.push(change.copy(alloc)?)?;
+        }
     }
     Ok(changes)
 }

@@ -1,13 +1,13 @@
 ghost use Rattle.std.specs.Prelude.{◌≡◌, ◌≤◌, [], IfOk, option_copied};
 ghost use Rattle.gr_history.specs.Recipients.{member_bits};
 ghost use Rattle.gr_history.specs.Calls.{nothing_made};
-ghost use Rattle.gr_shard.specs.Entries.{stamp_made, with_stamp};
+ghost use Rattle.gr_shard.specs.Entries.{with_made};
 ghost use Rattle.gr_shard.specs.Gifts.{goes_to};
-ghost use Rattle.gr_shard.specs.Calls.{served};
+ghost use Rattle.gr_shard.specs.Calls.{call_with, served};
 
 use crate::served::Served;
-use gr_history::{Done, Identity, Reply};
-use gr_stamp::{Change, Stamp};
+use gr_history::{Ask, Deed, Done, Identity, Reply};
+use gr_stamp::Change;
 use gr_value::{Copied, Memory};
 use gr_vector::Vector;
 use std::alloc::Global;
@@ -35,25 +35,14 @@ pub fn recipients(id: Identity, given: &[bool; 8]) -> u8
     to as u8
 }
 
-/// Notes the stamp of what was made or taken in, for which there is room.
+/// Notes what was made or taken in, for which there is room.
 #[inline(always)]
-pub fn note(vector: &mut Vector, stamp: Option<&Stamp>)
+pub fn note(vector: &mut Vector, made: Option<&Change>)
     requires { 1 ≤ vector.old.spare }
-    ensures { vector.new.ids ≡ with_stamp (option_copied stamp.entry) vector.old.ids }
+    ensures { vector.new.ids ≡ with_made (option_copied made.entry) vector.old.ids }
 {
-    if let Some(stamp) = stamp {
-        let _ = vector.note(stamp.member(), stamp.rv());
-    }
-}
-
-/// The stamp of what was made, if anything was.
-#[inline(always)]
-pub fn stamp_of(made: Option<&Change>) -> Option<Stamp>
-    ensures { result ≡ stamp_made (option_copied made.entry) }
-{
-    match made {
-        Some(change) => Some(change.stamp),
-        None => None,
+    if let Some(change) = made {
+        let _ = vector.note(change.stamp.member(), change.stamp.rv());
     }
 }
 
@@ -65,6 +54,20 @@ pub fn nothing_made(reply: Reply) -> Done
         reply,
         made: None,
         to: 0,
+    }
+}
+
+/// The deed of a call that gave this.
+pub fn deed_of(client: u8, seq: u32, ask: Ask, done: Done) -> Deed
+    ensures { result ≡ call_with client seq ask done }
+{
+    Deed::Call {
+        client,
+        seq,
+        ask,
+        reply: done.reply,
+        made: done.made,
+        to: done.to,
     }
 }
 

@@ -25,13 +25,13 @@ ghost use Rattle.gr_shard.specs.Calls.{call_with, served};
 
 use crate::asking::{Replies, answer};
 use crate::entering::{applied, value_of, ver_of, verdict_at};
-use crate::giving::standing;
-use crate::making::{copy_of, note, nothing_made, recipients, served, stamp_of};
+use crate::giving::{own_changes, standing};
+use crate::making::{copy_of, deed_of, note, nothing_made, recipients, served};
 use crate::merging::merged;
 use crate::regions::region;
 use crate::served::Served;
 use crate::sweeping::{drop_all, risen};
-use crate::telling::{come_copied, come_in, take_over};
+use crate::telling::{come_in, take_over};
 use crate::told::tells;
 use gr_cq::Registry;
 use gr_history::{
@@ -108,13 +108,14 @@ impl Shard {
         ensures added { IfOk result
             (λ done. self.new ≡ record self.old {
               deeds = self.old.deeds
-                  ++ deed.Call client seq ask.now done.reply done.made done.to ∷ [];
+                  ++ deed.Call client done.to seq ask.now done.reply done.made ∷ [];
             }) }
         ensures err { OnErr result (self.new ≡ self.old) }
     {
         let done = self.gives(alloc, ask)?;
         let given = copy_of(alloc, &done)?;
-        self.add_call(alloc, client, seq, ask.copy(alloc)?, done)?;
+        let asked = ask.copy(alloc)?;
+        self.add_call(alloc, client, seq, asked, done)?;
         Ok(given)
     }
 
@@ -152,8 +153,8 @@ impl Shard {
         self.history.reserve(1)?;
         self.vector.reserve()?;
         let came = applied(verdict, change);
-        come_copied(alloc, &mut self.slots, &mut self.queries, self.clock, came)?;
-        note(&mut self.vector, Some(&change.stamp));
+        come_in(alloc, &mut self.slots, &mut self.queries, self.clock, came)?;
+        note(&mut self.vector, Some(change));
         let _ = self.history.push(deed);
         Ok(verdict)
     }
@@ -366,17 +367,10 @@ impl Shard {
     {
         self.history.reserve(1)?;
         self.vector.reserve()?;
-        let stamp = stamp_of(done.made.as_ref());
-        come_in(
-            alloc,
-            &mut self.slots,
-            &mut self.queries,
-            self.clock,
-            done.made,
-        )?;
-        note(&mut self.vector, stamp.as_ref());
-        let past = &mut self.history;
-        let _ = past.push_call(client, seq, ask, done.reply, stamp, done.to);
+        let made = done.made.as_ref();
+        come_in(alloc, &mut self.slots, &mut self.queries, self.clock, made)?;
+        note(&mut self.vector, made);
+        let _ = self.history.push(deed_of(client, seq, ask, done));
         Ok(())
     }
 
@@ -402,7 +396,7 @@ impl Shard {
     {
         match what {
             What::Image => Ok(Gift::Image(self.image(alloc)?)),
-            What::Own => Ok(Gift::Own(self.history.own_changes(alloc)?)),
+            What::Own => Ok(Gift::Own(own_changes(alloc, self.history.as_slice())?)),
         }
     }
 

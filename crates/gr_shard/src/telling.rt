@@ -104,38 +104,6 @@ pub fn come_in(
     slots: &mut Slots,
     queries: &mut Registry,
     clock: u64,
-    came: Option<Change>,
-) -> Result<(), Memory>
-    ensures slots { OnOk result (slots.new ≡ with_change came clock slots.old) }
-    ensures told { OnOk result (queries.new.entries ≡ noted (turned_by_change slots.old came) queries.old.entries) }
-    ensures slots_err { OnErr result (slots.new ≡ slots.old) }
-    ensures told_err { OnErr result (queries.new.entries ≡ queries.old.entries) }
-{
-    if queries.is_empty() {
-        return enter(slots, clock, came);
-    }
-    let foreseen = foresee_change(alloc, queries, slots, came.as_ref())?;
-    enter(slots, clock, came)?;
-    tell(queries, foreseen);
-    Ok(())
-}
-
-// The same change once more, if there is one.
-fn copied(alloc: Global, came: Option<&Change>) -> Result<Option<Change>, Memory>
-    ensures { IfOk result (λ copy. copy ≡ option_copied came.entry) }
-{
-    match came {
-        Some(change) => Ok(Some(change.copy(alloc)?)),
-        None => Ok(None),
-    }
-}
-
-/// Does so with a copy of what came in.
-pub fn come_copied(
-    alloc: Global,
-    slots: &mut Slots,
-    queries: &mut Registry,
-    clock: u64,
     came: Option<&Change>,
 ) -> Result<(), Memory>
     ensures slots { OnOk result (slots.new ≡ with_change (option_copied came.entry) clock slots.old) }
@@ -143,8 +111,13 @@ pub fn come_copied(
     ensures slots_err { OnErr result (slots.new ≡ slots.old) }
     ensures told_err { OnErr result (queries.new.entries ≡ queries.old.entries) }
 {
-    let copy = copied(alloc, came)?;
-    come_in(alloc, slots, queries, clock, copy)
+    if queries.is_empty() {
+        return enter(alloc, slots, clock, came);
+    }
+    let foreseen = foresee_change(alloc, queries, slots, came)?;
+    enter(alloc, slots, clock, came)?;
+    tell(queries, foreseen);
+    Ok(())
 }
 
 /// Takes over slots in the place of those before and further ids, and tells the open queries.

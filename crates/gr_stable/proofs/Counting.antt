@@ -27,7 +27,7 @@ heard_as deed past same member (suc n) =
 -- The reports that count go on by the deeds.
 pub heard_next : (deed : Deed) (past : List Deed) → heard (deed ∷ past) ≡ heard_after deed (heard past)
 unfolding heard
-heard_next (Call client seq ask reply made to) past = heard_as (Call client seq ask reply made to) past (λ member. refl) 1 8
+heard_next (Call client to seq ask reply made) past = heard_as (Call client to seq ask reply made) past (λ member. refl) 1 8
 heard_next (Asked client seq ask reply) past = heard_as (Asked client seq ask reply) past (λ member. refl) 1 8
 heard_next (Taken change verdict) past = heard_as (Taken change verdict) past (λ member. refl) 1 8
 heard_next (Gave to what) past = heard_as (Gave to what) past (λ member. refl) 1 8

@@ -35,7 +35,7 @@ with_report report reports = with_report_from 1 report reports
 
 -- the reports that count after a deed
 abbrev pub heard_after : Deed → Reports → Reports
-heard_after (Call client seq ask reply made to) reports = reports
+heard_after (Call client to seq ask reply made) reports = reports
 heard_after (Asked client seq ask reply) reports = reports
 heard_after (Taken change verdict) reports = reports
 heard_after (Gave to what) reports = reports

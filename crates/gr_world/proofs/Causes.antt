@@ -80,15 +80,15 @@ each_keeps P (suc n) act before first step =
 made_here : (heading : Heading) (m s : ℕ) (deed : Deed) (before : List Event) (client number : ℕ) (change : Change)
     → IsNextEvent heading (Did m s deed) before → made_by_deed client number deed ≡ Some change
     → IsMade (grid_at heading (shard_of change.key heading.shards) (Did m s deed ∷ before)) change
-made_here heading m s (Call own seq ask reply made_ to) before client number change next e = at_test (own == client && seq == number) e
+made_here heading m s (Call own to seq ask reply made_) before client number change next e = at_test (own == client && seq == number) e
   where
     here : made_ ≡ Some change
-        → IsMade (grid_at heading (shard_of change.key heading.shards) (Did m s (Call own seq ask reply made_ to) ∷ before)) change
+        → IsMade (grid_at heading (shard_of change.key heading.shards) (Did m s (Call own to seq ask reply made_) ∷ before)) change
     here is =
-        let deed : Deed = Call own seq ask reply made_ to in
+        let deed : Deed = Call own to seq ask reply made_ in
         let law : IsLawfulDeed (identity (grid_at heading s before) m) heading.floor deed (history m s before) = next.0.lawful in
-        let made_is : Among change (made_at (Call own seq ask reply made_ to)) =
-        subst (λ o. Among change (made_at (Call own seq ask reply o to))) (sym is) (inl refl) in
+        let made_is : Among change (made_at (Call own to seq ask reply made_)) =
+        subst (λ o. Among change (made_at (Call own to seq ask reply o))) (sym is) (inl refl) in
         let member : change.stamp.member ≡ m =
         (made_stamped (identity (grid_at heading s before) m) heading.floor change deed (history m s before) law made_is).member_is in
         let key : change.key ≡ key_of ask =
@@ -101,7 +101,7 @@ made_here heading m s (Call own seq ask reply made_ to) before client number cha
         (among_left change (made_at deed) (made (history m s before)) made_is)))
 
     at_test : (b : Bool) → (if b then made_ else None) ≡ Some change
-        → IsMade (grid_at heading (shard_of change.key heading.shards) (Did m s (Call own seq ask reply made_ to) ∷ before)) change
+        → IsMade (grid_at heading (shard_of change.key heading.shards) (Did m s (Call own to seq ask reply made_) ∷ before)) change
     at_test true is = here is
     at_test false is = absurd (no is)
       where
@@ -130,7 +130,7 @@ made_by_made heading client number (Gathered own seq replies ∷ before) change 
 -- a report that was counted was made
 reports_made : (report : Report) (past : List Deed) → Among report (reports past) → Among (Reported report) past
 reports_made report [] a = absurd a
-reports_made report (Call client seq ask reply made to ∷ past) a = inr (reports_made report past a)
+reports_made report (Call client to seq ask reply made ∷ past) a = inr (reports_made report past a)
 reports_made report (Asked client seq ask reply ∷ past) a = inr (reports_made report past a)
 reports_made report (Taken change how ∷ past) a = inr (reports_made report past a)
 reports_made report (Gave to what ∷ past) a = inr (reports_made report past a)

@@ -177,7 +177,7 @@ line_asks heading (Step client number (act.Call ask)) before i t =
     at_test (t == shard_of (key_of ask) heading.shards && i == home_of heading client) _ _ _
   where
     at_test : (b : Bool) (reply : Reply) (made : Option Change) (to : ℕ)
-        → askings (put_if b (Call client number ask reply made to) (history i t before))
+        → askings (put_if b (Call client to number ask reply made) (history i t before))
         ≡ add_some (if b then Some (record { client = client; number = number; ask = OfKey ask }) else None) (askings (history i t
         before))
     at_test true reply made to = refl
@@ -259,16 +259,16 @@ replies_stand-holds (Did m s deed ∷ before) member shard client number ask rep
     itself : (client == client) ≡ true
     itself = grind (arith, nat_tests)
 
-    here : Call client number ask reply made to ≡ deed
+    here : Call client to number ask reply made ≡ deed
         → Among (record { number = number; answer = answer.Reply reply }) (add_some (told_by_deed client deed) (told client before))
     here is = subst
         (λ d. Among (record { number = number; answer = answer.Reply reply }) (add_some (told_by_deed client d) (told client before))) is
         (rw itself (inl refl))
 
     at_test : (b : Bool)
-        → (Among (Call client number ask reply made to) (history member shard before)
+        → (Among (Call client to number ask reply made) (history member shard before)
         → Among (record { number = number; answer = answer.Reply reply }) (told client before))
-        → Among (Call client number ask reply made to) (put_if b deed (history member shard before))
+        → Among (Call client to number ask reply made) (put_if b deed (history member shard before))
         → Among (record { number = number; answer = answer.Reply reply }) (add_some (told_by_deed client deed) (told client before))
     at_test true next (inl is) = here is
     at_test true next (inr a) = among_some _ (told_by_deed client deed) (told client before) (next a)

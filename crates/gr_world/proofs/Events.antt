@@ -161,8 +161,8 @@ report_is me past report is bare =
 pub one_deed : (id : Identity) (opening : ℕ) (past : List Deed) (deed : Deed) (doing : Doing) → Says deed doing
     → IsLawfulDeed id opening deed past
     → deed ≡ deed_of id opening past doing
-one_deed id opening past (Call client number ask reply made to) doing says law =
-    subst (λ d. Call client number ask reply made to ≡ deed_of id opening past d) (sym says) (ap (call_with client number ask) law)
+one_deed id opening past (Call client to number ask reply made) doing says law =
+    subst (λ d. Call client to number ask reply made ≡ deed_of id opening past d) (sym says) (ap (call_with client number ask) law)
 one_deed id opening past (Asked client number ask reply) doing says law =
     subst (λ d. Asked client number ask reply ≡ deed_of id opening past d) (sym says) (ap (Asked client number ask) law)
 one_deed id opening past (Taken change how) doing says law =

@@ -150,14 +150,14 @@ newer : (client number earlier : ℕ) (ask : Wish) (key : List ℕ) (value : Opt
     → asking_of deed ≡ Some (record { client = client; number = earlier; ask = ask }) → Follows deed before
     → Descends (counted (add_some (told_by_deed client deed) (told client before)))
     → Among (Peeked client number key value at) before → number < earlier
-newer client number earlier ask key value at before (Call own seq wish reply made to) is follows desc a =
+newer client number earlier ask key value at before (Call own to seq wish reply made) is follows desc a =
     subst (λ n. number < n) (ap (λ one. one.number) (some_asking is))
     (below_among seq number (counted (told client before)) (at_head desc) (peek_counted client number key value at before a))
   where
     itself : (own == client) ≡ true
     itself = subst (λ c. (own == c) ≡ true) (ap (λ one. one.client) (some_asking is)) (same_number own)
 
-    at_head : Descends (counted (add_some (told_by_deed client (Call own seq wish reply made to)) (told client before)))
+    at_head : Descends (counted (add_some (told_by_deed client (Call own to seq wish reply made)) (told client before)))
         → AllBelow seq (counted (told client before))
     at_head d = (rw itself at d).0
 newer client number earlier ask key value at before (Asked own seq wish reply) is follows desc a =

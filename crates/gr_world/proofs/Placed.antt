@@ -17,9 +17,9 @@ calls_placed-holds heading (Did m s deed ∷ before) h member shard client numbe
     at_test (shard == s) refl (member == m) refl (calls_placed-holds heading before h.1 member shard client number ask reply made to) a
   where
     at_test : (b : Bool) → (shard == s) ≡ b → (d : Bool) → (member == m) ≡ d
-        → (Among (Call client number ask reply made to) (history member shard before)
+        → (Among (Call client to number ask reply made) (history member shard before)
         → (member ≡ home_of heading client) × (shard ≡ shard_of (key_of ask) heading.shards))
-        → Among (Call client number ask reply made to) (put_if (b && d) deed (history member shard before))
+        → Among (Call client to number ask reply made) (put_if (b && d) deed (history member shard before))
         → (member ≡ home_of heading client) × (shard ≡ shard_of (key_of ask) heading.shards)
     at_test true e true f next (inl is) =
         let placed = subst (λ d. IsPlaced heading m s d) (sym is) h.0.1 in

@@ -13,7 +13,6 @@ use Rattle.gr_history.specs.declared.done.Done.{Done}
 use Rattle.gr_history.specs.declared.record.Answer.{Answer}
 use Rattle.gr_history.specs.declared.record.Answer.TheVariants as answer
 use Rattle.gr_history.specs.Asks.{key_of}
-use Rattle.gr_history.specs.Made.{made_in}
 use Rattle.gr_history.specs.Standing.{present}
 use Rattle.gr_shard.specs.Calls.{call_with}
 use Rattle.gr_shard.specs.View.{Account}
@@ -29,7 +28,7 @@ use Rattle.gr_world.specs.Noted.{Notes, place_of}
 use Rattle.gr_world.specs.Numbered.{numbers_from}
 use Rattle.gr_world.specs.Records.{answers}
 use Rattle.gr_world.specs.Doings.{Doing, Calls, Takes, deed_of}
-use Rattle.gr_world.specs.Named.{made_by, made_by_deed, numbered, or_else, reports}
+use Rattle.gr_world.specs.Named.{made_by, made_by_deed, made_in, numbered, or_else, reports}
 use Rattle.gr_world.specs.Tasks.{doing_of}
 use Rattle.gr_world.specs.declared.task.Task.{Task}
 use Rattle.gr_world.specs.declared.task.Task.TheVariants as task

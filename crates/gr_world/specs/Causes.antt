@@ -26,7 +26,7 @@ grid_at heading shard course = record {
 
 -- A call stands at its client's member, in the shard of its key. A query's step stands at its client's member.
 abbrev pub IsPlaced : Heading → ℕ → ℕ → Deed → Type 0
-IsPlaced heading member shard (Call client seq ask reply made to) =
+IsPlaced heading member shard (Call client to seq ask reply made) =
     (member ≡ home_of heading client) × (shard ≡ shard_of (key_of ask) heading.shards)
 IsPlaced heading member shard (Asked client seq ask reply) = member ≡ home_of heading client
 IsPlaced heading member shard (Taken change verdict) = Unit {0}

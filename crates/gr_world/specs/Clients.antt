@@ -42,7 +42,7 @@ pub record Asking : Type 0 where
   pub ask : Wish
 
 abbrev pub asking_of : Deed → Option Asking
-asking_of (Call client seq ask reply made to) = Some (record { client = client; number = seq; ask = OfKey ask })
+asking_of (Call client to seq ask reply made) = Some (record { client = client; number = seq; ask = OfKey ask })
 asking_of (Asked client seq ask reply) = Some (record { client = client; number = seq; ask = OfQuery ask })
 asking_of _ = None
 
@@ -78,7 +78,7 @@ calls_stand heading past course = (member shard : ℕ) → askings (history memb
 -- No other history has a call of the client.
 abbrev pub calls_placed : Heading → List Event → Type 0
 calls_placed heading course = (member shard : ℕ) (client number : ℕ) (ask : Ask) (reply : Reply) (made : Option Change) (to : ℕ)
-    → Among (Call client number ask reply made to) (history member shard course)
+    → Among (Call client to number ask reply made) (history member shard course)
     → (member ≡ home_of heading client) × (shard ≡ shard_of (key_of ask) heading.shards)
 
 -- Nor has it a step of the client on a query.
@@ -94,7 +94,7 @@ pub record Numbered : Type 0 where
   pub answer : Answer
 
 abbrev pub told_by_deed : ℕ → Deed → Option Numbered
-told_by_deed client (Call own seq ask reply made to) =
+told_by_deed client (Call own to seq ask reply made) =
     if own == client then Some (record { number = seq; answer = answer.Reply reply }) else None
 told_by_deed client _ = None
 
@@ -132,7 +132,7 @@ answers_stand past course = (client : ℕ) → map (λ one. one.number) (told cl
 -- Each call that stands in a history was answered its reply.
 abbrev pub replies_stand : List Event → Type 0
 replies_stand course = (member shard : ℕ) (client number : ℕ) (ask : Ask) (reply : Reply) (made : Option Change) (to : ℕ)
-    → Among (Call client number ask reply made to) (history member shard course)
+    → Among (Call client to number ask reply made) (history member shard course)
     → Among (record { number = number; answer = answer.Reply reply }) (told client course)
 
 -- What a client was told of its queries, each shard of its member answered at a deed of that step.

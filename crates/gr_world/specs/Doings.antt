@@ -63,7 +63,7 @@ deed_of id opening past (Asks client number ask) = Asked client number ask (quer
 
 -- a deed says that this was done, and a report that was made has a vector with no room to spare
 abbrev pub Says : Deed → Doing → Type 0
-Says (Call client seq ask reply made to) doing = doing ≡ Calls client seq ask
+Says (Call client to seq ask reply made) doing = doing ≡ Calls client seq ask
 Says (Asked client seq ask reply) doing = doing ≡ Asks client seq ask
 Says (Taken change told) doing = doing ≡ Takes change
 Says (Gave to what) doing = doing ≡ Gives to what

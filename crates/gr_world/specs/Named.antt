@@ -6,9 +6,14 @@ use Rattle.gr_history.specs.declared.deed.Deed.{Deed}
 use Rattle.gr_history.specs.declared.deed.Deed.TheVariants.{Call, Asked, Taken, Gave, Imaged, Reported, Heard, Swept}
 use Rattle.gr_world.specs.Events.{Event, Did, Peeked, Gathered}
 
+-- what a deed made
+abbrev pub made_in : Deed → Option Change
+made_in (Call client to seq ask reply made) = made
+made_in _ = None
+
 -- what a deed made, where it is this step of the client
 abbrev pub made_by_deed : ℕ → ℕ → Deed → Option Change
-made_by_deed client number (Call own seq ask reply made to) = if own == client && seq == number then made else None
+made_by_deed client number (Call own to seq ask reply made) = if own == client && seq == number then made else None
 made_by_deed client number _ = None
 
 abbrev pub or_else : {A : Type 0} → Option A → Option A → Option A
@@ -25,7 +30,7 @@ made_by client number (Gathered own seq replies ∷ before) = made_by client num
 -- the reports of a history, the newest one first
 abbrev pub reports : List Deed → List Report
 reports [] = []
-reports (Call client seq ask reply made to ∷ past) = reports past
+reports (Call client to seq ask reply made ∷ past) = reports past
 reports (Asked client seq ask reply ∷ past) = reports past
 reports (Taken change verdict ∷ past) = reports past
 reports (Gave to what ∷ past) = reports past

@@ -53,8 +53,8 @@ abbrev pub concurrent_course : List Event
 concurrent_course =
     Peeked 1 2 one_key (Some []) 2
     ∷ Did 2 0 (deed.Taken (put 1 1 1) verdict.Discarded) ∷ Did 1 0 (deed.Taken (put 1 2 1) verdict.Applied)
-    ∷ Did 2 0 (deed.Call 2 1 (ask.Put one_key []) reply.Null (Some (put 1 2 1)) 1)
-    ∷ Did 1 0 (deed.Call 1 1 (ask.Put one_key []) reply.Null (Some (put 1 1 1)) 2) ∷ []
+    ∷ Did 2 0 (deed.Call 2 1 1 (ask.Put one_key []) reply.Null (Some (put 1 2 1)))
+    ∷ Did 1 0 (deed.Call 1 2 1 (ask.Put one_key []) reply.Null (Some (put 1 1 1))) ∷ []
 
 -- ---- A change that comes again is told to be known.
 
@@ -89,9 +89,9 @@ image = record { from = 2; at = 5; rows = []; vector = record { ids = id 1 1 ∷
 abbrev pub giver_history : List Deed
 giver_history =
     deed.Gave 3 what.Image ∷ deed.Swept 600 (one_key ∷ []) ∷ deed.Heard report_3 ∷ deed.Heard report_1
-    ∷ deed.Call 2 1 (ask.Destroy one_key) reply.Done (Some removal) 1 ∷ deed.Taken (put 1 1 1) verdict.Applied ∷ []
+    ∷ deed.Call 2 1 1 (ask.Destroy one_key) reply.Done (Some removal) ∷ deed.Taken (put 1 1 1) verdict.Applied ∷ []
 
 abbrev pub joiner_history : List Deed
 joiner_history =
-    deed.Call 3 1 (ask.Put one_key []) reply.Null (Some (put 3 3 1)) 3 ∷ deed.Imaged image
+    deed.Call 3 3 1 (ask.Put one_key []) reply.Null (Some (put 3 3 1)) ∷ deed.Imaged image
     ∷ deed.Taken (put 1 1 1) verdict.Discarded ∷ deed.Reported report_3 ∷ deed.Taken removal verdict.Applied ∷ []

@@ -12,7 +12,6 @@ use Rattle.gr_history.specs.declared.record.Answer.{Answer}
 use Rattle.gr_history.specs.declared.record.ClientRecord.{ClientRecord}
 use Rattle.gr_history.specs.declared.record.MemberRecord.{MemberRecord}
 use Rattle.gr_history.specs.Calls.{call_gives}
-use Rattle.gr_history.specs.Made.{made_in}
 use Rattle.gr_history.specs.Queries.{query_gives}
 use Rattle.gr_shard.specs.Records.{IsRecordOf}
 use Rattle.gr_shard.specs.View.{Account}
@@ -22,7 +21,7 @@ use Rattle.gr_script.specs.declared.line.Line.TheVariants as line
 use Rattle.gr_script.specs.Rules.{Heading, IsMember, IsStated, home_of}
 use Rattle.gr_world.specs.Events.{Event, history}
 use Rattle.gr_world.specs.Doings.{Doing, deed_of}
-use Rattle.gr_world.specs.Named.{made_by}
+use Rattle.gr_world.specs.Named.{made_by, made_in}
 use Rattle.gr_world.specs.Noted.{place_of}
 use Rattle.gr_world.specs.Courses.{asks_at_each, identity_at}
 use Rattle.gr_world.specs.Records.{answers}

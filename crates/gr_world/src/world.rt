@@ -1,4 +1,4 @@
-ghost use Rattle.std.specs.Prelude.{◌≡◌, ◌≤◌, ◌<◌, ℕ, List, [], length, reverse, IfOk, Some, None, if◌then◌else◌};
+ghost use Rattle.std.specs.Prelude.{◌≡◌, ◌≤◌, ◌<◌, ℕ, List, [], length, reverse, IfOk, Some, None, if◌then◌else◌, option_and_then, slice_get};
 ghost use Rattle.gr_script.specs.declared.line.Act.TheVariants as act;
 ghost use Rattle.gr_script.specs.declared.line.Line.TheVariants as line;
 ghost use Rattle.gr_script.specs.Rules.{IsMember, IsStated, home_of};
@@ -9,7 +9,7 @@ ghost use Rattle.gr_world.specs.Courses.{after, does, for_each};
 ghost use Rattle.gr_world.specs.Tasks.{BelongsTo, doing_of};
 ghost use Rattle.gr_shard.specs.View.{Account};
 ghost use Rattle.gr_world.specs.Events.{Event};
-ghost use Rattle.gr_world.specs.Named.{made_by};
+ghost use Rattle.gr_world.specs.Named.{made_by, made_in};
 ghost use Rattle.gr_world.specs.Records.{IsLeft};
 ghost use Rattle.gr_world.specs.Noted.{Notes};
 ghost use Rattle.gr_world.specs.Worlds.{CanPlay, IsAtWork, IsWorld, Plays};
@@ -22,7 +22,7 @@ use crate::stage::Stage;
 use crate::step::StepName;
 use crate::task::Task;
 use crate::tellings::Tellings;
-use gr_history::{Answer, Ask, Identity, Record};
+use gr_history::{Answer, Ask, Deed, History, Identity, Record};
 use gr_script::{Act, Line, Script};
 use gr_shard::Shard;
 use gr_stamp::Change;
@@ -53,6 +53,16 @@ fn note(
         noted.note(step, place)?;
     }
     Ok(())
+}
+
+// What the deed at a place made.
+fn made_at(alloc: Global, history: &History, at: u64) -> Result<Option<Change>, Memory>
+    ensures { IfOk result (λ made. made ≡ option_and_then made_in (slice_get history.now.deeds at)) }
+{
+    match history.get(at) {
+        Some(Deed::Call { made, .. }) => made.copy(alloc),
+        _ => Ok(None),
+    }
 }
 
 /// The member that a client is at.
@@ -152,7 +162,7 @@ impl World {
             return Ok(None);
         };
         let shard = self.grid.cell(place.site).shard();
-        Ok(shard.history().made(stage.alloc, place.at)?)
+        Ok(made_at(stage.alloc, shard.history(), place.at)?)
     }
 
     fn deliver(&mut self, stage: Stage, to: u8, client: u8, seq: u32) -> Result<(), Memory>

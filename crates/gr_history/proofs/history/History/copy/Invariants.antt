@@ -1,5 +1,5 @@
 use Rattle.std.proofs.Common.{◌≡◌, take}
 use Rattle.gr_history.proofs.history.History.copy.Given as goal
 
-abbrev pub invariant-loop-kept : goal.invariant-loop-kept
-invariant-loop-kept l = l.copies.items ≡ take l.kept-index l.kept-items
+abbrev pub invariant-loop-deed : goal.invariant-loop-deed
+invariant-loop-deed l = l.deeds.items ≡ take l.deed-index l.deed-items

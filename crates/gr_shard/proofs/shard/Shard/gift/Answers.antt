@@ -1,4 +1,5 @@
-use Rattle.std.proofs.Common.{reverse}
+use Rattle.std.proofs.Common.{◌∙◌, ap, reverse}
+use Rattle.gr_history.specs.Gifts.{own_changes}
 use Rattle.gr_shard.specs.View.{kept}
 use Rattle.gr_shard.proofs.Fits.{own_fits}
 use Rattle.gr_shard.proofs.shard.Shard.gift.Goals as goal
@@ -11,4 +12,4 @@ returns-in_ok-own_changes-in-Own-clause-fits c =
     (own_fits was.id was.opening (kept was.slots was.vector.ids was.floor was.clock was.joined was.to was.heard was.given
     was.queries.entries) past
     c.in_ok-own_changes-in-Own.field-0 c.self.invariant
-    c.in_ok-own_changes-in-Own.ensures)
+    (c.in_ok-own_changes-in-Own.ensures ∙ ap (λ deeds. own_changes (reverse deeds)) c.as_slice.ensures))

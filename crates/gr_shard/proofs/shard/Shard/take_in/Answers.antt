@@ -27,10 +27,10 @@ invariant_of-self-2 c =
     ∙ ap (λ copy. was.history.deeds ++ Taken copy told ∷ []) c.in_ok-copy.ensures in
     let noted : c.note.new.vector.ids ≡ with_id (id_of change) was.vector.ids =
     c.note.ensures ∙ ap (λ v. with_id (id_of change) v.ids) c.in_ok-reserve-2.ensures.room in
-    let entered : c.come_copied.new.slots ≡ with_change (applied told change) was.clock was.slots = c.in_ok-come_copied.ensures.slots
+    let entered : c.come_in.new.slots ≡ with_change (applied told change) was.clock was.slots = c.in_ok-come_in.ensures.slots
     ∙ ap (λ m. with_change m was.clock was.slots) c.applied-came.ensures in
-    let heard : c.come_copied.new.queries.entries ≡ noted_ (turned_by_change was.slots (applied told change)) was.queries.entries =
-    c.in_ok-come_copied.ensures.told
+    let heard : c.come_in.new.queries.entries ≡ noted_ (turned_by_change was.slots (applied told change)) was.queries.entries =
+    c.in_ok-come_in.ensures.told
     ∙ ap (λ m. noted_ (turned_by_change was.slots m) was.queries.entries) c.applied-came.ensures in
     rw (pushed, reverse-append, noted, entered, heard)
     (kept_taken was.id was.opening (kept was.slots was.vector.ids was.floor was.clock was.joined was.to was.heard was.given
