@@ -13,7 +13,7 @@ use Rattle.std.specs.Cmp.Lexicographic.{slice_cmp}
 use Rattle.std.specs.List.{AllByRecursion, join_by}
 use Rattle.std.specs.Prelude.{flat_map, codes}
 use Rattle.gr_value.specs.declared.value.Field.{Field}
-use Rattle.gr_value.specs.ValueText.{field_text, value_text}
+use Rattle.gr_value.specs.ValueText.{field_text, quoted, scalar_text, value_text}
 use Rattle.gr_value.specs.Values.{IsField, HasAscendingNames}
 use Rattle.gr_value.proofs.FieldsRead.{names, readable_push}
 
@@ -117,3 +117,17 @@ begun bytes text left most e =
 pub none_ascend : HasAscendingNames []
 unfolding IsStrictlySortedBy
 none_ascend = tt
+
+-- a field alone in braces, with its name, its scalar and what stands behind them
+pub lone_taken : (text inside rest number behind left : List ℕ) (field : Field) → text ≡ 123 ∷ inside
+    → inside ≡ quoted field.name ++ rest → rest ≡ 58 ∷ number → number ≡ scalar_text field.scalar ++ behind → behind ≡ 125 ∷ left
+    → text ≡ value_text (field ∷ []) ++ left
+lone_taken text inside rest number behind left field open_brace name colon scalar close_brace =
+    let taken : inside ≡ field_text field ++ behind =
+    name ∙ ap (λ left. quoted field.name ++ left) (colon ∙ ap (λ left. 58 ∷ left) scalar)
+    ∙ sym (append_assoc (quoted field.name) (58 ∷ scalar_text field.scalar) behind) in
+    braced_taken text inside behind left (field ∷ []) open_brace
+    (taken ∙ ap (λ front. front ++ behind) (sym (append-nil (field_text field)))) close_brace
+
+pub one_ascends : (field : Field) → HasAscendingNames (field ∷ [])
+one_ascends field = ascending 1 (field ∷ []) (omega arith) (λ k less. absurd (omega (arith, less)))

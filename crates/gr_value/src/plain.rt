@@ -1,9 +1,8 @@
 // A text that is just what its value prints is read without the JSON reader, which costs several
 // times as much. That is right since a value's text reads as that value: each call here shows that
 // what it took is the text of what it answers, and any other text is left to the JSON reader.
-ghost use Rattle.std.specs.Prelude.{◌≡◌, ◌≤◌, ◌++◌, length, flat_map, codes, decimal, IsTrue, IfSome, IfOk, ◌<◌, ◌^◌, ◌+◌, ◌∷◌};
+ghost use Rattle.std.specs.Prelude.{◌≡◌, ◌≤◌, ◌++◌, length, flat_map, codes, IsTrue, IfSome, IfOk};
 ghost use Rattle.std.specs.Bool.{MatchBool};
-ghost use Rattle.std.specs.Fmt.{signed_decimal};
 ghost use Rattle.std.specs.List.{AllByRecursion, join_by};
 ghost use Rattle.std.specs.Str.{is_utf8};
 ghost use Rattle.gr_value.specs.ValueText.{escaped, quoted, scalar_text, field_text, value_text};
@@ -11,6 +10,8 @@ ghost use Rattle.gr_value.specs.Values.{IsScalar, IsField, IsValue, HasAscending
 
 use crate::escapes::{escape_begun, plain_len, plain_moved};
 use crate::fields::Fields;
+use crate::lone::lone_number;
+use crate::numerals::number_begun;
 use crate::value::MOST_BYTES;
 use crate::{Field, Memory, Scalar, Text, Value};
 use std::alloc::Global;
@@ -47,39 +48,6 @@ fn further_fields(bytes: &[u8]) -> usize
         after_comma = *byte == b',';
     }
     count
-}
-
-/// Digits are read up to a number that is greater. The few numbers that go on then are left to the
-/// JSON reader.
-const GREAT: u64 = 100_000_000_000_000_000;
-
-// The digit that the bytes begin with, and what is left behind it.
-#[inline(always)]
-fn digit_begun(bytes: &[u8]) -> Option<(u64, &[u8])>
-    ensures { IfSome result (λ parts. (bytes.now ≡ (48 + parts.0) ∷ parts.1.now) × (parts.0 < 10)) }
-{
-    match bytes {
-        [digit, rest @ ..] if digit.is_ascii_digit() => Some((u64::from(*digit - b'0'), rest)),
-        _ => None,
-    }
-}
-
-// The number that a first digit and those behind it spell, and what is left.
-fn number_further(first: u64, bytes: &[u8]) -> (u64, &[u8])
-    requires some { 1 ≤ first }
-    requires few { first < 10 }
-    ensures text { decimal first ++ bytes.now ≡ decimal result.0 ++ result.1.now }
-    ensures range { (1 ≤ result.0) × (result.0 < 2 ^ 63) }
-{
-    let (mut number, mut rest) = (first, bytes);
-    'digits: while let Some((digit, behind)) = digit_begun(rest) {
-        if number > GREAT {
-            return (number, rest);
-        }
-        number = number * 10 + digit;
-        rest = behind;
-    }
-    (number, rest)
 }
 
 impl<'a> Cursor<'a> {
@@ -121,31 +89,12 @@ impl<'a> Cursor<'a> {
         Ok(self.take(b"\"").then_some(text))
     }
 
-    // Takes a number with no sign, whose first digit is 0 only if it is the only one.
-    #[tactic(auto, using(crate::proofs::Decimals::digit_alone))]
-    fn take_digits(&mut self) -> Option<u64>
-        ensures { IfSome result (λ number. (self.old ≡ decimal number ++ self.new) × (number < 2 ^ 63)) }
+    fn take_number(&mut self) -> Option<Scalar>
+        ensures { IfSome result (λ number. (self.old ≡ scalar_text number ++ self.new) × IsScalar number) }
     {
-        let (first, behind) = digit_begun(self.rest)?;
-        if first == 0 {
-            self.rest = behind;
-            return Some(0);
-        }
-        let (number, rest) = number_further(first, behind);
+        let (number, rest) = number_begun(self.rest)?;
         self.rest = rest;
         Some(number)
-    }
-
-    fn take_number(&mut self) -> Option<i64>
-        ensures { IfSome result (λ number. self.old ≡ signed_decimal number ++ self.new) }
-    {
-        if !self.take(b"-") {
-            return Some(self.take_digits()? as i64);
-        }
-        match self.take_digits()? {
-            0 => None,
-            number => Some(-(number as i64)),
-        }
     }
 
     fn take_text(&mut self, alloc: Global) -> Result<Option<Text>, Memory>
@@ -174,7 +123,7 @@ impl<'a> Cursor<'a> {
             Some(b'n') => Ok(self.take(b"null").then_some(Scalar::Null)),
             Some(b't') => Ok(self.take(b"true").then_some(Scalar::Bool(true))),
             Some(b'f') => Ok(self.take(b"false").then_some(Scalar::Bool(false))),
-            _ => Ok(self.take_number().map(Scalar::Int)),
+            _ => Ok(self.take_number()),
         }
     }
 
@@ -254,6 +203,10 @@ impl<'a> Cursor<'a> {
         ensures readable { IfOk result (λ found. IfSome found (λ fields.
             AllByRecursion IsField fields)) }
     {
+        if let Some((field, rest)) = lone_number(self.rest) {
+            self.rest = rest;
+            return Ok(Some(Fields::one(field)));
+        }
         if self.take(b"{}") {
             return Ok(Some(Fields::none(alloc)));
         }

@@ -73,6 +73,21 @@ impl Text {
         }
     }
 
+    /// The text of a few bytes of ASCII, which takes no memory.
+    #[inline(always)]
+    #[tactic(auto, using(crate::proofs::Utf8::ascii_is))]
+    pub(crate) fn of_few(bytes: &[u8]) -> Option<Text>
+        ensures { IfSome result (λ text. (text ≡ bytes.now) × IsTrue (is_utf8 text)) }
+    {
+        if !is_ascii(bytes) {
+            return None;
+        }
+        let near = Near::of_bytes(bytes)?;
+        Some(Text {
+            held: Held::Near(near),
+        })
+    }
+
     /// The text that these bytes are, if they are UTF-8.
     pub(crate) fn of_bytes(alloc: Global, bytes: &[u8]) -> Result<Option<Text>, Memory>
         ensures { IfOk result (λ found. IfSome found (λ text. (text ≡ bytes.now) × IsTrue (is_utf8 text))) }

@@ -1,6 +1,6 @@
 use Rattle.std.proofs.Common.{arith}
 use Rattle.gr_value.proofs.Decimals.{digit_taken}
-use Rattle.gr_value.proofs.plain.number_further.Goals as goal
+use Rattle.gr_value.proofs.numerals.number_further.Goals as goal
 
 pub digits-preserved : goal.digits-preserved
 digits-preserved c = record {

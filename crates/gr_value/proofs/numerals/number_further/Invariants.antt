@@ -1,5 +1,5 @@
 use Rattle.std.proofs.Common.{◌≡◌, ◌≤◌, ◌<◌, ◌^◌, ◌++◌, length, decimal}
-use Rattle.gr_value.proofs.plain.number_further.Given as goal
+use Rattle.gr_value.proofs.numerals.number_further.Given as goal
 
 abbrev pub invariant-digits : goal.invariant-digits
 invariant-digits l = record {
