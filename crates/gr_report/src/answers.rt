@@ -9,6 +9,7 @@ use gr_value::{Memory, Value};
 use std::alloc::Global;
 
 /// Puts the text of a reply last.
+#[inline(always)]
 pub fn put_reply(alloc: Global, out: &mut Vec<u8>, reply: &Reply) -> Result<(), Memory>
     ensures { OnOk result (out.new.items ≡ out.old.items ++ reply_text reply.now) }
 {

@@ -315,6 +315,7 @@ impl<'a> Past<'a> {
     }
 
     // Takes in the next line, which has this kind and this number first, behind the heading.
+    #[inline(always)]
     fn put(&mut self, kind: LineKind, first: u128, after: &'a [u8])
         requires late { 8 ≤ rank kind }
         requires narrow { first < 2 ^ 8 }

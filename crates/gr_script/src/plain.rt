@@ -123,6 +123,7 @@ fn key_of(alloc: Global, bytes: &[u8]) -> Result<Option<Key>, Memory>
 }
 
 // The value that all these bytes are printed for.
+#[inline(always)]
 fn value_of(alloc: Global, bytes: &[u8]) -> Result<Option<Value>, Memory>
     ensures { IfOk result (λ found. IfSome found (λ value. (bytes.now ≡ value_text value) × IsValue value)) }
 {

@@ -45,6 +45,7 @@ impl<T> ItemList<T> {
     }
 
     /// Puts one item last. Where memory is refused the item is dropped.
+    #[inline(always)]
     pub fn push(&mut self, item: T) -> Result<(), Memory>
     where
         T: Drop,

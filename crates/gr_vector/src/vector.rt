@@ -155,6 +155,7 @@ impl Vector {
     /// Holds the id from now on, and answers whether it wasn't held. A number that is the next of its
     /// member costs constant time. Another costs the logarithm of the number of ranges, and where it
     /// parts a range or fills one, the ranges behind it are moved.
+    #[inline(always)]
     pub fn note(&mut self, member: u8, rv: u64) -> Result<bool, Memory>
         requires a_member { 1 ≤ member }
         requires of_eight { member ≤ 8 }
