@@ -70,6 +70,7 @@ impl History {
     }
 
     /// Makes room for so many more deeds.
+    #[inline(always)]
     pub fn reserve(&mut self, more: usize) -> Result<(), Memory>
         ensures deeds { self.new.deeds ≡ self.old.deeds }
         ensures room { OnOk result (more ≤ self.new.spare) }
@@ -87,7 +88,8 @@ impl History {
         ensures used { self.old.spare ≤ self.new.spare + 1 }
     {
         let (discarded, repeated) = (deed.is_discarded(), deed.is_repeat());
-        self.deeds.push(deed)?;
+        self.deeds.reserve(1)?;
+        self.deeds.push_reserved(deed);
         self.discarded += u64::from(discarded);
         self.repeats += u64::from(repeated);
         Ok(())
