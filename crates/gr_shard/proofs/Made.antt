@@ -1,6 +1,6 @@
 -- What a call makes, and whom it goes to.
 use Rattle.std.proofs.Common.{◌≡◌, ◌∙◌, ap, sym, refl, ℕ, ◌+◌, ◌^◌, ◌<◌, ◌≤◌, List, Bool, true, false, if◌then◌else◌, nat_le, max, Option}
-use Rattle.std.proofs.Common.{Some, None, option_and_then, add-one, add-zero, arith, add_comm}
+use Rattle.std.proofs.Common.{Some, None, SomeIff, option_map, option_and_then, add-one, add-zero, arith, add_comm}
 use Rattle.std.proofs.lemmas.Bool.Decides.{nat_tests}
 use Rattle.gr_stamp.specs.declared.change.Change.{Change}
 use Rattle.gr_stamp.specs.declared.change.Kind.{Kind}
@@ -24,6 +24,7 @@ use Rattle.gr_history.specs.Floor.{floor}
 use Rattle.gr_history.specs.Recipients.{member_bits, recipients, is_ready}
 use Rattle.gr_history.specs.Calls.{ver_of, reach, last_rv, made_change, given, ready_gives, call_gives, nothing_made}
 use Rattle.gr_shard.specs.Entries.{slot_of, slot_ver, verdict_at}
+use Rattle.gr_shard.specs.Calls.{given_with}
 
 -- The bits of one member more: its own bit is there where the member passes the test.
 bits_at : (test : ℕ → Bool) (n bit : ℕ) → bit ≡ 2 ^ n → member_bits test (n + 1) ≡ member_bits test n + (if test (n + 1) then bit else 0)
@@ -157,6 +158,19 @@ pub spent_here : (id : Identity) (opening : ℕ) (past : List Deed) (key : List 
     → record { reply = Limit; made = None; to = 0 } ≡ given id opening past key reply (Some kind)
 spent_here id opening past key reply kind base made base_is made_is from to out =
     given-spent id opening past key reply kind (not_in_range id opening past key base made _ base_is made_is from to out refl)
+
+-- What a call gives, told by the stamp that there are numbers for.
+pub stamp_here : (id : Identity) (opening : ℕ) (past : List Deed) (key : List ℕ) (base made : ℕ) (found : Option Version)
+    → base ≡ max (ver_of (standing key past)) (floor opening past) → made ≡ top id.member (ids past)
+    → 1 ≤ id.member → id.member ≤ 8
+    → SomeIff found (IsInRange (base + 1) id.member (made + 1)) (record { ver = base + 1; member = id.member; rv = made + 1 })
+    → (reply : Reply) (kind : Kind)
+    → given_with (recipients id past) reply (option_map (λ stamp. record { key = key; kind = kind; stamp = stamp }) found)
+    ≡ given id opening past key reply (Some kind)
+stamp_here id opening past key base made None base_is made_is from to out reply kind =
+    spent_here id opening past key reply kind base made base_is made_is from to out
+stamp_here id opening past key base made (Some version) base_is made_is from to fits reply kind =
+    made_here id opening past key key reply kind version base made (recipients id past) base_is made_is refl refl (fits.0, sym fits.1)
 
 -- What a call made, where one made something.
 pub made_by_call : (id : Identity) (opening : ℕ) (past : List Deed) (ask : Ask) (reply : Reply) (change : Change) (to : ℕ)

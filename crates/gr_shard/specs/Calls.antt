@@ -1,9 +1,13 @@
 -- What is told of a call, and the deed that it adds.
-use Rattle.std.specs.Prelude.{ℕ, is_some}
+use Rattle.std.specs.Prelude.{ℕ, is_some, Option, None, Some}
+use Rattle.gr_stamp.specs.declared.change.Change.{Change}
 use Rattle.gr_history.specs.declared.ask.Ask.{Ask}
 use Rattle.gr_history.specs.declared.deed.Deed.{Deed}
 use Rattle.gr_history.specs.declared.deed.Deed.TheVariants.{Call}
 use Rattle.gr_history.specs.declared.done.Done.{Done}
+use Rattle.gr_history.specs.declared.reply.Reply.{Reply}
+use Rattle.gr_history.specs.declared.reply.Reply.TheVariants.{Limit}
+use Rattle.gr_history.specs.Calls.{nothing_made}
 use Rattle.gr_shard.specs.declared.served.Served.{Served}
 
 -- the reply, and whether a change was made
@@ -13,3 +17,8 @@ served done = record { reply = done.reply; made = is_some done.made }
 -- the deed of a client's call that gave this
 abbrev pub call_with : ℕ → ℕ → Ask → Done → Deed
 call_with client seq ask done = Call client done.to seq ask done.reply done.made
+
+-- What a call gives that makes this change, which goes to these members, or for which no number is left.
+abbrev pub given_with : ℕ → Reply → Option Change → Done
+given_with to reply None = nothing_made Limit
+given_with to reply (Some change) = record { reply = reply; made = Some change; to = to }

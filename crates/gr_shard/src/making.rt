@@ -1,16 +1,13 @@
-ghost use Rattle.std.specs.Prelude.{◌≡◌, ◌≤◌, [], IfOk, option_copied};
+ghost use Rattle.std.specs.Prelude.{◌≡◌, ◌≤◌, option_copied};
 ghost use Rattle.gr_history.specs.Recipients.{member_bits};
 ghost use Rattle.gr_history.specs.Calls.{nothing_made};
 ghost use Rattle.gr_shard.specs.Entries.{with_made};
 ghost use Rattle.gr_shard.specs.Gifts.{goes_to};
-ghost use Rattle.gr_shard.specs.Calls.{call_with, served};
+ghost use Rattle.gr_shard.specs.Calls.{call_with};
 
-use crate::served::Served;
 use gr_history::{Ask, Deed, Done, Identity, Reply};
 use gr_stamp::Change;
-use gr_value::{Copied, Memory};
 use gr_vector::Vector;
-use std::alloc::Global;
 
 // Whether a change goes to the member, where these were given something.
 fn is_recipient(id: Identity, given: &[bool; 8], member: u8) -> bool
@@ -69,25 +66,4 @@ pub fn deed_of(client: u8, seq: u32, ask: Ask, done: Done) -> Deed
         made: done.made,
         to: done.to,
     }
-}
-
-/// The same once more.
-pub fn copy_of(alloc: Global, done: &Done) -> Result<Done, Memory>
-    ensures { IfOk result (λ copy. copy ≡ done.now) }
-{
-    Ok(Done {
-        reply: done.reply.copy(alloc)?,
-        made: done.made.copy(alloc)?,
-        to: done.to,
-    })
-}
-
-/// What the client is told of it.
-pub fn served(alloc: Global, done: &Done) -> Result<Served, Memory>
-    ensures { IfOk result (λ told. told ≡ served done.now) }
-{
-    Ok(Served {
-        reply: done.reply.copy(alloc)?,
-        made: done.made.is_some(),
-    })
 }

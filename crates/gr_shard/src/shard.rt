@@ -4,8 +4,7 @@ ghost use Rattle.gr_value.specs.Shard.{shard_of};
 ghost use Rattle.gr_history.specs.declared.deed.Deed.TheVariants as deed;
 ghost use Rattle.gr_slots.specs.Slots.{slot_at};
 ghost use Rattle.gr_history.specs.Ids.{known};
-ghost use Rattle.gr_history.specs.Asks.{key_of};
-ghost use Rattle.gr_history.specs.Calls.{call_gives, given, ver_of};
+ghost use Rattle.gr_history.specs.Calls.{ver_of};
 ghost use Rattle.gr_history.specs.Lawful.{IsLawful, IsOfShard};
 ghost use Rattle.gr_history.specs.Standing.{standing, present};
 ghost use Rattle.gr_history.specs.Floor.{floor};
@@ -21,26 +20,24 @@ ghost use Rattle.gr_shard.specs.Merges.{IsGiftFor, IsImageFor};
 ghost use Rattle.gr_shard.specs.Records.{IsRecordOf};
 ghost use Rattle.gr_shard.specs.Sweeps.{stands_stable};
 ghost use Rattle.gr_shard.specs.View.{IsPlace};
-ghost use Rattle.gr_shard.specs.Calls.{call_with, served};
+
+mod calls;
 
 use crate::asking::{Replies, answer};
-use crate::entering::{applied, value_of, ver_of, verdict_at};
+use crate::entering::{applied, value_of, verdict_at};
 use crate::giving::{own_changes, standing};
-use crate::making::{copy_of, deed_of, note, nothing_made, recipients, served};
+use crate::making::{note, recipients};
 use crate::merging::merged;
 use crate::regions::region;
-use crate::served::Served;
 use crate::sweeping::{drop_all, risen};
 use crate::telling::{come_in, take_over};
-use crate::told::tells;
 use gr_cq::Registry;
 use gr_history::{
-    Ask, Deed, Done, Gift, History, Identity, Image, QueryAsk, QueryReply, Reply, ShardRecord,
-    Told, Verdict, What,
+    Deed, Gift, History, Identity, Image, QueryAsk, QueryReply, ShardRecord, Verdict, What,
 };
 use gr_slots::{Slot, Slots};
 use gr_stable::Heard;
-use gr_stamp::{Change, Kind, LIMIT, Stamp};
+use gr_stamp::Change;
 use gr_value::{Copied, Key, KeyList, Memory, Value};
 use gr_vector::{Report, SharedVector, Vector};
 use std::alloc::Global;
@@ -99,42 +96,6 @@ impl Shard {
             queries: Registry::new(alloc)?,
             history: History::new(alloc)?,
         })
-    }
-
-    /// Does a client's step and adds it to the history.
-    pub fn call(&mut self, alloc: Global, client: u8, seq: u32, ask: &Ask) -> Result<Done, Memory>
-        requires { shard_of (key_of ask.now) self.old.id.shards ≡ self.old.id.shard }
-        ensures given { IfOk result (λ done. done ≡ call_gives self.old.id self.old.opening (reverse self.old.deeds) ask.now) }
-        ensures added { IfOk result
-            (λ done. self.new ≡ record self.old {
-              deeds = self.old.deeds
-                  ++ deed.Call client done.to seq ask.now done.reply done.made ∷ [];
-            }) }
-        ensures err { OnErr result (self.new ≡ self.old) }
-    {
-        let done = self.gives(alloc, ask)?;
-        let given = copy_of(alloc, &done)?;
-        let asked = ask.copy(alloc)?;
-        self.add_call(alloc, client, seq, asked, done)?;
-        Ok(given)
-    }
-
-    /// Does a client's step as `call` does, of which it keeps what was asked, and answers what the
-    /// client is told alone.
-    pub fn serve(&mut self, alloc: Global, client: u8, seq: u32, ask: Ask) -> Result<Served, Memory>
-        requires { shard_of (key_of ask) self.old.id.shards ≡ self.old.id.shard }
-        ensures told { IfOk result (λ told. told ≡ served (call_gives self.old.id self.old.opening (reverse self.old.deeds) ask)) }
-        ensures added { OnOk result
-            (self.new ≡ record self.old {
-              deeds = self.old.deeds
-                  ++ call_with client seq ask (call_gives self.old.id self.old.opening (reverse self.old.deeds) ask) ∷ [];
-            }) }
-        ensures err { OnErr result (self.new ≡ self.old) }
-    {
-        let done = self.gives(alloc, &ask)?;
-        let told = served(alloc, &done)?;
-        self.add_call(alloc, client, seq, ask, done)?;
-        Ok(told)
     }
 
     /// Takes in a change that another member made, in whatever order and however often it comes, and
@@ -351,44 +312,6 @@ impl Shard {
         Ok(ShardRecord { history, region })
     }
 
-    // Adds a call that gives this now.
-    fn add_call(
-        &mut self,
-        alloc: Global,
-        client: u8,
-        seq: u32,
-        ask: Ask,
-        done: Done,
-    ) -> Result<(), Memory>
-        requires here { shard_of (key_of ask) self.old.id.shards ≡ self.old.id.shard }
-        requires gives { done ≡ call_gives self.old.id self.old.opening (reverse self.old.deeds) ask }
-        ensures added { OnOk result (self.new ≡ record self.old { deeds = self.old.deeds ++ call_with client seq ask done ∷ [] }) }
-        ensures err { OnErr result (self.new ≡ self.old) }
-    {
-        self.history.reserve(1)?;
-        self.vector.reserve()?;
-        let made = done.made.as_ref();
-        come_in(alloc, &mut self.slots, &mut self.queries, self.clock, made)?;
-        note(&mut self.vector, made);
-        let _ = self.history.push(deed_of(client, seq, ask, done));
-        Ok(())
-    }
-
-    // What the call gives now.
-    fn gives(&self, alloc: Global, ask: &Ask) -> Result<Done, Memory>
-        ensures { IfOk result (λ done. done ≡ call_gives self.now.id self.now.opening (reverse self.now.deeds) ask.now) }
-    {
-        if !self.ready() {
-            return Ok(nothing_made(Reply::NotReady));
-        }
-        let held = self.find(ask.key());
-        let Told { reply, change } = tells(alloc, ask, value_of(held))?;
-        match change {
-            None => Ok(nothing_made(reply)),
-            Some(kind) => self.makes(alloc, ask.key(), ver_of(held), reply, kind),
-        }
-    }
-
     // What is given now.
     fn gift(&self, alloc: Global, what: What) -> Result<Gift, Memory>
         ensures gift { IfOk result (IsGiftOf self.now.id.member self.now.opening (reverse self.now.deeds) what) }
@@ -463,31 +386,5 @@ impl Shard {
         ensures value { option_and_then (λ s. put_value s.kind) (option_copied result) ≡ present key.now (reverse self.now.deeds) }
     {
         self.slots.find(key)
-    }
-
-    // What the call gives where something is to change, and this version stands.
-    fn makes(
-        &self,
-        alloc: Global,
-        key: &Key,
-        ver: u64,
-        reply: Reply,
-        kind: Kind,
-    ) -> Result<Done, Memory>
-        requires stands { ver ≡ ver_of (standing key.now (reverse self.now.deeds)) }
-        requires within { ver ≤ LIMIT }
-        ensures { IfOk result (λ done. done ≡ given self.now.id self.now.opening (reverse self.now.deeds) key.now reply (Some kind)) }
-    {
-        let base = ver.max(self.floor);
-        let last = self.vector.top(self.id.member);
-        let Some(stamp) = Stamp::new(base + 1, self.id.member, last + 1) else {
-            return Ok(nothing_made(Reply::Limit));
-        };
-        let key = key.copy(alloc)?;
-        Ok(Done {
-            reply,
-            made: Some(Change { key, kind, stamp }),
-            to: self.to,
-        })
     }
 }

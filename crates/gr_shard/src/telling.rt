@@ -97,7 +97,27 @@ fn tell(queries: &mut Registry, foreseen: Option<Foreseen>)
     }
 }
 
-/// Sets what came in at this clock, if anything did, and tells the open queries.
+// Sets what came in at this clock, if anything did, and tells the open queries.
+#[inline(never)]
+fn come_in_told(
+    alloc: Global,
+    slots: &mut Slots,
+    queries: &mut Registry,
+    clock: u64,
+    came: Option<&Change>,
+) -> Result<(), Memory>
+    ensures slots { OnOk result (slots.new ≡ with_change (option_copied came.entry) clock slots.old) }
+    ensures told { OnOk result (queries.new.entries ≡ noted (turned_by_change slots.old (option_copied came.entry)) queries.old.entries) }
+    ensures slots_err { OnErr result (slots.new ≡ slots.old) }
+    ensures told_err { OnErr result (queries.new.entries ≡ queries.old.entries) }
+{
+    let foreseen = foresee_change(alloc, queries, slots, came)?;
+    enter(alloc, slots, clock, came)?;
+    tell(queries, foreseen);
+    Ok(())
+}
+
+/// The same, for which nothing is made ready where no query is open.
 #[inline(always)]
 pub fn come_in(
     alloc: Global,
@@ -112,12 +132,10 @@ pub fn come_in(
     ensures told_err { OnErr result (queries.new.entries ≡ queries.old.entries) }
 {
     if queries.is_empty() {
-        return enter(alloc, slots, clock, came);
+        enter(alloc, slots, clock, came)
+    } else {
+        come_in_told(alloc, slots, queries, clock, came)
     }
-    let foreseen = foresee_change(alloc, queries, slots, came)?;
-    enter(alloc, slots, clock, came)?;
-    tell(queries, foreseen);
-    Ok(())
 }
 
 /// Takes over slots in the place of those before and further ids, and tells the open queries.

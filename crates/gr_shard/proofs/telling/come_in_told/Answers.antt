@@ -2,7 +2,7 @@ use Rattle.std.proofs.Common.{◌∙◌, ap, option_copied}
 use Rattle.gr_cq.specs.Entries.{noted}
 use Rattle.gr_shard.specs.Telling.{turned_by_change}
 use Rattle.gr_shard.proofs.Turning.{is_ready, told_noted}
-use Rattle.gr_shard.proofs.telling.come_in.Goals as goal
+use Rattle.gr_shard.proofs.telling.come_in_told.Goals as goal
 
 pub tell-requires : goal.tell-requires
 tell-requires c =

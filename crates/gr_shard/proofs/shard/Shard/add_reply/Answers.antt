@@ -1,0 +1,27 @@
+use Rattle.std.proofs.Common.{◌≡◌, ◌∙◌, ap, None, [], ◌∷◌, ◌++◌, reverse}
+use Rattle.std.proofs.lemmas.List.{reverse-append}
+use Rattle.gr_value.specs.Shard.{shard_of}
+use Rattle.gr_history.specs.Asks.{key_of}
+use Rattle.gr_history.specs.Calls.{call_gives, nothing_made}
+use Rattle.gr_shard.specs.Calls.{call_with}
+use Rattle.gr_shard.specs.View.{kept}
+use Rattle.gr_shard.proofs.Pushed.{on_ok}
+use Rattle.gr_shard.proofs.Kept.{kept_called}
+use Rattle.gr_shard.proofs.Turning.{noted_nothing}
+use Rattle.gr_shard.proofs.shard.Shard.add_reply.Goals as goal
+
+pub invariant_of-self-2 : goal.invariant_of-self-2
+invariant_of-self-2 c =
+    let was = c.self.inside in
+    let past = reverse was.history.deeds in
+    let gives : nothing_made c.args.reply ≡ call_gives was.id was.opening past c.args.ask = rw (← c.self.view_is) at c.requires.gives in
+    let here : shard_of (key_of c.args.ask) was.id.shards ≡ was.id.shard = rw (← c.self.view_is) at c.requires.here in
+    let pushed : c.push.new.self.deeds ≡ was.history.deeds ++ call_with c.args.client c.args.seq c.args.ask (nothing_made c.args.reply) ∷ [] =
+    on_ok c.push.result (c.push.ensures.room c.in_ok-reserve.ensures.room) c.push.ensures.ok
+    ∙ ap (λ deeds. deeds ++ c.deed_of.result ∷ []) c.in_ok-reserve.ensures.deeds
+    ∙ ap (λ deed. was.history.deeds ++ deed ∷ [])
+    (c.deed_of.ensures ∙ ap (call_with c.args.client c.args.seq c.args.ask) c.nothing_made-done.ensures) in
+    rw (pushed, reverse-append, ← noted_nothing was.queries.entries)
+    (kept_called was.id was.opening (kept was.slots was.vector.ids was.floor was.clock was.joined was.to was.heard was.given
+    was.queries.entries) past
+    c.args.client c.args.seq c.args.ask c.args.reply None 0 c.self.invariant here gives)

@@ -1,0 +1,181 @@
+ghost use Rattle.std.specs.Prelude.{◌≡◌, ◌≤◌, ◌∷◌, [], ◌++◌, reverse, Some, IfOk, OnOk, OnErr, option_map};
+ghost use Rattle.gr_value.specs.Shard.{shard_of};
+ghost use Rattle.gr_history.specs.declared.deed.Deed.TheVariants as deed;
+ghost use Rattle.gr_history.specs.declared.reply.Reply.{Reply};
+ghost use Rattle.gr_stamp.specs.declared.change.Kind.{Kind};
+ghost use Rattle.gr_history.specs.Asks.{key_of};
+ghost use Rattle.gr_history.specs.Calls.{call_gives, given, nothing_made, ver_of};
+ghost use Rattle.gr_history.specs.Recipients.{recipients};
+ghost use Rattle.gr_history.specs.Standing.{standing};
+ghost use Rattle.gr_shard.specs.Calls.{call_with, given_with, served};
+
+use super::Shard;
+use crate::entering::{value_of, ver_of};
+use crate::making::{deed_of, note, nothing_made};
+use crate::served::Served;
+use crate::telling::come_in;
+use crate::told::tells;
+use gr_history::{Ask, Done, Reply, Told};
+use gr_stamp::{Change, Kind, LIMIT, Stamp};
+use gr_value::{Copied, Key, Memory};
+use std::alloc::Global;
+
+impl Shard {
+    /// Does a client's step and adds it to the history. What stands is looked up twice, and once by
+    /// `serve`.
+    pub fn call(&mut self, alloc: Global, client: u8, seq: u32, ask: &Ask) -> Result<Done, Memory>
+        requires { shard_of (key_of ask.now) self.old.id.shards ≡ self.old.id.shard }
+        ensures given { IfOk result (λ done. done ≡ call_gives self.old.id self.old.opening (reverse self.old.deeds) ask.now) }
+        ensures added { IfOk result
+            (λ done. self.new ≡ record self.old {
+              deeds = self.old.deeds
+                  ++ deed.Call client done.to seq ask.now done.reply done.made ∷ [];
+            }) }
+        ensures err { OnErr result (self.new ≡ self.old) }
+    {
+        let given = self.gives(alloc, ask)?;
+        let asked = ask.copy(alloc)?;
+        self.serve(alloc, client, seq, asked)?;
+        Ok(given)
+    }
+
+    /// Does a client's step as `call` does, of which it keeps what was asked, and answers what the
+    /// client is told alone.
+    pub fn serve(&mut self, alloc: Global, client: u8, seq: u32, ask: Ask) -> Result<Served, Memory>
+        requires { shard_of (key_of ask) self.old.id.shards ≡ self.old.id.shard }
+        ensures told { IfOk result (λ told. told ≡ served (call_gives self.old.id self.old.opening (reverse self.old.deeds) ask)) }
+        ensures added { OnOk result
+            (self.new ≡ record self.old {
+              deeds = self.old.deeds
+                  ++ call_with client seq ask (call_gives self.old.id self.old.opening (reverse self.old.deeds) ask) ∷ [];
+            }) }
+        ensures err { OnErr result (self.new ≡ self.old) }
+    {
+        if !self.ready() {
+            return self.add_reply(alloc, client, seq, ask, Reply::NotReady);
+        }
+        let held = self.find(ask.key());
+        // The version may stand in another line of memory than the value: both are fetched at once.
+        let ver = ver_of(held);
+        let Told { reply, change } = tells(alloc, &ask, value_of(held))?;
+        let Some(kind) = change else {
+            return self.add_reply(alloc, client, seq, ask, reply);
+        };
+        let Some(stamp) = self.next_stamp(ask.key(), ver) else {
+            return self.add_reply(alloc, client, seq, ask, Reply::Limit);
+        };
+        let key = ask.key().copy(alloc)?;
+        self.add_change(alloc, client, seq, ask, reply, Change { key, kind, stamp })
+    }
+
+    // Adds a call that gives this reply and nothing else now, and answers what the client is told. It
+    // stands apart from `add_change`, since a deed without a change takes far fewer moves.
+    #[inline(never)]
+    fn add_reply(
+        &mut self,
+        alloc: Global,
+        client: u8,
+        seq: u32,
+        ask: Ask,
+        reply: Reply,
+    ) -> Result<Served, Memory>
+        requires here { shard_of (key_of ask) self.old.id.shards ≡ self.old.id.shard }
+        requires gives { nothing_made reply ≡ call_gives self.old.id self.old.opening (reverse self.old.deeds) ask }
+        ensures told { IfOk result (λ told. told ≡ served (nothing_made reply)) }
+        ensures added { OnOk result
+            (self.new ≡ record self.old { deeds = self.old.deeds ++ call_with client seq ask (nothing_made reply) ∷ [] }) }
+        ensures err { OnErr result (self.new ≡ self.old) }
+    {
+        let told = reply.copy(alloc)?;
+        self.history.reserve(1)?;
+        let done = nothing_made(reply);
+        let _ = self.history.push(deed_of(client, seq, ask, done));
+        Ok(Served {
+            reply: told,
+            made: false,
+        })
+    }
+
+    // Adds a call that gives this reply and makes this change now, and answers what the client is told.
+    #[inline(always)]
+    fn add_change(
+        &mut self,
+        alloc: Global,
+        client: u8,
+        seq: u32,
+        ask: Ask,
+        reply: Reply,
+        change: Change,
+    ) -> Result<Served, Memory>
+        requires here { shard_of (key_of ask) self.old.id.shards ≡ self.old.id.shard }
+        requires gives { given_with (recipients self.old.id (reverse self.old.deeds)) reply (Some change)
+            ≡ call_gives self.old.id self.old.opening (reverse self.old.deeds) ask }
+        ensures told { IfOk result (λ told. told ≡ served (given_with (recipients self.old.id (reverse self.old.deeds)) reply (Some change))) }
+        ensures added { OnOk result
+            (self.new ≡ record self.old {
+              deeds = self.old.deeds
+                  ++ call_with client seq ask (given_with (recipients self.old.id (reverse self.old.deeds)) reply (Some change)) ∷ [];
+            }) }
+        ensures err { OnErr result (self.new ≡ self.old) }
+    {
+        let told = reply.copy(alloc)?;
+        self.history.reserve(1)?;
+        self.vector.reserve()?;
+        let made = Some(&change);
+        come_in(alloc, &mut self.slots, &mut self.queries, self.clock, made)?;
+        note(&mut self.vector, made);
+        let done = Done {
+            reply,
+            made: Some(change),
+            to: self.to,
+        };
+        let _ = self.history.push(deed_of(client, seq, ask, done));
+        Ok(Served {
+            reply: told,
+            made: true,
+        })
+    }
+
+    // What the call gives now.
+    fn gives(&self, alloc: Global, ask: &Ask) -> Result<Done, Memory>
+        ensures { IfOk result (λ done. done ≡ call_gives self.now.id self.now.opening (reverse self.now.deeds) ask.now) }
+    {
+        if !self.ready() {
+            return Ok(nothing_made(Reply::NotReady));
+        }
+        let held = self.find(ask.key());
+        let Told { reply, change } = tells(alloc, ask, value_of(held))?;
+        let Some(kind) = change else {
+            return Ok(nothing_made(reply));
+        };
+        let Some(stamp) = self.next_stamp(ask.key(), ver_of(held)) else {
+            return Ok(nothing_made(Reply::Limit));
+        };
+        let key = ask.key().copy(alloc)?;
+        Ok(self.given_with(reply, Change { key, kind, stamp }))
+    }
+
+    // The stamp of a change that is made where this version stands, if there are numbers for it.
+    fn next_stamp(&self, key: &Key, ver: u64) -> Option<Stamp>
+        requires stands { ver ≡ ver_of (standing key.now (reverse self.now.deeds)) }
+        requires within { ver ≤ LIMIT }
+        ensures { (reply : Reply) (kind : Kind) → given_with (recipients self.now.id (reverse self.now.deeds)) reply
+            (option_map (λ stamp. record { key = key.now; kind = kind; stamp = stamp }) result)
+            ≡ given self.now.id self.now.opening (reverse self.now.deeds) key.now reply (Some kind) }
+    {
+        let base = ver.max(self.floor);
+        let last = self.vector.top(self.id.member);
+        Stamp::new(base + 1, self.id.member, last + 1)
+    }
+
+    // What a call gives that makes this change.
+    fn given_with(&self, reply: Reply, change: Change) -> Done
+        ensures { result ≡ given_with (recipients self.now.id (reverse self.now.deeds)) reply (Some change) }
+    {
+        Done {
+            reply,
+            made: Some(change),
+            to: self.to,
+        }
+    }
+}
