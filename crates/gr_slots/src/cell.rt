@@ -4,13 +4,14 @@ ghost use Rattle.std.specs.List.{slice_get};
 use crate::Slot;
 use gr_value::Key;
 
-/// A key and what stands at it. The cells whose keys have one seat are a chain, in which each has the
+/// A key and what stands at it. What each look at a key needs stands first, since a cell may lie across
+/// two lines of memory. The cells whose keys have one seat are a chain, in which each has the
 /// place, plus 1, of the next older one, or 0.
 #[derive(Drop)]
 pub struct Cell {
     pub key: Key,
-    pub slot: Slot,
     pub next: u32,
+    pub slot: Slot,
 }
 
 /// The cell at a place.

@@ -31,11 +31,11 @@ impl Seats {
         }
     }
 
-    // Seats without chains, four for each key at least.
+    // Seats without chains, two for each key at least.
     fn wide(alloc: Global, keys: u32) -> Result<Seats, Memory>
         ensures { IfOk result (λ seats. (cells : List Cell) → AreLinked seats cells 0) }
     {
-        let size = keys.saturating_mul(4).max(FEWEST);
+        let size = keys.saturating_mul(2).max(FEWEST);
         Ok(Seats {
             size,
             heads: vec![in alloc; 0; size as usize]?,
@@ -72,11 +72,12 @@ impl Seats {
         }
     }
 
-    // Whether all cells are to be linked anew before there are so many: where a key has fewer than two
-    // seats, or where more cells left than a half of those that there are. Nothing rests on it but time.
+    // Whether all cells are to be linked anew before there are so many: where there would be fewer seats
+    // than keys, or where more cells left than a half of those that there are. Nothing rests on it but
+    // time.
     #[inline(always)]
     fn is_worn(&self, keys: u32) -> bool {
-        self.size / 2 < keys || self.left > keys as usize / 2
+        self.size < keys || self.left > keys as usize / 2
     }
 }
 

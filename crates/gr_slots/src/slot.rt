@@ -10,8 +10,8 @@ use std::alloc::Global;
 #[derive(Drop)]
 pub struct Slot {
     pub kind: Kind,
-    pub stamp: Stamp,
     pub taken_at: u64,
+    pub stamp: Stamp,
 }
 
 impl Slot {
