@@ -24,6 +24,7 @@ pub fn put_byte(out: &mut Vec<u8>, byte: u8) -> Result<(), Memory>
 }
 
 // Puts a number of two to six digits last, in one piece.
+#[inline(always)]
 fn put_short(out: &mut Vec<u8>, number: u32) -> Result<(), Memory>
     requires { (10 ≤ number) × (number < 1000000) }
     ensures { OnOk result (out.new.items ≡ out.old.items ++ decimal number) }

@@ -162,6 +162,7 @@ fn keyed(kind: LineKind, key: Key) -> Option<Act>
 }
 
 // What a client does at a line of this kind that has a key and a value.
+#[inline(always)]
 #[tactic(auto, using(crate::proofs::Plainly::put_spelled, crate::proofs::Plainly::absent_spelled, crate::proofs::Plainly::replace_spelled, crate::proofs::Plainly::remove_spelled))]
 fn valued(kind: LineKind, key: Key, value: Value) -> Option<Act>
     requires key { IsKey key }

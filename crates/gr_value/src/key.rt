@@ -228,6 +228,7 @@ impl Ord for Key {
 }
 
 impl Copied for Key {
+    #[inline(always)]
     fn copy(&self, _alloc: Global) -> Result<Key, Memory> {
         let held = match &self.held {
             Held::Near(near) => Held::Near(near.copy()),

@@ -1,5 +1,5 @@
-// Most values have one field, with a number and a short name of ASCII. Such a value is read at once from
-// the text that it prints, which takes no memory.
+// A value of one field, with a number and a short name of ASCII, is read at once from the text that it
+// prints, which takes no memory.
 ghost use Rattle.std.specs.Prelude.{◌≡◌, ◌∷◌, ◌++◌, [], IsTrue, IfSome};
 ghost use Rattle.std.specs.Str.{is_utf8};
 ghost use Rattle.gr_value.specs.ValueText.{quoted, value_text};

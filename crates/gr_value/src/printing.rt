@@ -123,6 +123,7 @@ fn put_scalar(alloc: Global, scalar: &Scalar, out: &mut Vec<u8>) -> Result<(), M
     Ok(())
 }
 
+#[inline(always)]
 #[tactic(auto, using(crate::proofs::Kept::kept_more, crate::proofs::Kept::kept_same))]
 fn put_field(alloc: Global, field: &Field, out: &mut Vec<u8>) -> Result<(), Memory>
     ensures ok { OnOk result (out.new.items ≡ out.old.items ++ field_text field.now) }

@@ -141,6 +141,7 @@ impl Vector {
     }
 
     /// Makes room for one id, whichever it is.
+    #[inline(always)]
     pub fn reserve(&mut self) -> Result<(), Memory>
         ensures room { OnOk result (self.new ≡ record { ids = self.old.ids; spare = 1 }) }
         ensures err { OnErr result (self.new ≡ self.old) }
