@@ -8,27 +8,17 @@ use Rattle.gr_lex.specs.Layout.{IsLaidOut}
 use Rattle.gr_lex.specs.Faults as lexical
 use Rattle.gr_oql.specs.declared.fault.OqlFault.{OqlFault}
 use Rattle.gr_oql.specs.declared.fault.OqlFault.TheVariants as fault
-use Rattle.gr_oql.specs.Question.{Asked, Question}
+use Rattle.gr_oql.specs.Question.{Question}
 use Rattle.gr_oql.specs.Terminals.{Terminal, terminals_of}
-use Rattle.gr_oql.specs.Reader.Reading.{Reading, query_at}
+use Rattle.gr_oql.specs.Reader.Reading.{query_at}
 use Rattle.gr_oql.specs.Reader.Answers.{answer, answer_of_tokens, Answers}
 use Rattle.gr_oql.specs.Reader.Asking.{asked, question}
 use Rattle.gr_oql.specs.declared.clauses.Clauses.{Clauses}
 use Rattle.gr_oql.specs.Grammar.{Spells, most_depth}
 use Rattle.gr_oql.specs.FirstFault.{IsFault}
+use Rattle.gr_oql.proofs.Asking.{answer_spelled, spelled_answered}
 use Rattle.gr_oql.proofs.SoundQuery.{query_sound}
-use Rattle.gr_oql.proofs.CompleteQuery.{query_complete}
 use Rattle.gr_oql.proofs.FaultTexts.{answered, fault_there}
-
-same_question : {x y : Question} → ◌≡◌ {A = Result Question OqlFault} (Ok x) (Ok y) → x ≡ y
-same_question is = cc
-
-answer_spelled : (text : List ℕ) (tokens : List Token) (read : Reading Asked) (q : Question) → IsLaidOut text 0 tokens
-    → read ≡ query_at (terminals_of text tokens) → answer text tokens read ≡ Ok q → Spells text q
-answer_spelled text tokens (Ok x) q laid is read =
-    let sound = query_sound most_depth (terminals_of text tokens) x.0 x.1 (sym is) in
-    subst (Spells text) (same_question read) (tokens, laid, refl, sound.1)
-answer_spelled text tokens (Err e) q laid is read = absurd (cc)
 
 -- what the code keeps of what it read
 pub clauses_spelled : (text : List ℕ) (tokens : List Token) (s : Clauses) (left : List Terminal) → IsLaidOut text 0 tokens
@@ -76,10 +66,7 @@ module _ (text : List ℕ) (lexed : Result (List Token) LexFault) (result : Resu
   pub only : ((ts : List Token) → IsLaidOut text 0 ts → (lexed ≡ Ok ts) ⊎ (lexed ≡ Err lex.Memory)) → (q : Question) → Spells text q
       → (result ≡ Ok q) ⊎ (result ≡ Err fault.Memory)
   only lexes q is =
-      let read = query_complete most_depth (terminals_of text is.0) q.asked is.3 in
-      let there : answer text is.0 (query_at (terminals_of text is.0)) ≡ Ok q =
-      rw read (ap (λ (l : List ℕ). Ok (record { text = l; asked = q.asked })) (sym is.2)) in
-      known (Ok is.0) (Ok q) there (lexes is.0 is.1)
+      known (Ok is.0) (Ok q) (spelled_answered text q is) (lexes is.0 is.1)
 
   -- a text with such a fault has that answer
   pub only_fault : ((ts : List Token) → IsLaidOut text 0 ts → (lexed ≡ Ok ts) ⊎ (lexed ≡ Err lex.Memory))

@@ -21,3 +21,4 @@ pub mod StaysQuery
 pub mod FirstFaults
 pub mod FaultRanks
 pub mod FaultTexts
+pub mod Asking

@@ -10,5 +10,6 @@ pub mod Words
 pub mod Terminals
 pub mod Grammar
 pub mod FirstFault
+pub mod Questions
 -- how the code reads and matches, which private clauses alone cite
 pub mod Reader

@@ -10,6 +10,7 @@ mod event;
 mod fault;
 mod halt;
 mod keyword;
+mod laws;
 mod lexeme;
 mod like;
 mod matching;
@@ -19,5 +20,6 @@ mod truth;
 
 pub use event::{BaseOp, Event, EventList, QueryOp, Turned, classify};
 pub use fault::{OqlFault, Part};
+pub use laws::texts_ask_by_the_grammar;
 pub use query::Query;
 pub use truth::Truth;

@@ -34,7 +34,8 @@ use Rattle.gr_script.specs.Fields.{len_of, is_filled}
 use Rattle.gr_script.specs.Forms.{word}
 use Rattle.gr_script.specs.Halts.{◌>>=◌, unless}
 use Rattle.gr_script.specs.Items.{number_at, within, number_in, stated_client, dotted_numbers, most_clients, item_at}
-use Rattle.gr_script.specs.Items.{key_from, value_from, question_of, query_from, own_query, query_at}
+use Rattle.gr_oql.specs.Questions.{question_of}
+use Rattle.gr_script.specs.Items.{key_from, value_from, query_from, own_query, query_at}
 use Rattle.gr_script.specs.Pieces.{piece_len}
 use Rattle.gr_script.specs.Printing.{field_text}
 use Rattle.gr_script.specs.Rules.{IsWithin, is_region}

@@ -16,8 +16,8 @@ use Rattle.gr_lex.specs.declared.token.TokenKind.TheVariants as kind
 use Rattle.gr_oql.specs.Grammar.{Spells}
 use Rattle.gr_oql.specs.Question.{Question}
 use Rattle.gr_script.specs.Cuts.{ends_with}
-use Rattle.gr_script.specs.Items.{question_of}
-use Rattle.gr_script.proofs.Questions.{question_spelled}
+use Rattle.gr_oql.specs.Questions.{question_of}
+use Rattle.gr_oql.proofs.Asking.{only}
 use Rattle.gr_script.proofs.PrintedTexts.{no_end, ends_append, ends_back}
 
 letter_is_word_byte : (byte : ℕ) → is_letter byte ≡ true → is_word_byte byte ≡ true
@@ -84,5 +84,5 @@ nothing_asked : (query : Question) → question_of [] ≡ Ok query → ⊥
 nothing_asked query e = cc
 
 pub query_some : (text : List ℕ) (query : Question) → Spells text query → 0 < length text
-query_some [] query is = absurd (nothing_asked query (question_spelled [] query is))
+query_some [] query is = absurd (nothing_asked query (only [] query is))
 query_some (first ∷ rest) query is = omega arith

@@ -13,6 +13,7 @@ use Rattle.gr_lex.specs.Reader.Reading.{tokens_of}
 use Rattle.gr_lex.specs.declared.fault.LexFault.{LexFault}
 use Rattle.gr_lex.specs.declared.token.Token.{Token}
 use Rattle.gr_oql.specs.Question.{Asked, Question}
+use Rattle.gr_oql.specs.Questions.{question_of}
 use Rattle.gr_oql.specs.Reader.Answers.{answer, answer_of_tokens}
 use Rattle.gr_oql.specs.Reader.Reading.{Reading, query_at as query_at_tokens}
 use Rattle.gr_oql.specs.Terminals.{terminals_of}
@@ -26,7 +27,7 @@ use Rattle.gr_script.specs.declared.reason.Reason.TheVariants as reason
 use Rattle.gr_script.specs.Cuts.{is_space, ends_with, without_return, after_spaces, before_spaces, text_said}
 use Rattle.gr_script.specs.Fields.{len_of, piece, left}
 use Rattle.gr_script.specs.Halts.{◌>>=◌, unless}
-use Rattle.gr_script.specs.Items.{dotted_numbers, stated_client, item_at, items_at, question_of, query_from, query_at, text_at}
+use Rattle.gr_script.specs.Items.{dotted_numbers, stated_client, item_at, items_at, query_from, query_at, text_at}
 use Rattle.gr_script.specs.Rests.{begins_spaced, IsRest}
 use Rattle.gr_script.specs.Suiting.{IsRestItem, AreRests}
 use Rattle.gr_script.specs.Texts.{IsLine, cut, lines_of}

@@ -8,9 +8,8 @@ use Rattle.gr_value.specs.declared.value.Field.{Field}
 use Rattle.gr_value.specs.KeyBytes.{key_fault}
 use Rattle.gr_value.specs.ValueReading.{read_value}
 use Rattle.gr_oql.specs.declared.fault.OqlFault.{OqlFault}
-use Rattle.gr_lex.specs.Reader.Reading.{tokens_of}
-use Rattle.gr_oql.specs.Reader.Answers.{answer_of_tokens}
 use Rattle.gr_oql.specs.Question.{Question}
+use Rattle.gr_oql.specs.Questions.{question_of}
 use Rattle.gr_script.specs.declared.forms.FieldKind.{FieldKind}
 use Rattle.gr_script.specs.declared.forms.FieldKind.TheVariants as field
 use Rattle.gr_script.specs.declared.items.Item.{Item}
@@ -69,10 +68,6 @@ value_from (Err fault) = Err (value_reason fault)
 
 abbrev pub value_at : List ℕ → Result (List Field) Reason
 value_at text = value_from (read_value text)
-
--- what a text asks, or its first fault
-abbrev pub question_of : List ℕ → Result Question OqlFault
-question_of text = answer_of_tokens text (tokens_of text)
 
 abbrev pub query_from : Result Question OqlFault → Result Question Reason
 query_from (Ok query) = Ok query

@@ -3,7 +3,8 @@ ghost use Rattle.std.specs.Bool.{OnTrue};
 ghost use Rattle.gr_script.specs.Halts.{Yields};
 ghost use Rattle.gr_script.specs.Suiting.{IsClient};
 ghost use Rattle.gr_script.specs.Items.{number_at, within, number_in, stated_client, dotted_numbers, key_at, value_at, is_own, text_at};
-ghost use Rattle.gr_script.specs.Items.{query_from, question_of, own_query, query_at, region_at, number_item, item_at, items_at};
+ghost use Rattle.gr_oql.specs.Questions.{question_of};
+ghost use Rattle.gr_script.specs.Items.{query_from, own_query, query_at, region_at, number_item, item_at, items_at};
 ghost use Rattle.gr_script.specs.Texts.{cut};
 
 use crate::forms::FieldKind;
