@@ -9,7 +9,8 @@ use gr_value::Memory;
 use std::alloc::Global;
 
 /// The text of a record: what each client was told, what stands at each member, and on demand all
-/// that happened at each shard.
+/// that happened at each shard. Where shards share a key, which no script leaves, the row of the last of
+/// them is told, and `entries` counts each.
 pub fn report(alloc: Global, record_of: &Record, histories: bool) -> Result<Vec<u8>, Memory>
     ensures { IfOk result (λ text. text.items ≡ record_text histories record_of.now) }
 {

@@ -41,7 +41,8 @@ fn put_members_line(out: &mut Vec<u8>, equal: bool) -> Result<(), Memory>
 
 /// The summary of a drill that was run: the number it was drawn from and its steps, how many steps of
 /// each kind its script has, how many entries of clients' own stand at member 1 and what their numbers
-/// sum up to, and whether the same stands at all members.
+/// sum up to, and whether the same stands at all members. Member 1 is the first of the record, whatever
+/// number it has there; where shards share a key, each of its rows counts.
 pub fn summary(
     alloc: Global,
     start: u32,

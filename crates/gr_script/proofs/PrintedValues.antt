@@ -1,7 +1,7 @@
 -- The piece of a line that a value is, is the whole text that the value prints.
 use Rattle.std.proofs.Common.{◌≡◌, ℕ, ◌+◌, ◌/◌, ◌%◌, ◌<◌, ◌≤◌, arith, pos, negsuc, suc, List, [], ◌∷◌, ◌++◌, length, Bool, true}
 use Rattle.std.proofs.Common.{false}
-use Rattle.std.proofs.Common.{cond, not, eqb, ltb, nat_lt, Some, None, decimal, refl, sym, ap, ◌∙◌, subst, append_assoc}
+use Rattle.std.proofs.Common.{cond, eqb, ltb, nat_lt, Some, None, decimal, refl, sym, ap, ◌∙◌, subst, append_assoc}
 use Rattle.std.proofs.Common.{length-append}
 use Rattle.std.proofs.lemmas.Bool.{and_parts, ne_eqb, lt-ltb, ltb-true, ltb-false}
 use Rattle.std.specs.Char.{digit_char, is_ascii_digit}
@@ -13,10 +13,10 @@ use Rattle.gr_value.specs.declared.scalar.Scalar.TheVariants.{Null, Bool as Trut
 use Rattle.gr_value.specs.declared.value.Field.{Field}
 use Rattle.gr_value.specs.ValueText.{escaped, quoted, scalar_text, field_text, value_text}
 use Rattle.gr_value.specs.Values.{IsScalar, IsField, IsValue}
-use Rattle.gr_script.specs.declared.piece.Nesting.{Nesting}
 use Rattle.gr_script.specs.declared.piece.Place.{Place}
 use Rattle.gr_script.specs.declared.piece.Place.TheVariants.{Outside, Quoted, Escaped}
 use Rattle.gr_script.specs.Pieces.{nesting_of, behind, depths, closing, piece_len}
+use Rattle.gr_script.proofs.Braces.{is_open, depths_length}
 use Rattle.gr_script.proofs.PrintedNumbers.{decimal_spells}
 
 -- From the one place the bytes lead to the other, and one brace is open all the way.
@@ -116,19 +116,12 @@ braced (field ∷ fields) = refl
 
 -- ---- where the first brace is closed
 
-abbrev is_open : ℕ → Bool
-is_open depth = not (eqb depth 0)
-
 open_on : (from to : Place) (text rest : List ℕ) → Leads from text to
     → prefix_len is_open (depths (nesting_of 1 from) (text ++ rest)) ≡ length text + prefix_len is_open (depths (nesting_of 1 to) rest)
 open_on from to [] rest leads = ap (λ place. prefix_len is_open (depths (nesting_of 1 place) rest)) leads ∙ omega arith
 open_on from to (byte ∷ text) rest (next, step, leads) =
     ap (λ after. prefix_len is_open (after.depth ∷ depths after (text ++ rest))) step
     ∙ ap (λ n. 1 + n) (open_on next to text rest leads) ∙ omega arith
-
-depths_length : (before : Nesting) (text : List ℕ) → length (depths before text) ≡ length text
-depths_length before [] = refl
-depths_length before (byte ∷ text) = omega (arith, depths_length (behind before byte) text)
 
 closed_at : (text rest : List ℕ) → Leads Outside text Outside
     → closing (nesting_of 0 Outside) (123 ∷ (text ++ 125 ∷ rest)) ≡ Some (1 + length text)

@@ -1,5 +1,5 @@
 -- A text asks what it spells, and has the fault that the grammar of queries gives it.
-use Rattle.std.proofs.Common.{◌≡◌, List, ℕ, Ok, Err, inl, inr, ap}
+use Rattle.std.proofs.Common.{◌≡◌, List, ℕ, Ok, inl, inr, ap}
 use Rattle.std.specs.Prelude.{◌⊎◌}
 use Rattle.gr_oql.proofs.Asking.{only, only_fault}
 use Rattle.gr_oql.specs.declared.fault.OqlFault.{OqlFault}

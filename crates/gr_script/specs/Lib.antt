@@ -1,3 +1,4 @@
+pub mod Braces
 pub mod Cuts
 pub mod Drill
 pub mod Fields

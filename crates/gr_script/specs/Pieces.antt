@@ -37,7 +37,8 @@ abbrev pub begins_braced : List ℕ → Bool
 begins_braced [] = false
 begins_braced (first ∷ _) = first == 0x7B
 
--- How many bytes the piece has that a value is: up to the brace that closes its first one, or all.
+-- How many bytes the piece has that a value is: up to the brace that closes its first one, or all. Said by braces in
+-- balance it is a law, `values_end_with_their_brace`.
 abbrev pub piece_len : List ℕ → ℕ
 piece_len text =
     if begins_braced text then option_map_or (λ place. place + 1) (closing (nesting_of 0 Outside) text) (length text)

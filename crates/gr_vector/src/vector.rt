@@ -2,7 +2,7 @@ ghost use Rattle.std.specs.Prelude.{◌≡◌, ◌≤◌, ◌<◌, ◌||◌, ◌
 ghost use Rattle.gr_vector.specs.declared.gap.TheConstants.{END};
 ghost use Rattle.gr_vector.specs.Gaps.{Missing, holds};
 ghost use Rattle.gr_vector.specs.Ids.{Id, has_id, top, covers, exceptions};
-ghost use Rattle.gr_vector.specs.Order.{with_id, united};
+ghost use Rattle.gr_vector.specs.Order.{with_id, united, IsSorted};
 ghost use Rattle.gr_vector.specs.Views.{is_held};
 
 use crate::gap::END;
@@ -183,6 +183,15 @@ impl Vector {
         self.members = unite_each(alloc, &self.members, &other.members)?;
         self.spare = 0;
         Ok(())
+    }
+
+    /// The ids stand by member, and of one member the greatest number first, each once: so vectors that
+    /// hold the same ids are seen as one list.
+    #[tactic(auto, using(crate::proofs::Views::ids_sorted))]
+    pub fn has_ids_in_order(&self)
+        ensures { IsSorted self.now.ids }
+    {
+        let _ = &self.members;
     }
 
     /// The same ids. The copy has no room to spare.
