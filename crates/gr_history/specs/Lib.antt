@@ -12,6 +12,7 @@ pub mod Queries
 pub mod QueryRows
 pub mod Recipients
 pub mod Regions
+pub mod Room
 pub mod Rows
 pub mod Stable
 pub mod Standing

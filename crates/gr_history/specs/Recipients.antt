@@ -1,5 +1,5 @@
 -- Which members are ready, and whom a change goes to.
-use Rattle.std.specs.Prelude.{ℕ, zero, suc, ◌+◌, ◌^◌, List, [], ◌∷◌, Bool, true, false, ◌&&◌, ◌||◌, ◌==◌, not, nat_le, if◌then◌else◌}
+use Rattle.std.specs.Prelude.{ℕ, zero, suc, ◌+◌, ◌^◌, ◌≤◌, ◌<◌, List, [], ◌∷◌, Bool, true, false, ◌&&◌, ◌||◌, ◌==◌, not, nat_le, if◌then◌else◌}
 use Rattle.gr_history.specs.declared.identity.Identity.{Identity}
 use Rattle.gr_history.specs.declared.deed.Deed.{Deed}
 use Rattle.gr_history.specs.declared.deed.Deed.TheVariants.{Call, Asked, Taken, Gave, Imaged, Reported, Heard, Swept}
@@ -43,3 +43,14 @@ member_bits test (suc n) = member_bits test n + (if test (suc n) then 2 ^ n else
 
 unfoldable pub recipients : Identity → List Deed → ℕ
 recipients id past = member_bits (is_recipient id past) 8
+
+-- A deed names members of 1 to `members` alone: a gift goes to one of them, and a change to some of them.
+abbrev pub NamesMembers : Identity → Deed → Type 0
+NamesMembers id (Call client to seq ask reply made) = to < 2 ^ id.members
+NamesMembers id (Asked client seq ask reply) = Unit {0}
+NamesMembers id (Taken change verdict) = Unit {0}
+NamesMembers id (Gave to what) = (1 ≤ to) × (to ≤ id.members)
+NamesMembers id (Imaged image) = Unit {0}
+NamesMembers id (Reported report) = Unit {0}
+NamesMembers id (Heard report) = Unit {0}
+NamesMembers id (Swept moment expired) = Unit {0}

@@ -1,13 +1,14 @@
 -- A record with one more deed keeps its integrity.
 use Rattle.std.proofs.Common.{suc, ◌≡◌, ◌⊎◌, ℕ, ◌≤◌, ◌<◌, List, [], ◌∷◌, Bool, true, false, ◌==◌, refl, sym, subst, inl, inr, arith}
 use Rattle.std.proofs.Common.{if◌then◌else◌}
-use Rattle.std.specs.Prelude.{length, nat_le}
+use Rattle.std.specs.Prelude.{length, map, nat_le}
 use Rattle.std.proofs.lemmas.Bool.Decides.{nat_tests}
 use Rattle.gr_stamp.specs.declared.change.Change.{Change}
 use Rattle.gr_history.specs.declared.image.Image.{Image}
 use Rattle.gr_history.specs.declared.deed.Deed.{Deed}
 use Rattle.gr_history.specs.declared.deed.Deed.TheVariants.{Call, Asked, Taken, Gave, Imaged, Reported, Heard, Swept}
 use Rattle.gr_history.specs.Made.{made, made_at}
+use Rattle.gr_history.specs.Room.{bare}
 use Rattle.gr_law.specs.Grids.{Among, Older, Grid, identity, at_place}
 use Rattle.gr_law.specs.Integrity.{giver_of, IsMade, IsGenuine, IsGenuineDeed, IsImagedOnce, IsHeardDeed, AreHeard, IsWhole}
 use Rattle.gr_law.specs.Integrity.{IsGift}
@@ -37,7 +38,8 @@ still_heard grid m deed (Imaged image) h = tt
 still_heard grid m deed (Reported report) h = tt
 still_heard grid m deed (Heard report) h = at_test (report.member == m)
   where
-    at_test : (b : Bool) → Among (Reported report) (if b then deed ∷ grid.history report.member else grid.history report.member)
+    at_test : (b : Bool)
+        → Among (bare (Reported report)) (map bare (if b then deed ∷ grid.history report.member else grid.history report.member))
     at_test true = inr h
     at_test false = h
 still_heard grid m deed (Swept moment named) h = tt

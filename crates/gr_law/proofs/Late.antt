@@ -1,7 +1,7 @@
 -- Law 2: what comes in after a tombstone of its key expired beats that tombstone.
 use Rattle.std.proofs.Common.{◌+◌, zero, suc, ◌-◌, ◌≡◌, ◌⊎◌, ℕ, ◌≤◌, ◌<◌, List, [], ◌∷◌, Bool, true, false, ◌&&◌, ◌||◌, ◌==◌, refl, sym}
 use Rattle.std.proofs.Common.{ap, ◌∙◌, subst, inl, inr, ⊎_elim, arith, max, if◌then◌else◌}
-use Rattle.std.specs.Prelude.{Option, Some, None, nat_le}
+use Rattle.std.specs.Prelude.{Option, Some, None, map, nat_le}
 use Rattle.std.specs.List.{filter_map}
 use Rattle.std.proofs.lemmas.Bool.Decides.{nat_tests}
 use Rattle.std.proofs.lemmas.Slice.Eq.{bytes_eq-Decides}
@@ -23,6 +23,7 @@ use Rattle.gr_law.specs.Grids.{identity, Among, Older, Grid}
 use Rattle.gr_law.specs.Integrity.{IsMade, IsGenuine, IsSound, IsWhole, IsHeardDeed, AreHeard}
 use Rattle.gr_history.specs.Lawful.{IsLawful, IsLawfulDeed}
 use Rattle.gr_history.specs.Gifts.{IsReportOf}
+use Rattle.gr_history.specs.Room.{IsSameReport, bare}
 use Rattle.gr_law.specs.Laws.{IsLate, law_2}
 use Rattle.gr_law.proofs.Lists.{and_left, and_right, cases_le, known_ids, among_either, covers-has, either}
 use Rattle.gr_law.proofs.Winners.{ver-beats, bytes_eq-itself}
@@ -177,7 +178,7 @@ last_among i (Heard one ∷ past) report h =
 last_among i (Swept moment named ∷ past) report h = let s = last_among i past report h in (inr s.0, s.1)
 
 heard_made : (grid : Grid) (h : List Deed) → AreHeard grid h → (report : Report) → Among (Heard report) h
-    → Among (Reported report) (grid.history report.member)
+    → Among (bare (Reported report)) (map bare (grid.history report.member))
 heard_made grid [] all report a = absurd a
 heard_made grid (deed ∷ past) all report (inl is) = subst (IsHeardDeed grid) (sym is) all.0
 heard_made grid (deed ∷ past) all report (inr a) = heard_made grid past all.1 report a
@@ -187,12 +188,34 @@ older_heard grid q [] o h = rw o h
 older_heard grid q (first ∷ past) (inl is) h = rw is h
 older_heard grid q (first ∷ past) (inr o) h = older_heard grid q past o h.1
 
+-- A report that says the same as one that is lawful tells of that place too.
+same_report : (me : ℕ) (past : List Deed) (made report : Report) → IsReportOf me past made → IsSameReport report made
+    → IsReportOf me past report
+same_report me past made report law same = record {
+  member_is = ap (λ (r : Report). r.member) same ∙ law.member_is;
+  at_is = ap (λ (r : Report). r.at) same ∙ law.at_is;
+  own_is = ap (λ (r : Report). r.own) same ∙ law.own_is;
+  vector_is = ap (λ (r : Report). r.vector.ids) same ∙ law.vector_is;
+}
+
+reported_same : (id : Identity) (opening : ℕ) (deed : Deed) (past : List Deed) (report : Report) → IsLawfulDeed id opening deed past
+    → bare (Reported report) ≡ bare deed → IsReportOf id.member past report
+reported_same id opening (Call client to seq ask reply own) past report law same = absurd cc
+reported_same id opening (Asked client seq ask reply) past report law same = absurd cc
+reported_same id opening (Taken change how) past report law same = absurd cc
+reported_same id opening (Gave to what) past report law same = absurd cc
+reported_same id opening (Imaged image) past report law same = absurd cc
+reported_same id opening (Reported made_) past report law same = same_report id.member past made_ report law cc
+reported_same id opening (Heard one) past report law same = absurd cc
+reported_same id opening (Swept moment named) past report law same = absurd cc
+
 -- the place of a report
-reported_at : (id : Identity) (opening : ℕ) (h : List Deed) → IsLawful id opening h → (report : Report) → Among (Reported report) h
+reported_at : (id : Identity) (opening : ℕ) (h : List Deed) → IsLawful id opening h → (report : Report)
+    → Among (bare (Reported report)) (map bare h)
     → (past : List Deed) × Older past h × IsReportOf id.member past report
 reported_at id opening [] law report a = absurd a
 reported_at id opening (deed ∷ past) law report (inl is) =
-    (past, inr (older_itself past), (subst (λ d. IsLawfulDeed id opening d past) (sym is) law.0))
+    (past, inr (older_itself past), reported_same id opening deed past report law.0 is)
 reported_at id opening (deed ∷ past) law report (inr a) =
     let s = reported_at id opening past law.1 report a in (s.0, inr s.1, s.2)
 
@@ -209,8 +232,8 @@ seen_at : (grid : Grid) → IsWhole grid → (past : List Deed) → AreHeard gri
 seen_at grid whole past heard i id None e h = absurd (true_isnt_false (sym h))
 seen_at grid whole past heard i id (Some report) e h =
     let l = last_among i past report e in
-    let a : Among (Reported report) (grid.history i) =
-    subst (λ k. Among (Reported report) (grid.history k)) l.1 (heard_made grid past heard report l.0) in
+    let a : Among (bare (Reported report)) (map bare (grid.history i)) =
+    subst (λ k. Among (bare (Reported report)) (map bare (grid.history k))) l.1 (heard_made grid past heard report l.0) in
     let r = reported_at (identity grid i) (grid.opening i) (grid.history i) (whole.sound.lawful i) report a in
     let is : IsReportOf i r.0 report = r.2 in
     record {

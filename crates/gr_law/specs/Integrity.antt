@@ -1,5 +1,5 @@
 -- Integrity: what was taken in was made, what was merged was given, and what was heard was reported.
-use Rattle.std.specs.Prelude.{◌≡◌, ◌⊎◌, ◌≤◌, ◌<◌, ◌∷◌, [], ℕ, List}
+use Rattle.std.specs.Prelude.{◌≡◌, ◌⊎◌, ◌≤◌, ◌<◌, ◌∷◌, [], ℕ, List, map}
 use Rattle.gr_stamp.specs.declared.change.Change.{Change}
 use Rattle.gr_history.specs.declared.image.Image.{Image}
 use Rattle.gr_history.specs.declared.deed.Deed.{Deed}
@@ -7,6 +7,7 @@ use Rattle.gr_history.specs.declared.deed.Deed.TheVariants.{Taken, Gave, Imaged,
 use Rattle.gr_history.specs.Made.{made}
 use Rattle.gr_history.specs.Gifts.{IsImageOf}
 use Rattle.gr_history.specs.Lawful.{IsLawful}
+use Rattle.gr_history.specs.Room.{bare}
 use Rattle.gr_law.specs.Grids.{Among, Older, at_place, Grid, identity}
 use Rattle.gr_history.specs.declared.image.What.TheVariants as what
 
@@ -45,9 +46,9 @@ IsImagedOnce [] = Unit {0}
 IsImagedOnce (Imaged image ∷ past) = HasNoImage past
 IsImagedOnce (_ ∷ past) = IsImagedOnce past
 
--- a heard report was made
+-- A heard report was made: a deed of its member reported the same. How much room a vector has to spare is no part of that.
 abbrev pub IsHeardDeed : Grid → Deed → Type 0
-IsHeardDeed grid (Heard report) = Among (Reported report) (grid.history report.member)
+IsHeardDeed grid (Heard report) = Among (bare (Reported report)) (map bare (grid.history report.member))
 IsHeardDeed grid _ = Unit {0}
 
 abbrev pub AreHeard : Grid → List Deed → Type 0
