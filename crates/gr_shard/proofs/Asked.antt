@@ -32,7 +32,7 @@ pub kept_answered : (id : Identity) (opening : ℕ) (now : Kept) (past : List De
     → IsKept id opening (record now { queries = served client ask now.queries }) (Asked client seq ask reply ∷ past)
 unfolding recipients
 kept_answered id opening now past client seq ask reply kept is =
-    kept_on id opening now (Asked client seq ask reply) past kept refl is kept.of_shard
+    kept_on id opening now (Asked client seq ask reply) past kept refl is kept.of_shard tt
     now.slots (stands_unchanged now.slots (Asked client seq ask reply) past (λ key. refl) kept.stands)
     now.vector kept.noted now.heard (kept.told ∙ sym (heard_next (Asked client seq ask reply) past))
     (served client ask now.queries) (served_in_step client seq ask reply past now.queries kept.in_step is)

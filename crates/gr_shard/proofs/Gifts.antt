@@ -92,6 +92,7 @@ kept_new id opening to place aimed =
       place = place;
       lawful = tt;
       of_shard = tt;
+      named = tt;
       stands = λ key. refl;
       noted = refl;
       floored = refl;
@@ -107,11 +108,12 @@ kept_new id opening to place aimed =
 
 module _ (id : Identity) (opening : ℕ) (now : Kept) (past : List Deed) where
   -- Kept before a gift, all is kept after it.
-  pub kept_gave : (to : ℕ) (what : What) → IsKept id opening now past → 1 ≤ to → to ≤ 8
+  pub kept_gave : (to : ℕ) (what : What) → IsKept id opening now past → 1 ≤ to → to ≤ id.members
       → IsKept id opening
       (record now { given = set now.given (to - 1) true; to = member_bits (goes_to id (set now.given (to - 1) true)) 8 })
       (Gave to what ∷ past)
-  kept_gave to what kept from most =
+  kept_gave to what kept from stated =
+      let most : to ≤ 8 = omega (arith, stated, kept.place.few) in
       let gifts : (member : ℕ) → 1 ≤ member → member ≤ 8
       → is_given (set now.given (to - 1) true) member ≡ gave_to member (Gave to what ∷ past) =
       λ member some eighth. given_more now.given to member past what kept.eight from most some (kept.gifts member some eighth) in
@@ -119,6 +121,7 @@ module _ (id : Identity) (opening : ℕ) (now : Kept) (past : List Deed) where
         place = kept.place;
         lawful = (tt, kept.lawful);
         of_shard = kept.of_shard;
+        named = ((from, stated), kept.named);
         stands = stands_unchanged now.slots (Gave to what) past (λ key. refl) kept.stands;
         noted = kept.noted;
         floored = kept.floored;

@@ -35,6 +35,7 @@ use Rattle.gr_shard.specs.View.{IsKept, Kept}
 use Rattle.gr_shard.proofs.Made.{IsMade, made_by_call}
 use Rattle.gr_shard.specs.Telling.{turned_by_change}
 use Rattle.gr_shard.proofs.KeptOn.{kept_on}
+use Rattle.gr_shard.proofs.Named.{call_below}
 use Rattle.gr_shard.proofs.Turning.{told_in_step, value-slot_at}
 use Rattle.gr_shard.proofs.Slots.{stands_unchanged, stands_with, stands_after, stands_still}
 
@@ -143,6 +144,7 @@ module _ (id : Identity) (opening : ℕ) (now : Kept) (past : List Deed) where
   unfolding recipients
   kept_called client seq ask reply None to kept here gives =
       kept_on id opening now (Call client to seq ask reply None) past kept refl gives kept.of_shard
+      (call_below id opening past ask kept.place.founded kept.named reply None to gives)
       now.slots (slots_called id opening now past client seq ask reply None to kept gives)
       now.vector kept.noted now.heard (kept.told ∙ sym (heard_next (Call client to seq ask reply None) past))
       (noted [] now.queries)
@@ -152,6 +154,7 @@ module _ (id : Identity) (opening : ℕ) (now : Kept) (past : List Deed) where
       let is = made_by_call id opening past ask reply change to gives in
       kept_on id opening now (Call client to seq ask reply (Some change)) past kept refl gives
       (ap (λ k. shard_of k id.shards) is.key_is ∙ here, kept.of_shard)
+      (call_below id opening past ask kept.place.founded kept.named reply (Some change) to gives)
       (with_change (Some change) now.clock now.slots)
       (slots_called id opening now past client seq ask reply (Some change) to kept gives)
       (with_id (id_of change) now.vector) (ap (with_id (id_of change)) kept.noted)
@@ -172,7 +175,7 @@ module _ (id : Identity) (opening : ℕ) (now : Kept) (past : List Deed) where
       (Taken change told ∷ past)
   unfolding recipients
   kept_taken change told kept here is =
-      kept_on id opening now (Taken change told) past kept refl is (of_shard_taken id past change told here kept.of_shard)
+      kept_on id opening now (Taken change told) past kept refl is (of_shard_taken id past change told here kept.of_shard) tt
       (with_change (applied told change) now.clock now.slots) (slots_taken id opening now past change told kept is)
       (with_id (id_of change) now.vector) (ap (with_id (id_of change)) kept.noted)
       now.heard (kept.told ∙ sym (heard_next (Taken change told) past))

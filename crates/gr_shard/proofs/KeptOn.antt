@@ -7,7 +7,7 @@ use Rattle.gr_history.specs.Clock.{clock}
 use Rattle.gr_history.specs.Floor.{floor}
 use Rattle.gr_history.specs.Ids.{known}
 use Rattle.gr_history.specs.Lawful.{IsLawfulDeed, IsOfShard}
-use Rattle.gr_history.specs.Recipients.{gave_to, has_image, recipients}
+use Rattle.gr_history.specs.Recipients.{NamesMembers, gave_to, has_image, recipients}
 use Rattle.gr_slots.specs.Slots.{Entries}
 use Rattle.gr_stable.specs.Heard.{Reports, heard}
 use Rattle.gr_vector.specs.Ids.{Id}
@@ -34,14 +34,15 @@ said id opening past = record {
 
 pub kept_on : (id : Identity) (opening : ℕ) (now : Kept) (deed : Deed) (past : List Deed) → IsKept id opening now past
     → said id opening (deed ∷ past) ≡ said id opening past
-    → IsLawfulDeed id opening deed past → IsOfShard id (deed ∷ past)
+    → IsLawfulDeed id opening deed past → IsOfShard id (deed ∷ past) → NamesMembers id deed
     → (slots : Entries) → Hold slots (deed ∷ past) → (vector : List Id) → vector ≡ known (deed ∷ past)
     → (reports : Reports) → reports ≡ heard (deed ∷ past) → (queries : List Entry) → IsInStep queries (deed ∷ past)
     → IsKept id opening (record now { slots = slots; vector = vector; heard = reports; queries = queries }) (deed ∷ past)
-kept_on id opening now deed past kept same is here slots stands vector noted reports told queries in_step = record {
+kept_on id opening now deed past kept same is here names slots stands vector noted reports told queries in_step = record {
   place = kept.place;
   lawful = (is, kept.lawful);
   of_shard = here;
+  named = (names, kept.named);
   stands = stands;
   noted = noted;
   floored = kept.floored ∙ sym (ap (λ (s : Said). s.floor_is) same);

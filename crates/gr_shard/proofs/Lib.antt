@@ -5,6 +5,7 @@ pub mod KeptOn
 pub mod Left
 pub mod Made
 pub mod Merges
+pub mod Named
 pub mod Ordered
 pub mod Pushed
 pub mod Puts

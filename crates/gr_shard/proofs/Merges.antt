@@ -471,6 +471,7 @@ module _ (id : Identity) (opening : ℕ) (now : Kept) (past : List Deed) where
     place = kept.place;
     lawful = (fits.in_order, kept.lawful);
     of_shard = of_shard_rows id (λ row. not (has_id (id_of row) (ids past))) image.rows (changes past) fits.of_shard kept.of_shard;
+    named = (tt, kept.named);
     stands = stands;
     noted = ap (λ ids_. united ids_ image.vector.ids) kept.noted ∙ sym (united-append [] image.vector.ids (ids past));
     floored = ap (max image.floor) kept.floored;

@@ -19,7 +19,7 @@ module _ (id : Identity) (opening : ℕ) (now : Kept) (past : List Deed) where
       → IsKept id opening now (Reported report ∷ past)
   unfolding recipients
   kept_reported report kept is =
-      kept_on id opening now (Reported report) past kept refl is kept.of_shard
+      kept_on id opening now (Reported report) past kept refl is kept.of_shard tt
       now.slots (stands_unchanged now.slots (Reported report) past (λ key. refl) kept.stands)
       now.vector kept.noted now.heard (kept.told ∙ sym (heard_next (Reported report) past))
       now.queries
@@ -29,7 +29,7 @@ module _ (id : Identity) (opening : ℕ) (now : Kept) (past : List Deed) where
       → IsKept id opening (record now { heard = with_report report now.heard }) (Heard report ∷ past)
   unfolding recipients
   kept_heard report kept =
-      kept_on id opening now (Heard report) past kept refl tt kept.of_shard
+      kept_on id opening now (Heard report) past kept refl tt kept.of_shard tt
       now.slots (stands_unchanged now.slots (Heard report) past (λ key. refl) kept.stands)
       now.vector kept.noted
       (with_report report now.heard) (ap (with_report report) kept.told ∙ sym (heard_next (Heard report) past))

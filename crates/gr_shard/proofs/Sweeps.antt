@@ -259,6 +259,7 @@ module _ (id : Identity) (opening moment : ℕ) (now : Kept) (past : List Deed) 
     place = kept.place;
     lawful = (is, kept.lawful);
     of_shard = kept.of_shard;
+    named = (tt, kept.named);
     stands = stands_swept now.slots moment expired past ordered kept.stands;
     noted = kept.noted;
     floored =

@@ -23,9 +23,9 @@ pub record IsImageFor (id : Identity) (image : Image) : Type 0 where
   pub of_shard : AllByRecursion (λ row. shard_of row.key id.shards ≡ id.shard) image.rows
   pub low : image.floor ≤ LIMIT
 
--- What a shard of this number is given: an image that it may merge, with no room to spare, or changes of its keys.
+-- What a shard of this number is given: an image that it may merge, or changes of its keys.
 abbrev pub IsGiftFor : Identity → Gift → Type 0
-IsGiftFor id (gift.Image image) = IsImageFor id image × (image.vector.spare ≡ 0)
+IsGiftFor id (gift.Image image) = IsImageFor id image
 IsGiftFor id (gift.Own changes) = AllByRecursion (λ change. shard_of change.key id.shards ≡ id.shard) changes
 
 -- what is left of a row and what stood at its key, by the row's verdict

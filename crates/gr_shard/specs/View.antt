@@ -1,5 +1,6 @@
 -- A shard as contracts see it, and how what it keeps is tied to its history.
 use Rattle.std.specs.Prelude.{◌≡◌, ℕ, ◌≤◌, ◌<◌, List, Bool, length}
+use Rattle.std.specs.List.{AllByRecursion}
 use Rattle.gr_stamp.specs.declared.stamp.TheConstants.{LIMIT}
 use Rattle.gr_history.specs.declared.identity.Identity.{Identity}
 use Rattle.gr_history.specs.declared.deed.Deed.{Deed}
@@ -8,7 +9,7 @@ use Rattle.gr_history.specs.Ids.{known}
 use Rattle.gr_history.specs.Standing.{standing}
 use Rattle.gr_history.specs.Floor.{floor as floor_of}
 use Rattle.gr_history.specs.Clock.{clock as clock_of, since}
-use Rattle.gr_history.specs.Recipients.{gave_to, has_image, recipients}
+use Rattle.gr_history.specs.Recipients.{NamesMembers, gave_to, has_image, recipients}
 use Rattle.gr_history.specs.Lawful.{IsLawful, IsOfShard}
 use Rattle.gr_cq.specs.Entries.{Entry}
 use Rattle.gr_slots.specs.Slots.{Entries, slot_at}
@@ -63,11 +64,12 @@ kept slots vector floor clock joined to heard given queries = record {
   queries = queries;
 }
 
--- What is kept is what the history says, which is lawful and of this shard's keys.
+-- What is kept is what the history says, which is lawful, of this shard's keys, and names members of 1 to `members` alone.
 pub record IsKept (id : Identity) (opening : ℕ) (now : Kept) (past : List Deed) : Type 0 where
   pub place : IsPlace id opening
   pub lawful : IsLawful id opening past
   pub of_shard : IsOfShard id past
+  pub named : AllByRecursion (NamesMembers id) past
   pub stands : (key : List ℕ) → slot_at key now.slots ≡ slot_of (standing key past) (since key past)
   pub noted : now.vector ≡ known past
   pub floored : now.floor ≡ floor_of opening past

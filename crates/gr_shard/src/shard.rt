@@ -10,7 +10,9 @@ ghost use Rattle.gr_history.specs.Standing.{standing, present};
 ghost use Rattle.gr_history.specs.Floor.{floor};
 ghost use Rattle.gr_history.specs.Clock.{since};
 ghost use Rattle.gr_history.specs.Verdicts.{verdict};
-ghost use Rattle.gr_history.specs.Recipients.{is_ready};
+ghost use Rattle.gr_history.specs.Recipients.{NamesMembers, is_ready};
+ghost use Rattle.std.specs.List.{AllByRecursion};
+ghost use Rattle.gr_history.specs.Room.{HasNoRoom};
 ghost use Rattle.gr_history.specs.Queries.{query_gives};
 ghost use Rattle.gr_history.specs.Gifts.{IsGiftOf, IsImageOf, IsReportOf};
 ghost use Rattle.gr_stamp.specs.Winner.{put_value};
@@ -189,6 +191,7 @@ impl Shard {
         requires stated { to ≤ self.old.id.members }
         ensures gift { IfOk result (IsGiftOf self.old.id.member self.old.opening (reverse self.old.deeds) what) }
         ensures fits { IfOk result (IsGiftFor self.old.id) }
+        ensures room { IfOk result HasNoRoom }
         ensures added { OnOk result (self.new ≡ record self.old { deeds = self.old.deeds ++ deed.Gave to what ∷ [] }) }
         ensures err { OnErr result (self.new ≡ self.old) }
     {
@@ -282,6 +285,7 @@ impl Shard {
         ensures deeds { result.now.deeds ≡ self.now.deeds }
         ensures lawful { IsLawful self.now.id self.now.opening (reverse self.now.deeds) }
         ensures of_shard { IsOfShard self.now.id (reverse self.now.deeds) }
+        ensures named { AllByRecursion (NamesMembers self.now.id) (reverse self.now.deeds) }
     {
         &self.history
     }
@@ -316,6 +320,7 @@ impl Shard {
     fn gift(&self, alloc: Global, what: What) -> Result<Gift, Memory>
         ensures gift { IfOk result (IsGiftOf self.now.id.member self.now.opening (reverse self.now.deeds) what) }
         ensures fits { IfOk result (IsGiftFor self.now.id) }
+        ensures room { IfOk result HasNoRoom }
     {
         match what {
             What::Image => Ok(Gift::Image(self.image(alloc)?)),

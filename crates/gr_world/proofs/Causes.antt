@@ -1,7 +1,7 @@
 -- What is done is lawful, and what is taken in and heard was made before.
 use Rattle.std.proofs.Common.{zero, suc, ◌≡◌, ℕ, ◌<◌, List, [], ◌∷◌, Bool, true, false, ◌&&◌, ◌==◌, refl, sym, ap, ◌∙◌, subst, inl, inr}
 use Rattle.std.proofs.Common.{arith, length, if◌then◌else◌}
-use Rattle.std.specs.Prelude.{Option, Some, None}
+use Rattle.std.specs.Prelude.{Option, Some, None, map}
 use Rattle.gr_value.specs.Shard.{shard_of}
 use Rattle.gr_stamp.specs.declared.change.Change.{Change}
 use Rattle.gr_vector.specs.declared.report.Report.{Report}
@@ -10,6 +10,7 @@ use Rattle.gr_history.specs.declared.deed.Deed.TheVariants.{Call, Asked, Taken, 
 use Rattle.gr_history.specs.Asks.{key_of}
 use Rattle.gr_history.specs.Made.{made, made_at}
 use Rattle.gr_history.specs.Lawful.{IsLawful, IsLawfulDeed, AreInOrder}
+use Rattle.gr_history.specs.Room.{bare}
 use Rattle.gr_law.specs.Grids.{Among, identity}
 use Rattle.gr_law.specs.Integrity.{IsMade, HasNoImage, IsGift, IsWhole}
 use Rattle.gr_law.proofs.Lists.{among_left}
@@ -31,7 +32,7 @@ May heading m s before (Gives to what) = Unit {0}
 May heading m s before (Merges image) = (heading.founders < m) × IsGift (grid_at heading s before) m image
     × HasNoImage (history m s before) × AreInOrder image.rows
 May heading m s before Reports = Unit {0}
-May heading m s before (Hears report) = Among (Reported report) (history report.member s before)
+May heading m s before (Hears report) = Among (bare (Reported report)) (map bare (history report.member s before))
 May heading m s before (Sweeps moment) = Unit {0}
 May heading m s before (Asks client number ask) = m ≡ home_of heading client
 
@@ -149,6 +150,12 @@ numbered_among number (first ∷ older) report e = at_test (suc (length older) =
     at_test true next e = let k : first ≡ report = cc in inl (sym k)
     at_test false next e = inr (next e)
 
+-- a deed is among the others, room to spare apart
+among_bare : (deed : Deed) (past : List Deed) → Among deed past → Among (bare deed) (map bare past)
+among_bare deed [] a = absurd a
+among_bare deed (one ∷ past) (inl is) = inl (ap bare is)
+among_bare deed (one ∷ past) (inr a) = inr (among_bare deed past a)
+
 reported_by : (id : _) (opening : ℕ) (past : List Deed) (report : Report) → IsLawful id opening past → Among (Reported report) past
     → report.member ≡ id.member
 reported_by id opening [] report law a = absurd a
@@ -169,7 +176,8 @@ hears_causal heading member of number shard now is h = at_report (numbered numbe
         let who : report.member ≡ of =
         reported_by (identity (grid_at heading shard now) of) heading.floor _ report (whole.sound.lawful of) made_is in
         does_causal heading member shard (Hears report) now is
-        (subst (λ i. Among (Reported report) (history i shard now)) (sym who) made_is) h
+        (among_bare (Reported report) (history report.member shard now)
+        (subst (λ i. Among (Reported report) (history i shard now)) (sym who) made_is)) h
 
 pub delivers_causal : (heading : Heading) (member client number : ℕ) (before : List Event) → IsMember heading member
     → IsCausal heading before

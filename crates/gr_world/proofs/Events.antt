@@ -6,7 +6,7 @@ use Rattle.std.proofs.lemmas.Bool.Decides.{nat_tests}
 use Rattle.gr_stamp.specs.declared.change.Change.{Change}
 use Rattle.gr_stamp.specs.declared.change.Kind.{Kind}
 use Rattle.gr_stamp.specs.declared.stamp.TheConstants.{LIMIT}
-use Rattle.gr_vector.specs.Ids.{Id, Ids, top}
+use Rattle.gr_vector.specs.Ids.{Id, top}
 use Rattle.gr_vector.specs.declared.report.Report.{Report}
 use Rattle.gr_history.specs.declared.ask.Ask.{Ask}
 use Rattle.gr_history.specs.declared.reply.Reply.{Reply}
@@ -22,6 +22,7 @@ use Rattle.gr_history.specs.Ids.{ids, known}
 use Rattle.gr_history.specs.Made.{made, made_at}
 use Rattle.gr_history.specs.Gifts.{IsReportOf}
 use Rattle.gr_history.specs.Lawful.{IsLawfulDeed}
+use Rattle.gr_history.specs.Room.{IsSameDeed, IsSameReport, bare}
 use Rattle.gr_history.specs.Standing.{present}
 use Rattle.gr_law.specs.Grids.{Among}
 use Rattle.gr_law.specs.Integrity.{HasNoImage}
@@ -141,36 +142,41 @@ gives_key id opening past ask change h = at_test (is_ready id past) h
         no : None ≡ Some change → ⊥
         no e = cc
 
-report_is : (me : ℕ) (past : List Deed) (report : Report) → IsReportOf me past report → report.vector.spare ≡ 0
-    → report ≡ report_of me past
-report_is me past report is bare =
-    named report.member me report.at (length past) report.own (top me (ids past)) report.vector.ids (known past) report.vector.spare 0
-    is.member_is is.at_is is.own_is is.vector_is bare
+report_is : (me : ℕ) (past : List Deed) (report : Report) → IsReportOf me past report → IsSameReport report (report_of me past)
+report_is me past report is =
+    named report.member me report.at (length past) report.own (top me (ids past)) report.vector.ids (known past)
+    is.member_is is.at_is is.own_is is.vector_is
   where
-    vector : List Id → ℕ → Ids
-    vector v n = record { ids = v; spare = n }
+    told_with : ℕ → ℕ → ℕ → List Id → Report
+    told_with a b c v = record { member = a; at = b; own = c; vector = record { ids = v; spare = 0 } }
 
-    told_with : ℕ → ℕ → ℕ → Ids → Report
-    told_with a b c v = record { member = a; at = b; own = c; vector = v }
+    named : (a b c d e f : ℕ) (v w : List Id) → a ≡ b → c ≡ d → e ≡ f → v ≡ w → told_with a c e v ≡ told_with b d f w
+    named a b c d e f v w h i j k = cc
 
-    named : (a b c d e f : ℕ) (v w : List Id) (m n : ℕ) → a ≡ b → c ≡ d → e ≡ f → v ≡ w → m ≡ n
-        → told_with a c e (vector v m) ≡ told_with b d f (vector w n)
-    named a b c d e f v w m n h i j k l = cc
+-- deeds that are the same say the same
+same_deed : (one two : Deed) → one ≡ two → IsSameDeed one two
+same_deed one two is = ap bare is
 
--- Each thing that is done has one lawful deed.
+-- Each thing that is done has one lawful deed, room to spare apart.
 pub one_deed : (id : Identity) (opening : ℕ) (past : List Deed) (deed : Deed) (doing : Doing) → Says deed doing
     → IsLawfulDeed id opening deed past
-    → deed ≡ deed_of id opening past doing
+    → IsSameDeed deed (deed_of id opening past doing)
 one_deed id opening past (Call client to number ask reply made) doing says law =
-    subst (λ d. Call client to number ask reply made ≡ deed_of id opening past d) (sym says) (ap (call_with client number ask) law)
+    subst (λ d. IsSameDeed (Call client to number ask reply made) (deed_of id opening past d)) (sym says)
+    (same_deed _ _ (ap (call_with client number ask) law))
 one_deed id opening past (Asked client number ask reply) doing says law =
-    subst (λ d. Asked client number ask reply ≡ deed_of id opening past d) (sym says) (ap (Asked client number ask) law)
+    subst (λ d. IsSameDeed (Asked client number ask reply) (deed_of id opening past d)) (sym says)
+    (same_deed _ _ (ap (Asked client number ask) law))
 one_deed id opening past (Taken change how) doing says law =
-    subst (λ d. Taken change how ≡ deed_of id opening past d) (sym says) (ap (Taken change) law)
-one_deed id opening past (Gave to what) doing says law = subst (λ d. Gave to what ≡ deed_of id opening past d) (sym says) refl
-one_deed id opening past (Imaged image) doing says law = subst (λ d. Imaged image ≡ deed_of id opening past d) (sym says) refl
+    subst (λ d. IsSameDeed (Taken change how) (deed_of id opening past d)) (sym says) (same_deed _ _ (ap (Taken change) law))
+one_deed id opening past (Gave to what) doing says law =
+    subst (λ d. IsSameDeed (Gave to what) (deed_of id opening past d)) (sym says) refl
+one_deed id opening past (Imaged image) doing says law =
+    subst (λ d. IsSameDeed (Imaged image) (deed_of id opening past d)) (sym says) refl
 one_deed id opening past (Reported report) doing says law =
-    subst (λ d. Reported report ≡ deed_of id opening past d) (sym says.0) (ap Reported (report_is id.member past report law says.1))
-one_deed id opening past (Heard report) doing says law = subst (λ d. Heard report ≡ deed_of id opening past d) (sym says) refl
+    subst (λ d. IsSameDeed (Reported report) (deed_of id opening past d)) (sym says)
+    (ap Reported (report_is id.member past report law))
+one_deed id opening past (Heard report) doing says law =
+    subst (λ d. IsSameDeed (Heard report) (deed_of id opening past d)) (sym says) refl
 one_deed id opening past (Swept moment keys) doing says law =
-    subst (λ d. Swept moment keys ≡ deed_of id opening past d) (sym says) (ap (Swept moment) law)
+    subst (λ d. IsSameDeed (Swept moment keys) (deed_of id opening past d)) (sym says) (same_deed _ _ (ap (Swept moment) law))

@@ -5,7 +5,6 @@ use Rattle.std.proofs.lemmas.List.{reverse-reverse}
 use Rattle.gr_value.specs.Shard.{shard_of}
 use Rattle.gr_stamp.specs.declared.change.Change.{Change}
 use Rattle.gr_history.specs.declared.deed.Deed.{Deed}
-use Rattle.gr_history.specs.declared.identity.Identity.{Identity}
 use Rattle.gr_history.specs.declared.image.Gift.{Gift}
 use Rattle.gr_history.specs.declared.image.Gift.TheVariants as gift
 use Rattle.gr_history.specs.declared.image.Image.{Image}
@@ -15,6 +14,7 @@ use Rattle.gr_vector.specs.Ids.{Id}
 use Rattle.gr_history.specs.Gifts.{IsGiftOf, IsImageOf, own_changes}
 use Rattle.gr_history.specs.Ids.{known}
 use Rattle.gr_history.specs.Regions.{all_standing}
+use Rattle.gr_history.specs.Room.{HasNoRoom}
 use Rattle.gr_shard.specs.Merges.{IsGiftFor}
 use Rattle.gr_script.specs.Rules.{Heading, IsMember}
 use Rattle.gr_world.specs.declared.world.World.{World}
@@ -75,19 +75,19 @@ image_is member opening past image is spare =
     ∙ ap (λ x. image_with member (length past) rows ids x image.floor) spare
     ∙ ap (image_with member (length past) rows ids 0) is.floor_is
 
-gift_is : (id : Identity) (member opening : ℕ) (past : List Deed) (what_ : What) (given : Gift)
-    → IsGiftOf member opening past what_ given → IsGiftFor id given → given ≡ gift_of member opening past what_
+gift_is : (member opening : ℕ) (past : List Deed) (what_ : What) (given : Gift)
+    → IsGiftOf member opening past what_ given → HasNoRoom given → given ≡ gift_of member opening past what_
 unfolding gift_of
-gift_is id member opening past what.Image (gift.Image image) is fits = ap gift.Image (image_is member opening past image is fits.1)
-gift_is id member opening past what.Image (gift.Own changes) is fits = absurd is
-gift_is id member opening past what.Own (gift.Image image) is fits = absurd is
-gift_is id member opening past what.Own (gift.Own changes) is fits = ap gift.Own is
+gift_is member opening past what.Image (gift.Image image) is room = ap gift.Image (image_is member opening past image is room)
+gift_is member opening past what.Image (gift.Own changes) is room = absurd is
+gift_is member opening past what.Own (gift.Image image) is room = absurd is
+gift_is member opening past what.Own (gift.Own changes) is room = ap gift.Own is
 
 -- what fits one member's shard fits the other members' shards of that number
 pub fits_too : (heading : Heading) (giver joiner shard : ℕ) (given : Gift) → IsGiftFor (identity_at heading giver shard) given
     → IsGiftFor (identity_at heading joiner shard) given
 fits_too heading giver joiner shard (gift.Image image) fits =
-    (record { in_order = fits.0.in_order; of_shard = fits.0.of_shard; low = fits.0.low }, fits.1)
+    record { in_order = fits.in_order; of_shard = fits.of_shard; low = fits.low }
 fits_too heading giver joiner shard (gift.Own changes) fits = fits
 
 -- whose shard a cell is
@@ -134,7 +134,7 @@ handed_over heading old mid new joiner shard giver what_ given is within gave gi
     let cell = ap (λ grid. account_at grid giver shard) world.grid_is ∙ cell_left heading events giver shard is within in
     let here = subst (λ account. IsGiven account what_ given) cell gave in
     let of = subst (λ deeds. IsGiftOf giver heading.floor deeds what_ given) (reverse-reverse past) here.0 in
-    let one = gift_is (identity_at heading giver shard) giver heading.floor past what_ given of here.1 in
+    let one = gift_is giver heading.floor past what_ given of here.2 in
     let after = take_done (does heading giver shard (Gives joiner what_) events) (give_done events world) in
     let same = ap (λ g. takes_gift heading joiner shard g (does heading giver shard (Gives joiner what_) events)) one
     ∙ gives_are heading joiner shard giver what_ events in

@@ -61,13 +61,13 @@ deed_of id opening past (Hears report) = Heard report
 deed_of id opening past (Sweeps moment) = Swept moment (due id moment past)
 deed_of id opening past (Asks client number ask) = Asked client number ask (query_gives client ask past)
 
--- a deed says that this was done, and a report that was made has a vector with no room to spare
+-- a deed says that this was done
 abbrev pub Says : Deed → Doing → Type 0
 Says (Call client to seq ask reply made) doing = doing ≡ Calls client seq ask
 Says (Asked client seq ask reply) doing = doing ≡ Asks client seq ask
 Says (Taken change told) doing = doing ≡ Takes change
 Says (Gave to what) doing = doing ≡ Gives to what
 Says (Imaged image) doing = doing ≡ Merges image
-Says (Reported report) doing = (doing ≡ Reports) × (report.vector.spare ≡ 0)
+Says (Reported report) doing = doing ≡ Reports
 Says (Heard report) doing = doing ≡ Hears report
 Says (Swept moment expired) doing = doing ≡ Sweeps moment

@@ -5,6 +5,7 @@ use Rattle.gr_history.specs.Asks.{key_of}
 use Rattle.gr_history.specs.declared.image.Gift.{Gift}
 use Rattle.gr_history.specs.declared.image.What.{What}
 use Rattle.gr_history.specs.Gifts.{IsGiftOf}
+use Rattle.gr_history.specs.Room.{HasNoRoom}
 use Rattle.gr_shard.specs.Merges.{IsGiftFor, IsImageFor}
 use Rattle.gr_shard.specs.View.{Account}
 use Rattle.gr_world.specs.declared.task.Task.{Task}
@@ -29,6 +30,7 @@ BelongsTo account (Hears report) = Unit {0}
 BelongsTo account (Sweeps moment) = Unit {0}
 BelongsTo account (Asks client number ask) = Unit {0}
 
--- what a shard gives: the image or the own changes, which fit a shard of its number
+-- what a shard gives: the image, with no room to spare, or the own changes, which fit a shard of its number
 abbrev pub IsGiven : Account → What → Gift → Type 0
-IsGiven account what gift = IsGiftOf account.id.member account.opening (reverse account.deeds) what gift × IsGiftFor account.id gift
+IsGiven account what gift =
+    IsGiftOf account.id.member account.opening (reverse account.deeds) what gift × IsGiftFor account.id gift × HasNoRoom gift

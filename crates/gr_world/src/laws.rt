@@ -2,6 +2,7 @@ ghost use Rattle.std.specs.Prelude.{◌≡◌, ℕ, List, reverse};
 ghost use Rattle.gr_history.specs.declared.deed.Deed.{Deed};
 ghost use Rattle.gr_history.specs.declared.identity.Identity.{Identity};
 ghost use Rattle.gr_history.specs.Lawful.{IsLawfulDeed};
+ghost use Rattle.gr_history.specs.Room.{IsSameDeed};
 ghost use Rattle.gr_script.specs.declared.line.Line.{Line};
 ghost use Rattle.gr_script.specs.Rules.{Heading, IsScript};
 ghost use Rattle.gr_world.specs.Causes.{IsCausal, grid_at};
@@ -18,7 +19,7 @@ pub fn laws_of_courses()
         → IsLawAbiding (grid_at heading shard (course heading (reverse lines))) }
     ensures served { (heading : Heading) (lines : List Line) → IsScript heading lines
         → AreServed heading (reverse lines) (course heading (reverse lines)) }
-    // And each thing that is done has one lawful deed, so a course is the only one of its lines.
+    // And each thing that is done has one lawful deed, room to spare apart, so a course is the only one of its lines.
     ensures one { (id : Identity) (opening : ℕ) (past : List Deed) (deed : Deed) (doing : Doing) → Says deed doing
-        → IsLawfulDeed id opening deed past → deed ≡ deed_of id opening past doing }
+        → IsLawfulDeed id opening deed past → IsSameDeed deed (deed_of id opening past doing) }
 {}

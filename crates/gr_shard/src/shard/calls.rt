@@ -1,4 +1,4 @@
-ghost use Rattle.std.specs.Prelude.{◌≡◌, ◌≤◌, ◌∷◌, [], ◌++◌, reverse, Some, IfOk, OnOk, OnErr, option_map};
+ghost use Rattle.std.specs.Prelude.{◌≡◌, ◌≤◌, ◌<◌, ◌^◌, ◌∷◌, [], ◌++◌, reverse, Some, IfOk, OnOk, OnErr, option_map};
 ghost use Rattle.gr_value.specs.Shard.{shard_of};
 ghost use Rattle.gr_history.specs.declared.deed.Deed.TheVariants as deed;
 ghost use Rattle.gr_history.specs.declared.reply.Reply.{Reply};
@@ -6,6 +6,8 @@ ghost use Rattle.gr_stamp.specs.declared.change.Kind.{Kind};
 ghost use Rattle.gr_history.specs.Asks.{key_of};
 ghost use Rattle.gr_history.specs.Calls.{call_gives, given, nothing_made, ver_of};
 ghost use Rattle.gr_history.specs.Recipients.{recipients};
+ghost use Rattle.std.specs.List.{AllByRecursion};
+ghost use Rattle.std.specs.Option.{option_to_list};
 ghost use Rattle.gr_history.specs.Standing.{standing};
 ghost use Rattle.gr_shard.specs.Calls.{call_with, given_with, served};
 
@@ -26,6 +28,9 @@ impl Shard {
     pub fn call(&mut self, alloc: Global, client: u8, seq: u32, ask: &Ask) -> Result<Done, Memory>
         requires { shard_of (key_of ask.now) self.old.id.shards ≡ self.old.id.shard }
         ensures given { IfOk result (λ done. done ≡ call_gives self.old.id self.old.opening (reverse self.old.deeds) ask.now) }
+        ensures members { IfOk result (λ done. done.to < 2 ^ self.old.id.members) }
+        ensures here { IfOk result
+            (λ done. AllByRecursion (λ change. shard_of change.key self.old.id.shards ≡ self.old.id.shard) (option_to_list done.made)) }
         ensures added { IfOk result
             (λ done. self.new ≡ record self.old {
               deeds = self.old.deeds
@@ -33,6 +38,8 @@ impl Shard {
             }) }
         ensures err { OnErr result (self.new ≡ self.old) }
     {
+        // So that what the shard keeps of the members is known to the proof.
+        let _ = &self.id;
         let given = self.gives(alloc, ask)?;
         let asked = ask.copy(alloc)?;
         self.serve(alloc, client, seq, asked)?;

@@ -1,4 +1,4 @@
-use Rattle.std.proofs.Common.{◌≡◌, ◌≤◌, ◌∙◌, ap, [], ◌∷◌, ◌++◌, reverse, arith}
+use Rattle.std.proofs.Common.{◌≡◌, ◌≤◌, ◌∙◌, ap, [], ◌∷◌, ◌++◌, reverse}
 use Rattle.std.proofs.lemmas.List.{reverse-append}
 use Rattle.gr_history.specs.declared.deed.Deed.TheVariants.{Gave}
 use Rattle.gr_shard.specs.View.{kept}
@@ -11,11 +11,10 @@ invariant_of-self-2 c =
     let was = c.self.inside in
     let past = reverse was.history.deeds in
     let stated : c.args.to ≤ was.id.members = rw (← c.self.view_is) at c.requires.stated in
-    let most : c.args.to ≤ 8 = omega (arith, stated, c.self.invariant.place.few) in
     let pushed : c.push.new.self.deeds ≡ was.history.deeds ++ Gave c.args.to c.args.what ∷ [] =
     on_ok c.push.result (c.push.ensures.room c.in_ok-reserve.ensures.room) c.push.ensures.ok
     ∙ ap (λ deeds. deeds ++ Gave c.args.to c.args.what ∷ []) c.in_ok-reserve.ensures.deeds in
     rw (pushed, reverse-append, c.recipients-self-inside.ensures, c.from.ensures)
     (kept_gave was.id was.opening (kept was.slots was.vector.ids was.floor was.clock was.joined was.to was.heard was.given
     was.queries.entries) past c.args.to
-    c.args.what c.self.invariant c.requires.from most)
+    c.args.what c.self.invariant c.requires.from stated)

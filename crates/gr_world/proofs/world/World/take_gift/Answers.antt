@@ -21,7 +21,7 @@ does-requires-clause-here c =
     let heading = heading_of c.args.stage.script.now in
     let id = work_id heading c.args.self.now c.args.site.member c.args.site.shard c.requires.work c.requires.joiner c.requires.shard in
     let fits = subst (IsGiftFor (identity_at heading c.args.site.member c.args.site.shard)) c.in-Image.is c.requires.fits in
-    subst (λ d. IsImageFor d c.in-Image.image) (sym id) fits.0
+    subst (λ d. IsImageFor d c.in-Image.image) (sym id) fits
 
 pub take_all-requires-clause-here : goal.take_all-requires-clause-here
 take_all-requires-clause-here c =
