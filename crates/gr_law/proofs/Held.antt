@@ -1,7 +1,7 @@
 -- Laws 3 to 5.
 use Rattle.std.proofs.Common.{bytes_eq, ◌≡◌, ◌⊎◌, ℕ, ◌≤◌, List, [], ◌∷◌, ◌++◌, Bool, true, false, refl, sym, ap, ◌∙◌, subst, inl, inr}
 use Rattle.std.proofs.Common.{⊎_elim, arith}
-use Rattle.std.specs.Prelude.{Option, Some, None}
+use Rattle.std.specs.Prelude.{Option, Some, None, option_and_then}
 use Rattle.gr_history.specs.declared.identity.Identity.{Identity}
 use Rattle.gr_stamp.specs.declared.change.Change.{Change}
 use Rattle.gr_stamp.specs.declared.change.Kind.{Kind}
@@ -15,12 +15,12 @@ use Rattle.gr_history.specs.declared.deed.Deed.{Deed}
 use Rattle.gr_history.specs.declared.deed.Deed.TheVariants.{Call, Asked, Taken, Gave, Imaged, Reported, Heard, Swept}
 use Rattle.gr_history.specs.Ids.{id_of, ids_at, ids}
 use Rattle.gr_vector.specs.Ids.{has_id}
-use Rattle.gr_history.specs.Standing.{came, standing, changes}
+use Rattle.gr_history.specs.Standing.{came, standing, present, changes}
 use Rattle.gr_history.specs.Floor.{expired_at, expired}
 use Rattle.gr_law.specs.Grids.{identity, Among, Older, Grid}
 use Rattle.gr_law.specs.Integrity.{IsMade, IsGenuine, IsGenuineDeed, IsSound, IsWhole, IsGift, giver_of}
 use Rattle.gr_history.specs.Lawful.{IsLawful}
-use Rattle.gr_law.specs.Laws.{AreAlso, same_value, taken_at, taken, took, IsLate, IsHeld, law_3, law_4, IsGiverLate, AreGiversLate}
+use Rattle.gr_law.specs.Laws.{AreAlso, same_value, same_entry, taken_at, taken, took, IsLate, IsHeld, law_3, law_4, IsGiverLate, AreGiversLate}
 use Rattle.gr_law.specs.Laws.{IsApart, AreApart, law_5}
 use Rattle.gr_law.proofs.Lists.{known_ids, one_name, among_either, among_left, among_right, has_left, has_right, either}
 use Rattle.gr_law.proofs.Winners.{winner-best, Best, IsBest, HasNone, unbeaten-same, bytes_eq-itself, ver-beats}
@@ -392,3 +392,33 @@ same_value-holds grid whole i j one two o p key into back =
     (took_made grid whole.sound j two p) into back in
     let e : holds key (took grid one) ≡ holds key (took grid two) = rw w refl in
     (law_3-holds grid whole i one o key).present_is ∙ e ∙ sym (law_3-holds grid whole j two p key).present_is
+
+-- a put that stands has won
+standing_won : (grid : Grid) (key : List ℕ) (past : List Deed) → IsHeld grid key past → (held : Change) → standing key past ≡ Some held
+    → is_removal held.kind ≡ false → winner key (took grid past) ≡ Some held
+standing_won grid key past law held is puts = at_winner (winner key (took grid past)) refl
+  where
+    shown : present key past ≡ put_value held.kind
+    shown = ap (option_and_then (λ change. put_value change.kind)) is
+
+    isnt_none : (kind : Kind) → is_removal kind ≡ false → None ≡ put_value kind → ⊥
+    isnt_none (Put value) h e = cc
+    isnt_none Remove h e = true_isnt_false h
+
+    puts_too : (one two : Kind) → is_removal two ≡ false → put_value one ≡ put_value two → is_removal one ≡ false
+    puts_too (Put value) two h e = refl
+    puts_too Remove two h e = absurd (isnt_none two h e)
+
+    at_winner : (o : Option Change) → winner key (took grid past) ≡ o → o ≡ Some held
+    at_winner None none =
+        absurd (isnt_none held.kind puts (sym (law.present_is ∙ ap (option_and_then (λ change. put_value change.kind)) none) ∙ shown))
+    at_winner (Some best) won =
+        let same = sym (law.present_is ∙ ap (option_and_then (λ change. put_value change.kind)) won) ∙ shown in
+        sym (law.stands best won (puts_too best.kind held.kind puts same)) ∙ is
+
+pub same_entry-holds : (grid : Grid) → IsWhole grid → same_entry grid
+same_entry-holds grid whole i j one two o p key into back held is puts =
+    let w = one_winner grid whole.sound key (took grid one) (took grid two) (took_made grid whole.sound i one o)
+    (took_made grid whole.sound j two p) into back in
+    (law_3-holds grid whole j two p key).stands held
+    (sym w ∙ standing_won grid key one (law_3-holds grid whole i one o key) held is puts) puts

@@ -10,6 +10,7 @@ pub mod Settled
 pub mod Imaged
 pub mod Held
 pub mod Small
+pub mod Broken
 pub mod Growth
 pub mod Keys
 pub mod Turning

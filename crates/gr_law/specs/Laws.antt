@@ -43,6 +43,11 @@ IsReached grid opening past =
     (change : Change) → IsMade grid change → has_id (id_of change) (ids past) ≡ true
     → change.stamp.ver ≤ reach opening change.key past
 
+-- Law 1 of one deed: what it makes has a greater version than each change of its key that its maker had taken in.
+abbrev pub IsGreater : Grid → Deed → List Deed → Type 0
+IsGreater grid deed past = (change : Change) → Among change (made_at deed)
+    → (before : Change) → Among before (took grid past) → before.key ≡ change.key → before.stamp.ver < change.stamp.ver
+
 -- Law 2 of one history: what comes in later beats each tombstone of its key that expired before.
 abbrev pub IsLate : List Deed → Type 0
 IsLate [] = Unit {0}
@@ -55,11 +60,9 @@ IsLate (deed ∷ past) =
 abbrev pub law_0 : Grid → Type 0
 law_0 grid = (member : ℕ) (past : List Deed) → Older past (grid.history member) → IsReached grid (grid.opening member) past
 
--- Law 1: what is made has a greater version than each change of its key that its maker had taken in.
+-- Law 1: so it is of each deed of each history.
 abbrev pub law_1 : Grid → Type 0
-law_1 grid = (member : ℕ) (deed : Deed) (past : List Deed) → Older (deed ∷ past) (grid.history member) → (change : Change)
-    → Among change (made_at deed)
-    → (before : Change) → Among before (took grid past) → before.key ≡ change.key → before.stamp.ver < change.stamp.ver
+law_1 grid = (member : ℕ) (deed : Deed) (past : List Deed) → Older (deed ∷ past) (grid.history member) → IsGreater grid deed past
 
 -- Law 2: so it is of each history.
 abbrev pub law_2 : Grid → Type 0
@@ -84,11 +87,20 @@ abbrev pub same_value : Grid → Type 0
 same_value grid = (i j : ℕ) (one two : List Deed) → Older one (grid.history i) → Older two (grid.history j) → (key : List ℕ)
     → AreAlso key (took grid one) (took grid two) → AreAlso key (took grid two) (took grid one) → present key one ≡ present key two
 
--- Law 4: a put that stands beats each removal of its key that was taken in.
-abbrev pub law_4 : Grid → Type 0
-law_4 grid = (member : ℕ) (past : List Deed) → Older past (grid.history member)
-    → (tombstone held : Change) → Among tombstone (took grid past) → is_removal tombstone.kind ≡ true
+-- The same of what stands: where a put stands at one, the same change stands at the other, stamp included.
+abbrev pub same_entry : Grid → Type 0
+same_entry grid = (i j : ℕ) (one two : List Deed) → Older one (grid.history i) → Older two (grid.history j) → (key : List ℕ)
+    → AreAlso key (took grid one) (took grid two) → AreAlso key (took grid two) (took grid one)
+    → (held : Change) → standing key one ≡ Some held → is_removal held.kind ≡ false → standing key two ≡ Some held
+
+-- Law 4 of one history: a put that stands beats each removal of its key that was taken in.
+abbrev pub OutlastsRemovals : Grid → List Deed → Type 0
+OutlastsRemovals grid past = (tombstone held : Change) → Among tombstone (took grid past) → is_removal tombstone.kind ≡ true
     → standing tombstone.key past ≡ Some held → is_removal held.kind ≡ false → beats held.stamp tombstone.stamp ≡ true
+
+-- Law 4: so it is at each place of each history.
+abbrev pub law_4 : Grid → Type 0
+law_4 grid = (member : ℕ) (past : List Deed) → Older past (grid.history member) → OutlastsRemovals grid past
 
 -- Law 5: law 3 of one history, from three facts: what came in late to it beats what had expired there, so it was
 -- at the givers of its images, and what an image didn't know beats what had expired at its giver.

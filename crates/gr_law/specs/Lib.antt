@@ -1,3 +1,4 @@
+pub mod Broken
 pub mod Grids
 pub mod Integrity
 pub mod Laws

@@ -5,7 +5,9 @@ ghost use Rattle.gr_history.specs.Standing.{standing};
 ghost use Rattle.gr_history.specs.Floor.{floor};
 ghost use Rattle.gr_law.specs.Small.{key, second, history_3, small};
 ghost use Rattle.gr_law.specs.Grids.{Grid, at_place};
-ghost use Rattle.gr_law.specs.Laws.{law_0, law_1, law_2, law_3, same_value, law_4, law_5};
+ghost use Rattle.gr_law.specs.Broken.{Breaks, known_unseen, equal_versions, tombstone_again, removal_ignored, put_ignored, one_stamp};
+ghost use Rattle.gr_law.specs.Broken.{row_missing, event_missing};
+ghost use Rattle.gr_law.specs.Laws.{law_0, law_1, law_2, law_3, same_value, same_entry, law_4, law_5};
 ghost use Rattle.gr_law.specs.Queries.{IsAnswered};
 ghost use Rattle.gr_law.specs.QueryMaps.{KeepsUp, law_queries};
 
@@ -28,11 +30,13 @@ pub fn laws_of_queries()
 
 /// Where each report that was heard was made too: what comes in late beats each tombstone of its key
 /// that had expired; what is present is what all that was taken in leaves, so members that took in the
-/// same changes of a key have the same value; and a put that stands beats each removal that was taken in.
+/// same changes of a key have the same value, and where a put stands, the same change with its stamp; and
+/// a put that stands beats each removal that was taken in.
 pub fn laws_of_whole_records()
     ensures law_2 { (grid : Grid) → IsWhole grid → law_2 grid }
     ensures law_3 { (grid : Grid) → IsWhole grid → law_3 grid }
     ensures same_value { (grid : Grid) → IsWhole grid → same_value grid }
+    ensures same_entry { (grid : Grid) → IsWhole grid → same_entry grid }
     ensures law_4 { (grid : Grid) → IsWhole grid → law_4 grid }
 {}
 
@@ -43,4 +47,20 @@ pub fn a_small_record_is_whole()
     ensures dropped { standing key (at_place 4 history_3) ≡ None }
     ensures floor { floor 0 history_3 ≡ 2 }
     ensures stands { standing key history_3 ≡ Some second }
+{}
+
+/// Each law is broken by some record, so it says something: a law that is said a little too weakly would
+/// hold of the record that breaks it here.
+pub fn bad_records_break_the_laws()
+    ensures law_0 { Breaks law_0 known_unseen }
+    ensures law_1 { Breaks law_1 equal_versions }
+    ensures law_2 { Breaks law_2 tombstone_again }
+    ensures law_3 { Breaks law_3 removal_ignored }
+    ensures stands { Breaks law_3 put_ignored }
+    ensures same_value { Breaks same_value removal_ignored }
+    ensures same_entry { Breaks same_entry put_ignored }
+    ensures law_4 { Breaks law_4 one_stamp }
+    ensures law_5 { Breaks law_5 removal_ignored }
+    ensures rows { Breaks law_queries row_missing }
+    ensures events { Breaks law_queries event_missing }
 {}

@@ -1,0 +1,89 @@
+-- Small records that break the laws, each by as little as can be: by equal versions, by one stamp, or by values that
+-- are the same. A law that is said too weakly would hold of its record.
+use Rattle.std.specs.Prelude.{ℕ, ◌==◌, List, [], ◌∷◌, Some, None, if◌then◌else◌}
+use Rattle.gr_stamp.specs.declared.change.Change.{Change}
+use Rattle.gr_stamp.specs.declared.change.Kind.{Kind}
+use Rattle.gr_stamp.specs.declared.change.Kind.TheVariants.{Put, Remove}
+use Rattle.gr_oql.specs.Question.{Question}
+use Rattle.gr_history.specs.declared.ask.Ask.TheVariants as asks
+use Rattle.gr_history.specs.declared.reply.Reply.TheVariants as replies
+use Rattle.gr_history.specs.declared.query_ask.QueryAsk.TheVariants.{Enrol, Fetch}
+use Rattle.gr_history.specs.declared.query_reply.QueryReply.TheVariants.{Opened, Fetched}
+use Rattle.gr_history.specs.declared.verdict.Verdict.TheVariants.{Applied, Discarded, Repeat}
+use Rattle.gr_history.specs.declared.deed.Deed.{Deed}
+use Rattle.gr_history.specs.declared.deed.Deed.TheVariants.{Call, Asked, Taken, Swept}
+use Rattle.gr_law.specs.Grids.{Grid}
+use Rattle.gr_law.specs.Small.{key}
+
+-- The record doesn't keep the law.
+abbrev pub Breaks : (Grid → Type 0) → Grid → Type 0
+Breaks law grid = law grid → ⊥
+
+-- a member's first change of the key, with this version
+abbrev pub changed : Kind → ℕ → ℕ → Change
+changed kind ver member = record { key = key; kind = kind; stamp = record { ver = ver; member = member; rv = 1 } }
+
+-- two members with these histories
+abbrev pub two : List Deed → List Deed → Grid
+two first second = record {
+  members = 2;
+  founders = 2;
+  shard = 0;
+  shards = 1;
+  opening = λ member. 0;
+  history = λ member. if member == 1 then first else if member == 2 then second else [];
+}
+
+-- the first member puts a value at the key, and makes this of it
+abbrev pub puts : Change → Deed
+puts change = Call 1 2 1 (asks.Put key []) replies.Null (Some change)
+
+-- what the second member made, and what the first makes of it: it takes a put in, and tells the other that it has it
+abbrev pub older : Change
+older = changed (Put []) 1 2
+
+abbrev pub newer : Change
+newer = changed (Put []) 2 2
+
+abbrev pub removed : Change
+removed = changed Remove 2 2
+
+-- Law 0: a change that never came in is known.
+abbrev pub known_unseen : Grid
+known_unseen = two (Taken older Repeat ∷ []) (puts older ∷ [])
+
+-- Law 1: a new change has the version of one that was taken in.
+abbrev pub equal_versions : Grid
+equal_versions = two (puts (changed (Put []) 1 1) ∷ Taken older Applied ∷ []) []
+
+-- Law 2: a tombstone comes back once it has expired.
+abbrev pub tombstone_again : Grid
+tombstone_again = two (Taken removed Applied ∷ Swept 600 (key ∷ []) ∷ Taken removed Applied ∷ []) []
+
+-- Laws 3 and 5: a removal that wins never comes in, so the value stays.
+abbrev pub removal_ignored : Grid
+removal_ignored = two (Taken removed Repeat ∷ Taken older Applied ∷ []) (Taken removed Applied ∷ Taken older Applied ∷ [])
+
+-- The same of a put with the value that is there.
+abbrev pub put_ignored : Grid
+put_ignored = two (Taken newer Repeat ∷ Taken older Applied ∷ []) (Taken newer Applied ∷ Taken older Applied ∷ [])
+
+-- Law 4: a put stands beside a removal with its stamp.
+abbrev pub one_stamp : Grid
+one_stamp = two (Taken (changed Remove 1 2) Discarded ∷ Taken older Applied ∷ []) []
+
+abbrev pub name : List ℕ
+name = 113 ∷ []
+
+-- that holds of every value
+abbrev pub all_values : Question
+all_values = record { text = []; asked = record { region = []; alias = None; condition = None } }
+
+-- The law on queries: a query opens without the row that is present.
+abbrev pub row_missing : Grid
+row_missing = two (Asked 1 1 (Enrol name all_values) (Opened []) ∷ Taken older Applied ∷ []) []
+
+-- An event isn't handed out.
+abbrev pub event_missing : Grid
+event_missing =
+    two (Asked 1 2 (Fetch name) (Fetched []) ∷ Taken older Applied ∷ Asked 1 1 (Enrol name all_values) (Opened []) ∷ []) []
