@@ -1,5 +1,5 @@
--- Each client's calls stand once and in order, with its answers.
-use Rattle.std.proofs.Common.{zero, suc, ◌≡◌, ℕ, List, [], ◌∷◌, Bool, true, false, ◌&&◌, ◌==◌, refl, sym, ap, ◌∙◌, subst, inl, inr}
+-- Each client's steps stand once and in order, with its answers.
+use Rattle.std.proofs.Common.{zero, suc, ◌≡◌, ℕ, List, [], ◌∷◌, Bool, true, false, ◌&&◌, ◌==◌, refl, ap, ◌∙◌, subst}
 use Rattle.std.proofs.Common.{arith, map, if◌then◌else◌}
 use Rattle.std.specs.Prelude.{Option, Some, None, nat_lt}
 use Rattle.std.proofs.lemmas.Bool.Decides.{nat_tests}
@@ -13,27 +13,23 @@ use Rattle.gr_history.specs.declared.deed.Deed.TheVariants.{Call, Asked}
 use Rattle.gr_history.specs.declared.query_ask.QueryAsk.{QueryAsk}
 use Rattle.gr_history.specs.declared.query_reply.QueryReply.{QueryReply}
 use Rattle.gr_history.specs.declared.record.Answer.{Answer}
-use Rattle.gr_history.specs.declared.record.Answer.TheVariants as answer
 use Rattle.gr_history.specs.Asks.{key_of}
 use Rattle.gr_history.specs.Made.{made}
 use Rattle.gr_history.specs.Gifts.{own_changes}
-use Rattle.gr_law.specs.Grids.{Among}
 use Rattle.gr_script.specs.declared.line.Act.TheVariants as act
 use Rattle.gr_script.specs.declared.line.Line.{Line}
 use Rattle.gr_script.specs.declared.line.Line.TheVariants.{Step, Deliver, Hear, Sweep, Join}
 use Rattle.gr_script.specs.declared.line.Line.TheVariants as line
 use Rattle.gr_script.specs.Rules.{Heading, home_of}
-use Rattle.gr_world.specs.Events.{Event, Did, Peeked, Gathered, put_if, history}
+use Rattle.gr_world.specs.Events.{Event, put_if, history}
 use Rattle.gr_world.specs.Doings.{Doing, Calls, Takes, Gives, Merges, Reports, Hears, Sweeps, Asks, image_of}
 use Rattle.gr_world.specs.Named.{made_by, reports, numbered}
-use Rattle.gr_world.specs.Clients.{Asking, OfKey, OfQuery, queries_told}
-use Rattle.gr_world.specs.Causes.{IsGathered, IsNextEvent, IsCausal}
-use Rattle.gr_world.proofs.Events.{more_among}
+use Rattle.gr_world.specs.Clients.{Asking, OfKey, OfQuery}
 use Rattle.gr_world.specs.Courses.{does, asks_at_each, for_each, delivers, hears, takes_all, gives_unless, what_from, after, course}
-use Rattle.gr_world.specs.Clients.{add_some, askings, asked_at, calls_stand, Numbered, told_by_deed, told, number_at, answers_stand}
-use Rattle.gr_world.specs.Clients.{replies_stand}
+use Rattle.gr_world.specs.Clients.{add_some, askings, asked_at, asked, Numbered, told}
 use Rattle.gr_world.proofs.Events.{at_put}
 use Rattle.gr_world.proofs.Causes.{each_keeps}
+use Rattle.gr_world.proofs.Numbers.{number_at, numbers}
 
 -- all but a call and a step on a query
 abbrev pub IsQuiet : Doing → Type 0
@@ -190,7 +186,9 @@ line_asks heading (Hear member of number) before i t = rest_asks heading (Hear m
 line_asks heading (Sweep member moment) before i t = rest_asks heading (Sweep member moment) before i t tt
 line_asks heading (Join joiner provider) before i t = rest_asks heading (Join joiner provider) before i t tt
 
-pub calls_stand-holds : (heading : Heading) (past : List Line) → calls_stand heading past (course heading past)
+-- The steps of a history are just those that the lines ask there, each once and in order.
+pub calls_stand-holds : (heading : Heading) (past : List Line) (i t : ℕ)
+    → askings (history i t (course heading past)) ≡ asked heading i t past
 calls_stand-holds heading [] i t = refl
 calls_stand-holds heading (line ∷ past) i t =
     line_asks heading line (course heading past) i t ∙ ap (add_some (asked_at heading i t line)) (calls_stand-holds heading past i t)
@@ -206,13 +204,13 @@ quiet_told heading client m s (Hears report) now quiet = refl
 quiet_told heading client m s (Sweeps moment) now quiet = refl
 quiet_told heading client m s (Asks own number ask) now quiet = absurd quiet
 
-rest_tells : (heading : Heading) (line : Line) (before : List Event) (client : ℕ) → IsNoStep line
+pub rest_tells : (heading : Heading) (line : Line) (before : List Event) (client : ℕ) → IsNoStep line
     → told client (after heading line before) ≡ told client before
 rest_tells heading line before client quiet =
     rest_keeps heading (λ now. told client now ≡ told client before)
     (λ m s doing now not e. quiet_told heading client m s doing now not ∙ e) line before quiet refl
 
-abbrev counted : List Numbered → List ℕ
+abbrev pub counted : List Numbered → List ℕ
 counted all = map (λ one. one.number) all
 
 count_one : (b : Bool) (number : ℕ) (answer : Answer) (all : List Numbered)
@@ -221,7 +219,7 @@ count_one : (b : Bool) (number : ℕ) (answer : Answer) (all : List Numbered)
 count_one true number answer all = refl
 count_one false number answer all = refl
 
-told_asks : (heading : Heading) (client number : ℕ) (ask : QueryAsk) (n : ℕ) (before : List Event) (who : ℕ)
+pub told_asks : (heading : Heading) (client number : ℕ) (ask : QueryAsk) (n : ℕ) (before : List Event) (who : ℕ)
     → told who (asks_at_each heading client number ask n before) ≡ told who before
 told_asks heading client number ask n before who =
     each_keeps (λ k now. told who now ≡ told who before) n
@@ -241,57 +239,9 @@ line_tells heading (Hear member of number) before client = ap counted (rest_tell
 line_tells heading (Sweep member moment) before client = ap counted (rest_tells heading (Sweep member moment) before client tt)
 line_tells heading (Join joiner provider) before client = ap counted (rest_tells heading (Join joiner provider) before client tt)
 
-pub answers_stand-holds : (heading : Heading) (past : List Line) → answers_stand past (course heading past)
+-- A client has one answer for each step, in order.
+pub answers_stand-holds : (heading : Heading) (past : List Line) (client : ℕ)
+    → counted (told client (course heading past)) ≡ numbers client past
 answers_stand-holds heading [] client = refl
 answers_stand-holds heading (line ∷ past) client =
     line_tells heading line (course heading past) client ∙ ap (add_some (number_at client line)) (answers_stand-holds heading past client)
-
-among_some : {A : Type 0} → (x : A) (o : Option A) (rest : List A) → Among x rest → Among x (add_some o rest)
-among_some x None rest a = a
-among_some x (Some first) rest a = inr a
-
--- This holds of each list of events.
-pub replies_stand-holds : (course : List Event) → replies_stand course
-replies_stand-holds [] member shard client number ask reply made to a = absurd a
-replies_stand-holds (Did m s deed ∷ before) member shard client number ask reply made to a =
-    at_test (shard == s && member == m) (replies_stand-holds before member shard client number ask reply made to) a
-  where
-    itself : (client == client) ≡ true
-    itself = grind (arith, nat_tests)
-
-    here : Call client to number ask reply made ≡ deed
-        → Among (record { number = number; answer = answer.Reply reply }) (add_some (told_by_deed client deed) (told client before))
-    here is = subst
-        (λ d. Among (record { number = number; answer = answer.Reply reply }) (add_some (told_by_deed client d) (told client before))) is
-        (rw itself (inl refl))
-
-    at_test : (b : Bool)
-        → (Among (Call client to number ask reply made) (history member shard before)
-        → Among (record { number = number; answer = answer.Reply reply }) (told client before))
-        → Among (Call client to number ask reply made) (put_if b deed (history member shard before))
-        → Among (record { number = number; answer = answer.Reply reply }) (add_some (told_by_deed client deed) (told client before))
-    at_test true next (inl is) = here is
-    at_test true next (inr a) = among_some _ (told_by_deed client deed) (told client before) (next a)
-    at_test false next a = among_some _ (told_by_deed client deed) (told client before) (next a)
-replies_stand-holds (Peeked own number_ key value at ∷ before) member shard client number ask reply made to a =
-    among_some _ (if own == client then Some (record { number = number_; answer = answer.Peeked value at }) else None) (told client
-    before)
-    (replies_stand-holds before member shard client number ask reply made to a)
-replies_stand-holds (Gathered own number_ replies ∷ before) member shard client number ask reply made to a =
-    among_some _ (if own == client then Some (record { number = number_; answer = answer.Asked replies }) else None) (told client before)
-    (replies_stand-holds before member shard client number ask reply made to a)
-
-still_gathered : (heading : Heading) (client number : ℕ) (replies : List QueryReply) (event : Event) (before : List Event)
-    → IsGathered heading client number replies before → IsGathered heading client number replies (event ∷ before)
-still_gathered heading client number replies event before h = record {
-  one_each = h.one_each;
-  told = λ shard less.
-      let deed = h.told shard less in (deed.0, more_among (home_of heading client) shard _ event before deed.1);
-}
-
-pub queries_told-holds : (heading : Heading) (events : List Event) → IsCausal heading events → queries_told heading events
-queries_told-holds heading [] h client number replies a = absurd a
-queries_told-holds heading (event ∷ before) h client number replies (inl is) =
-    still_gathered heading client number replies event before (subst (λ e. IsNextEvent heading e before) (sym is) h.0)
-queries_told-holds heading (event ∷ before) h client number replies (inr a) =
-    still_gathered heading client number replies event before (queries_told-holds heading before h.1 client number replies a)

@@ -1,12 +1,13 @@
 -- A peek is behind the deeds of the client's earlier steps, and its earlier peeks.
 use Rattle.std.proofs.Common.{zero, suc, ◌≡◌, ℕ, ◌≤◌, ◌<◌, List, [], ◌∷◌, Bool, true, false, ◌&&◌, ◌==◌, refl, sym, ap}
 use Rattle.std.proofs.Common.{◌∙◌, subst, inl, inr}
-use Rattle.std.proofs.Common.{arith, map, length}
+use Rattle.std.proofs.Common.{arith, length, if◌then◌else◌}
 use Rattle.std.specs.Prelude.{Option, Some, None}
 use Rattle.std.proofs.lemmas.Bool.Decides.{nat_tests}
 use Rattle.gr_value.specs.Shard.{shard_of}
 use Rattle.gr_value.specs.declared.value.Field.{Field}
 use Rattle.gr_history.specs.declared.query_ask.QueryAsk.{QueryAsk}
+use Rattle.gr_history.specs.declared.record.Answer.TheVariants as answer
 use Rattle.gr_history.specs.declared.deed.Deed.{Deed}
 use Rattle.gr_history.specs.declared.deed.Deed.TheVariants.{Call, Asked, Taken, Gave, Imaged, Reported, Heard, Swept}
 use Rattle.gr_law.specs.Grids.{Among, Older}
@@ -19,16 +20,13 @@ use Rattle.gr_world.specs.Events.{Event, Did, Peeked, Gathered, put_if, history}
 use Rattle.gr_world.specs.Courses.{does, asks_at_each, course}
 use Rattle.gr_world.specs.Doings.{Doing, Calls, Takes, Gives, Merges, Reports, Hears, Sweeps, Asks}
 use Rattle.gr_world.specs.Causes.{IsNextEvent, IsCausal}
-use Rattle.gr_world.specs.Clients.{Asking, Wish, asking_of, add_some, Numbered, told_by_deed, told_by, told, numbers}
-use Rattle.gr_world.specs.Clients.{AllBelow, Descends, peeks_late, peeks_grow}
+use Rattle.gr_world.specs.Clients.{add_some, Numbered, told_by_deed, told_by, told}
+use Rattle.gr_world.specs.Served.{number_in}
 use Rattle.gr_world.proofs.Causal.{course_causal}
-use Rattle.gr_world.proofs.Clients.{IsQuiet, rest_keeps, answers_stand-holds}
-use Rattle.gr_world.proofs.Events.{same_number}
-use Rattle.gr_world.proofs.Numbers.{numbers_descend-holds}
+use Rattle.gr_world.proofs.Clients.{IsQuiet, rest_keeps, counted, answers_stand-holds}
+use Rattle.gr_world.proofs.Events.{equal_numbers}
+use Rattle.gr_world.proofs.Numbers.{numbers, AllBelow, Descends, numbers_descend-holds}
 use Rattle.gr_world.proofs.Peeks.{older_length, seen_at}
-
-abbrev counted : List Numbered → List ℕ
-counted all = map (λ one. one.number) all
 
 among_added : (x : ℕ) (o : Option Numbered) (rest : List Numbered) → Among x (counted rest) → Among x (counted (add_some o rest))
 among_added x None rest a = a
@@ -140,65 +138,65 @@ all_follow heading (Join joiner provider ∷ past) stand =
 
 -- ---- a deed of a client's step that is newer than a peek has a greater number
 
-some_asking : {one other : Asking} → Some one ≡ Some other → one ≡ other
-some_asking e = cc
+same_in_some : (one other : ℕ) → Some one ≡ Some other → one ≡ other
+same_in_some one other e = cc
 
-no_asking : {one : Asking} → None ≡ Some one → ⊥
-no_asking e = cc
+none_isnt_some : (one : ℕ) → None ≡ Some one → ⊥
+none_isnt_some one e = cc
 
-newer : (client number earlier : ℕ) (ask : Wish) (key : List ℕ) (value : Option (List Field)) (at : ℕ) (before : List Event) (deed : Deed)
-    → asking_of deed ≡ Some (record { client = client; number = earlier; ask = ask }) → Follows deed before
+newer : (client number earlier : ℕ) (key : List ℕ) (value : Option (List Field)) (at : ℕ) (before : List Event) (deed : Deed)
+    → number_in client deed ≡ Some earlier → Follows deed before
     → Descends (counted (add_some (told_by_deed client deed) (told client before)))
     → Among (Peeked client number key value at) before → number < earlier
-newer client number earlier ask key value at before (Call own to seq wish reply made) is follows desc a =
-    subst (λ n. number < n) (ap (λ one. one.number) (some_asking is))
-    (below_among seq number (counted (told client before)) (at_head desc) (peek_counted client number key value at before a))
+newer client number earlier key value at before (Call own to seq wish reply made) is follows desc a = at_test (own == client) is desc
   where
-    itself : (own == client) ≡ true
-    itself = subst (λ c. (own == c) ≡ true) (ap (λ one. one.client) (some_asking is)) (same_number own)
-
-    at_head : Descends (counted (add_some (told_by_deed client (Call own to seq wish reply made)) (told client before)))
-        → AllBelow seq (counted (told client before))
-    at_head d = (rw itself at d).0
-newer client number earlier ask key value at before (Asked own seq wish reply) is follows desc a =
-    subst (λ n. number < n) (ap (λ one. one.number) (some_asking is))
-    (follows number key value at
-    (subst (λ c. Among (Peeked c number key value at) before) (sym (ap (λ one. one.client) (some_asking is))) a))
-newer client number earlier ask key value at before (Taken change verdict) is follows desc a = absurd (no_asking is)
-newer client number earlier ask key value at before (Gave to what) is follows desc a = absurd (no_asking is)
-newer client number earlier ask key value at before (Imaged image) is follows desc a = absurd (no_asking is)
-newer client number earlier ask key value at before (Reported report) is follows desc a = absurd (no_asking is)
-newer client number earlier ask key value at before (Heard report) is follows desc a = absurd (no_asking is)
-newer client number earlier ask key value at before (Swept moment expired) is follows desc a = absurd (no_asking is)
+    at_test : (b : Bool) → (if b then Some seq else None) ≡ Some earlier
+        → Descends (counted (add_some (if b then Some (record { number = seq; answer = answer.Reply reply }) else None) (told client before)))
+        → number < earlier
+    at_test true h d =
+        subst (λ n. number < n) (same_in_some seq earlier h)
+        (below_among seq number (counted (told client before)) d.0 (peek_counted client number key value at before a))
+    at_test false h d = absurd (none_isnt_some earlier h)
+newer client number earlier key value at before (Asked own seq wish reply) is follows desc a = at_test (own == client) refl is
+  where
+    at_test : (b : Bool) → (own == client) ≡ b → (if b then Some seq else None) ≡ Some earlier → number < earlier
+    at_test true e h =
+        subst (λ n. number < n) (same_in_some seq earlier h)
+        (follows number key value at (subst (λ c. Among (Peeked c number key value at) before) (sym (equal_numbers own client e)) a))
+    at_test false e h = absurd (none_isnt_some earlier h)
+newer client number earlier key value at before (Taken change verdict) is follows desc a = absurd (none_isnt_some earlier is)
+newer client number earlier key value at before (Gave to what) is follows desc a = absurd (none_isnt_some earlier is)
+newer client number earlier key value at before (Imaged image) is follows desc a = absurd (none_isnt_some earlier is)
+newer client number earlier key value at before (Reported report) is follows desc a = absurd (none_isnt_some earlier is)
+newer client number earlier key value at before (Heard report) is follows desc a = absurd (none_isnt_some earlier is)
+newer client number earlier key value at before (Swept moment expired) is follows desc a = absurd (none_isnt_some earlier is)
 
 late : (heading : Heading) (events : List Event) → IsCausal heading events → AllFollow events
     → (client number : ℕ) (key : List ℕ) (value : Option (List Field)) (at : ℕ)
     → Descends (counted (told client events)) → Among (Peeked client number key value at) events
-    → (earlier : ℕ) (ask : Wish) (deed : Deed) (past : List Deed)
-    → asking_of deed ≡ Some (record { client = client; number = earlier; ask = ask })
+    → (earlier : ℕ) (deed : Deed) (past : List Deed) → number_in client deed ≡ Some earlier
     → Older (deed ∷ past) (history (home_of heading client) (shard_of key heading.shards) events)
     → earlier < number → suc (length past) ≤ at
-late heading [] h follow client number key value at desc a earlier ask deed past is o less = absurd a
-late heading (Peeked own seq which seen place ∷ before) h follow client number key value at desc (inl peek) earlier ask deed
-    past is o less =
+late heading [] h follow client number key value at desc a earlier deed past is o less = absurd a
+late heading (Peeked own seq which seen place ∷ before) h follow client number key value at desc (inl peek) earlier deed past is o less =
     let next : IsNextEvent heading (Peeked client number key value at) before = subst (λ e. IsNextEvent heading e before) (sym peek) h.0 in
     let long = older_length (deed ∷ past) (history (home_of heading client) (shard_of key heading.shards) before) o in
     omega (arith, long, next.1)
-late heading (Peeked own seq which seen place ∷ before) h follow client number key value at desc (inr a) earlier ask deed past is o less =
+late heading (Peeked own seq which seen place ∷ before) h follow client number key value at desc (inr a) earlier deed past is o less =
     late heading before h.1 follow client number key value at
-    (descends_rest (told_by client (Peeked own seq which seen place)) (told client before) desc) a earlier ask deed past is o less
-late heading (Gathered own seq replies ∷ before) h follow client number key value at desc (inl peek) earlier ask deed past is o less =
+    (descends_rest (told_by client (Peeked own seq which seen place)) (told client before) desc) a earlier deed past is o less
+late heading (Gathered own seq replies ∷ before) h follow client number key value at desc (inl peek) earlier deed past is o less =
     absurd (no peek)
   where
     no : Peeked client number key value at ≡ Gathered own seq replies → ⊥
     no e = cc
-late heading (Gathered own seq replies ∷ before) h follow client number key value at desc (inr a) earlier ask deed past is o less =
+late heading (Gathered own seq replies ∷ before) h follow client number key value at desc (inr a) earlier deed past is o less =
     late heading before h.1 follow client number key value at
-    (descends_rest (told_by client (Gathered own seq replies)) (told client before) desc) a earlier ask deed past is o less
-late heading (Did m s did ∷ before) h follow client number key value at desc a earlier ask deed past is o less =
+    (descends_rest (told_by client (Gathered own seq replies)) (told client before) desc) a earlier deed past is o less
+late heading (Did m s did ∷ before) h follow client number key value at desc a earlier deed past is o less =
     at_test (shard_of key heading.shards == s && home_of heading client == m)
     (λ o. late heading before h.1 follow.1 client number key value at
-    (descends_rest (told_by_deed client did) (told client before) desc) earlier_peek earlier ask deed past is o less) o
+    (descends_rest (told_by_deed client did) (told client before) desc) earlier_peek earlier deed past is o less) o
   where
     earlier_peek : Among (Peeked client number key value at) before
     earlier_peek = past_deed client number key value at m s did before a
@@ -211,18 +209,23 @@ late heading (Did m s did ∷ before) h follow client number key value at desc a
         → Older (deed ∷ past) (put_if b did (history (home_of heading client) (shard_of key heading.shards) before))
         → suc (length past) ≤ at
     at_test true next (inl same) =
-        let k = newer client number earlier ask key value at before did (sym (ap asking_of (head same)) ∙ is) follow.0 desc earlier_peek in
+        let k = newer client number earlier key value at before did (sym (ap (number_in client) (head same)) ∙ is) follow.0 desc earlier_peek in
         absurd (omega (arith, k, less))
     at_test true next (inr o) = next o
     at_test false next o = next o
 
-pub peeks_late-holds : (heading : Heading) (past : List Line) → IsHeading heading → AllStand heading past
-    → peeks_late heading (course heading past)
-peeks_late-holds heading past is_heading stand client number key value at a earlier ask deed before is o less =
+-- A peek names a place behind each deed of the client's earlier steps at that shard.
+pub peeks_late : (heading : Heading) (past : List Line) → IsHeading heading → AllStand heading past
+    → (client number : ℕ) (key : List ℕ) (value : Option (List Field)) (at : ℕ)
+    → Among (Peeked client number key value at) (course heading past)
+    → (earlier : ℕ) (deed : Deed) (before : List Deed) → number_in client deed ≡ Some earlier
+    → Older (deed ∷ before) (history (home_of heading client) (shard_of key heading.shards) (course heading past))
+    → earlier < number → suc (length before) ≤ at
+peeks_late heading past is_heading stand client number key value at a earlier deed before is o less =
     late heading (course heading past) (course_causal heading past is_heading stand) (all_follow heading past stand) client
     number key value at
     (subst Descends (sym (answers_stand-holds heading past client))
-    (numbers_descend-holds heading client past stand)) a earlier ask deed before is o less
+    (numbers_descend-holds heading client past stand)) a earlier deed before is o less
 
 grows : (heading : Heading) (events : List Event) → IsCausal heading events
     → (client number earlier : ℕ) (key other : List ℕ) (value seen : Option (List Field)) (at place : ℕ)
@@ -258,8 +261,11 @@ grows heading (event ∷ before) h client number earlier key other value seen at
     grows heading before h.1 client number earlier key other value seen at place
     (descends_rest (told_by client event) (told client before) desc) a b shard less
 
-pub peeks_grow-holds : (heading : Heading) (past : List Line) → IsHeading heading → AllStand heading past
-    → peeks_grow heading (course heading past)
-peeks_grow-holds heading past is_heading stand client number earlier key other value seen at place a b shard less =
+-- Nor does it name one before a place that an earlier peek of the client at that shard named.
+pub peeks_grow : (heading : Heading) (past : List Line) → IsHeading heading → AllStand heading past
+    → (client number earlier : ℕ) (key other : List ℕ) (value seen : Option (List Field)) (at place : ℕ)
+    → Among (Peeked client number key value at) (course heading past) → Among (Peeked client earlier other seen place) (course heading past)
+    → shard_of other heading.shards ≡ shard_of key heading.shards → earlier < number → place ≤ at
+peeks_grow heading past is_heading stand client number earlier key other value seen at place a b shard less =
     grows heading (course heading past) (course_causal heading past is_heading stand) client number earlier key other value seen at place
     (subst Descends (sym (answers_stand-holds heading past client)) (numbers_descend-holds heading client past stand)) a b shard less

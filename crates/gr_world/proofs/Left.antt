@@ -4,6 +4,7 @@ use Rattle.std.proofs.Common.{inr}
 use Rattle.std.proofs.Common.{arith, reverse, if◌then◌else◌}
 use Rattle.std.proofs.lemmas.Bool.Decides.{nat_tests}
 use Rattle.gr_history.specs.declared.deed.Deed.{Deed}
+use Rattle.gr_law.specs.Grids.{Grid}
 use Rattle.gr_law.proofs.Growth.{same_grid}
 use Rattle.gr_script.specs.declared.line.Line.{Line}
 use Rattle.gr_script.specs.Rules.{Heading}
@@ -14,10 +15,11 @@ use Rattle.std.proofs.lemmas.List.{reverse-reverse}
 use Rattle.gr_history.specs.declared.record.Record.{Record}
 use Rattle.gr_script.specs.Rules.{IsScript}
 use Rattle.gr_world.specs.Numbered.{numbers_from}
-use Rattle.gr_world.specs.Records.{member_left, members_left, IsReplayed}
+use Rattle.gr_world.specs.Records.{member_left, members_left, clients_left, IsReplayed}
+use Rattle.gr_world.specs.Served.{histories_in, AreServed, HasServed, FollowsLines}
 use Rattle.gr_world.specs.Histories.{deeds_at, history_at, grid_of, IsLawAbiding, KeepsLaws}
 use Rattle.gr_world.proofs.Whole.{whole_course}
-use Rattle.gr_world.proofs.Served.{script_causal, script_abiding}
+use Rattle.gr_world.proofs.Served.{script_causal, script_abiding, script_served, script_follows, histories_at, served_same, follow_same}
 
 deeds_from : (f : ℕ → List Deed) (from n shard place : ℕ) → shard < n → place ≡ from + shard
     → deeds_at shard (numbers_from from n f) ≡ f place
@@ -92,3 +94,27 @@ left_abiding heading lines is left replayed shard within =
     let events = course heading (reverse lines) in
     subst IsLawAbiding (one_grid heading events (script_causal heading lines is) shard within
     ∙ ap (grid_of heading shard) (sym replayed.members)) (script_abiding heading lines is shard)
+
+-- Its histories are those of the course.
+left_histories : (heading : Heading) (lines : List Line) → IsScript heading lines → (left : Record) → IsReplayed heading lines left
+    → (member shard : ℕ) → shard < heading.shards
+    → histories_at (course heading (reverse lines)) member shard ≡ histories_in left member shard
+left_histories heading lines is left replayed member shard within =
+    let events = course heading (reverse lines) in
+    ap (λ (grid : Grid). grid.history member) (one_grid heading events (script_causal heading lines is) shard within)
+    ∙ ap (λ all. history_at shard all member) (sym replayed.members)
+
+-- So its clients were served, in the order of the lines.
+pub left_served : (heading : Heading) (lines : List Line) → IsScript heading lines → (left : Record) → IsReplayed heading lines left
+    → HasServed heading lines left
+left_served heading lines is left replayed =
+    subst (AreServed heading lines (histories_in left)) (sym replayed.clients)
+    (served_same heading lines (histories_at (course heading (reverse lines))) (histories_in left)
+    (clients_left heading (course heading (reverse lines))) is.heading.shards.0
+    (left_histories heading lines is left replayed) (script_served heading lines is))
+
+pub left_follows : (heading : Heading) (lines : List Line) → IsScript heading lines → (left : Record) → IsReplayed heading lines left
+    → FollowsLines heading lines (histories_in left)
+left_follows heading lines is left replayed =
+    follow_same heading lines (histories_at (course heading (reverse lines))) (histories_in left)
+    (left_histories heading lines is left replayed) (script_follows heading lines)

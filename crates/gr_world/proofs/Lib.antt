@@ -7,11 +7,10 @@ pub mod Asked
 pub mod Joins
 pub mod Causal
 pub mod Clients
-pub mod Placed
 pub mod Peeks
 pub mod Numbers
 pub mod Late
-pub mod Told
+pub mod Serving
 pub mod Served
 pub mod Left
 pub mod Lists

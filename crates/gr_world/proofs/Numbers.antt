@@ -1,5 +1,5 @@
 -- The steps of a client are in order.
-use Rattle.std.proofs.Common.{◌≡◌, ℕ, ◌+◌, ◌≤◌, List, [], ◌∷◌, Bool, true, false, ◌==◌, refl, sym, ap, ◌∙◌, subst}
+use Rattle.std.proofs.Common.{◌≡◌, ℕ, ◌+◌, ◌≤◌, ◌<◌, List, [], ◌∷◌, Bool, true, false, ◌==◌, refl, sym, ap, ◌∙◌, subst}
 use Rattle.std.proofs.Common.{arith, if◌then◌else◌}
 use Rattle.std.specs.Prelude.{Option, Some, None}
 use Rattle.std.proofs.lemmas.Bool.Decides.{nat_tests}
@@ -10,13 +10,37 @@ use Rattle.gr_script.specs.declared.line.Line.TheVariants.{Step, Deliver, Hear, 
 use Rattle.gr_script.specs.declared.line.Line.TheVariants as line
 use Rattle.gr_script.specs.Rules.{Heading, StandsAfter, AllStand}
 use Rattle.gr_script.specs.Steps.{step_count}
-use Rattle.gr_world.specs.Clients.{add_some, number_at, numbers, AllBelow, Descends}
+use Rattle.gr_world.specs.Clients.{add_some}
 use Rattle.std.specs.Option.{is_some}
 use Rattle.std.proofs.lemmas.List.Sums.{sum_by-cons}
 use Rattle.gr_script.specs.Steps.{step_of}
 use Rattle.gr_script.specs.declared.line.Step.{Step as StepOf}
 use Rattle.std.proofs.Common.{cond}
 use Rattle.gr_world.proofs.Events.{equal_numbers}
+
+-- the number of the client's step, where the line is one
+abbrev pub number_at : ℕ → Line → Option ℕ
+number_at client (Step own number (act.Call ask)) = if own == client then Some number else None
+number_at client (Step own number (act.Query ask)) = if own == client then Some number else None
+number_at client (Step own number (act.Peek key)) = if own == client then Some number else None
+number_at client (Deliver to of number) = None
+number_at client (line.Report of) = None
+number_at client (Hear to of number) = None
+number_at client (Sweep of moment) = None
+number_at client (Join joiner provider) = None
+
+abbrev pub numbers : ℕ → List Line → List ℕ
+numbers client [] = []
+numbers client (line ∷ past) = add_some (number_at client line) (numbers client past)
+
+abbrev pub AllBelow : ℕ → List ℕ → Type 0
+AllBelow n [] = Unit {0}
+AllBelow n (first ∷ rest) = (first < n) × AllBelow n rest
+
+-- the numbers are distinct and in order
+abbrev pub Descends : List ℕ → Type 0
+Descends [] = Unit {0}
+Descends (first ∷ rest) = AllBelow first rest × Descends rest
 
 all_below : (n m : ℕ) (xs : List ℕ) → n ≤ m → AllBelow n xs → AllBelow m xs
 all_below n m [] le h = tt

@@ -14,7 +14,6 @@ use Rattle.gr_script.specs.Rules.{Heading, IsHeading, home_of, AllStand}
 use Rattle.gr_world.specs.Events.{Event, Did, Peeked, Gathered, history}
 use Rattle.gr_world.specs.Courses.{course}
 use Rattle.gr_world.specs.Causes.{IsNextEvent, IsCausal}
-use Rattle.gr_world.specs.Clients.{peeks_stand}
 use Rattle.gr_world.proofs.Events.{at_put}
 use Rattle.gr_world.proofs.Causal.{course_causal}
 
@@ -74,9 +73,17 @@ seen_at heading (event ∷ before) h client number key value at (inr a) =
       },
     )
 
-pub peeks_stand-holds : (heading : Heading) (past : List Line) → IsHeading heading → AllStand heading past
-    → peeks_stand heading (course heading past)
-peeks_stand-holds heading past is_heading stand client number key value at a =
+-- what a peek tells is present at a place of the history
+pub record IsPlace (heading : Heading) (course : List Event) (client : ℕ) (key : List ℕ) (value : Option (List Field))
+    (at : ℕ) : Type 0 where
+  pub value_is : value ≡ present key (at_place at (history (home_of heading client) (shard_of key heading.shards) course))
+  pub within : at ≤ length (history (home_of heading client) (shard_of key heading.shards) course)
+
+-- Each peek was answered what is present at the place that it names, in the history as it is in the end.
+pub peeks_stand : (heading : Heading) (past : List Line) → IsHeading heading → AllStand heading past
+    → (client number : ℕ) (key : List ℕ) (value : Option (List Field)) (at : ℕ)
+    → Among (Peeked client number key value at) (course heading past) → IsPlace heading (course heading past) client key value at
+peeks_stand heading past is_heading stand client number key value at a =
     let now : List Deed = history (home_of heading client) (shard_of key heading.shards) (course heading past) in
     let found = seen_at heading (course heading past) (course_causal heading past is_heading stand) client number key value at a in
     record {

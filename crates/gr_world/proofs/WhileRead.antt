@@ -13,9 +13,8 @@ use Rattle.gr_world.specs.Played.{IsPlayed}
 use Rattle.gr_world.specs.Records.{IsLeft}
 use Rattle.gr_world.specs.Worlds.{CanPlay, IsWorld, Plays}
 use Rattle.gr_world.specs.declared.world.World.{World}
-use Rattle.gr_world.proofs.Left.{left_abiding}
+use Rattle.gr_world.proofs.Left.{left_abiding, left_served, left_follows}
 use Rattle.gr_world.proofs.Playable.{next_playable}
-use Rattle.gr_world.proofs.Served.{script_served}
 
 -- All lines were played but the one that is next.
 pub record IsPlaying (text : List ℕ) (heading : Heading) (t : Taken) (next : Option Line) (world : World) : Type 0 where
@@ -101,5 +100,6 @@ ends text heading t world left is leaves =
       read = is.whole;
       replayed = replayed;
       laws = left_abiding heading lines is.ruled left replayed;
-      served = script_served heading lines is.ruled;
+      served = left_served heading lines is.ruled left replayed;
+      in_order = left_follows heading lines is.ruled left replayed;
     }

@@ -5,7 +5,7 @@ use Rattle.gr_history.specs.declared.record.Record.{Record}
 use Rattle.gr_law.specs.Grids.{Grid}
 use Rattle.gr_law.specs.Integrity.{IsWhole}
 use Rattle.gr_law.specs.QueryMaps.{law_queries}
-use Rattle.gr_law.specs.Laws.{law_0, law_1, law_2, law_3, same_value, law_4, law_5}
+use Rattle.gr_law.specs.Laws.{law_0, law_1, law_2, law_3, same_value, same_entry, law_4, law_5}
 use Rattle.gr_script.specs.Rules.{Heading}
 use Rattle.gr_world.specs.Records.{MemberHistories, histories_of}
 
@@ -40,6 +40,7 @@ pub record IsLawAbiding (grid : Grid) : Type 0 where
   pub late : law_2 grid
   pub held : law_3 grid
   pub same : same_value grid
+  pub one_entry : same_entry grid
   pub no_removed : law_4 grid
   pub one_history : law_5 grid
   pub queries : law_queries grid

@@ -10,5 +10,6 @@ pub mod Numbered
 pub mod Played
 pub mod Records
 pub mod Rows
+pub mod Served
 pub mod Tasks
 pub mod Worlds

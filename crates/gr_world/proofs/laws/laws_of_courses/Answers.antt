@@ -1,5 +1,5 @@
 use Rattle.gr_world.proofs.Events.{one_deed}
-use Rattle.gr_world.proofs.Served.{script_causal, script_abiding, script_served}
+use Rattle.gr_world.proofs.Served.{script_causal, script_abiding, script_served, script_follows}
 use Rattle.gr_world.proofs.laws.laws_of_courses.Goals as goal
 
 pub returns-clause-causal : goal.returns-clause-causal
@@ -10,6 +10,9 @@ returns-clause-abiding c = script_abiding
 
 pub returns-clause-served : goal.returns-clause-served
 returns-clause-served c = script_served
+
+pub returns-clause-in_order : goal.returns-clause-in_order
+returns-clause-in_order c = script_follows
 
 pub returns-clause-one : goal.returns-clause-one
 returns-clause-one c = one_deed
