@@ -9,9 +9,10 @@ use Rattle.gr_history.specs.declared.ask.Ask.TheVariants as asks
 use Rattle.gr_history.specs.declared.reply.Reply.TheVariants as replies
 use Rattle.gr_history.specs.declared.query_ask.QueryAsk.TheVariants.{Enrol, Fetch}
 use Rattle.gr_history.specs.declared.query_reply.QueryReply.TheVariants.{Opened, Fetched}
-use Rattle.gr_history.specs.declared.verdict.Verdict.TheVariants.{Applied, Discarded, Repeat}
+use Rattle.gr_history.specs.declared.image.Image.{Image}
+use Rattle.gr_history.specs.declared.verdict.Verdict.TheVariants.{Applied, Discarded}
 use Rattle.gr_history.specs.declared.deed.Deed.{Deed}
-use Rattle.gr_history.specs.declared.deed.Deed.TheVariants.{Call, Asked, Taken, Swept}
+use Rattle.gr_history.specs.declared.deed.Deed.TheVariants.{Call, Asked, Taken, Imaged, Swept}
 use Rattle.gr_law.specs.Grids.{Grid}
 use Rattle.gr_law.specs.Small.{key}
 
@@ -34,11 +35,11 @@ two first second = record {
   history = λ member. if member == 1 then first else if member == 2 then second else [];
 }
 
--- the first member puts a value at the key, and makes this of it
+-- a call that puts a value at the key, and makes this
 abbrev pub puts : Change → Deed
 puts change = Call 1 2 1 (asks.Put key []) replies.Null (Some change)
 
--- what the second member made, and what the first makes of it: it takes a put in, and tells the other that it has it
+-- what the second member makes
 abbrev pub older : Change
 older = changed (Put []) 1 2
 
@@ -48,29 +49,33 @@ newer = changed (Put []) 2 2
 abbrev pub removed : Change
 removed = changed Remove 2 2
 
--- Law 0: a change that never came in is known.
-abbrev pub known_unseen : Grid
-known_unseen = two (Taken older Repeat ∷ []) (puts older ∷ [])
+-- an image of what the second member made or took in, without a row and with no floor
+abbrev pub image : Image
+image = record { from = 2; at = 2; rows = []; vector = record { ids = record { member = 2; rv = 1 } ∷ []; spare = 0 }; floor = 0 }
 
--- Law 1: a new change has the version of one that was taken in.
+-- Law 0: a change is known, and neither stands nor is under the floor.
+abbrev pub known_unseen : Grid
+known_unseen = two (Imaged image ∷ []) (puts older ∷ [])
+
+-- Law 1: a new change has the version of one that was taken in, by an image.
 abbrev pub equal_versions : Grid
-equal_versions = two (puts (changed (Put []) 1 1) ∷ Taken older Applied ∷ []) []
+equal_versions = two (puts (changed (Put []) 1 1) ∷ Imaged image ∷ []) (puts older ∷ [])
 
 -- Law 2: a tombstone comes back once it has expired.
 abbrev pub tombstone_again : Grid
 tombstone_again = two (Taken removed Applied ∷ Swept 600 (key ∷ []) ∷ Taken removed Applied ∷ []) []
 
--- Laws 3 and 5: a removal that wins never comes in, so the value stays.
+-- Laws 3 and 5: a removal that was taken in by an image wins, and yet an older value is present.
 abbrev pub removal_ignored : Grid
-removal_ignored = two (Taken removed Repeat ∷ Taken older Applied ∷ []) (Taken removed Applied ∷ Taken older Applied ∷ [])
+removal_ignored = two (Taken older Applied ∷ Imaged image ∷ []) (Taken removed Applied ∷ Taken older Applied ∷ [])
 
--- The same of a put with the value that is there.
+-- The same of a put with the value that is present.
 abbrev pub put_ignored : Grid
-put_ignored = two (Taken newer Repeat ∷ Taken older Applied ∷ []) (Taken newer Applied ∷ Taken older Applied ∷ [])
+put_ignored = two (Taken older Applied ∷ Imaged image ∷ []) (Taken newer Applied ∷ Taken older Applied ∷ [])
 
 -- Law 4: a put stands beside a removal with its stamp.
 abbrev pub one_stamp : Grid
-one_stamp = two (Taken (changed Remove 1 2) Discarded ∷ Taken older Applied ∷ []) []
+one_stamp = two (Taken older Applied ∷ Imaged image ∷ []) (Taken (changed Remove 1 2) Discarded ∷ Taken older Applied ∷ [])
 
 abbrev pub name : List ℕ
 name = 113 ∷ []
