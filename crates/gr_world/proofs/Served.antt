@@ -23,7 +23,8 @@ use Rattle.gr_world.specs.Clients.{add_some, Wish, OfKey, OfQuery, Asking, askin
 use Rattle.gr_world.specs.Events.{Event, history}
 use Rattle.gr_world.specs.Histories.{IsLawAbiding}
 use Rattle.gr_world.specs.Records.{client_left, clients_left}
-use Rattle.gr_world.specs.Served.{Histories, number_in, IsPeek, IsServed, ArePlaced, client_of, AreServed, FollowsLines}
+use Rattle.gr_world.specs.Grids.{Histories}
+use Rattle.gr_world.specs.Served.{number_in, IsPeek, IsServed, ArePlaced, client_of, AreServed, FollowsLines}
 use Rattle.gr_law.proofs.Reached.{law_0-holds}
 use Rattle.gr_law.proofs.Took.{law_1-holds}
 use Rattle.gr_law.proofs.Late.{law_2-holds}

@@ -321,36 +321,22 @@ more_events heading one (Join joiner provider) before a =
     rest_keeps heading (Among one) (λ m s doing now quiet e. inr e) (Join joiner provider) before tt a
 
 module _ (heading : Heading) (client number : ℕ) (key : List ℕ) (value : Option (List Field)) (at : ℕ) where
+  -- another step is no peek
+  no_peek : (b : Bool) (one : Served) → (Looked number key value at ≡ one → ⊥)
+      → Among (Looked number key value at) (option_to_list (if_own b one)) → ⊥
+  no_peek true one apart (inl is) = apart is
+  no_peek true one apart (inr a) = a
+  no_peek false one apart a = a
+
   peek_at : (line : Line) (before : List Event)
       → Among (Looked number key value at) (option_to_list (served_at heading client line before))
       → Among (Peeked client number key value at) (after heading line before)
-  peek_at (Step own seq (act.Call ask)) before a = at_own (own == client) a
-    where
-      at_own : (b : Bool)
-          → Among (Looked number key value at) (option_to_list (if_own b (called seq ask (done_at heading own ask before))))
-          → Among (Peeked client number key value at) (after heading (Step own seq (act.Call ask)) before)
-      at_own true (inl is) = absurd (no is)
-        where
-          no : Looked number key value at ≡ called seq ask (done_at heading own ask before) → ⊥
-          no e = cc
-      at_own true (inr a) = absurd a
-      at_own false a = absurd a
-  peek_at (Step own seq (act.Query ask)) before a = at_own (own == client) a
-    where
-      at_own : (b : Bool)
-          → Among (Looked number key value at) (option_to_list (if_own b (Queried seq ask (replies_to heading own ask before))))
-          → Among (Peeked client number key value at) (after heading (Step own seq (act.Query ask)) before)
-      at_own true (inl is) = absurd (no is)
-        where
-          no : Looked number key value at ≡ Queried seq ask (replies_to heading own ask before) → ⊥
-          no e = cc
-      at_own true (inr a) = absurd a
-      at_own false a = absurd a
+  peek_at (Step own seq (act.Call ask)) before a =
+      absurd (no_peek (own == client) (called seq ask (done_at heading own ask before)) (λ e. cc) a)
+  peek_at (Step own seq (act.Query ask)) before a =
+      absurd (no_peek (own == client) (Queried seq ask (replies_to heading own ask before)) (λ e. cc) a)
   peek_at (Step own seq (act.Peek which)) before a = at_own (own == client) refl a
     where
-      past : List Deed
-      past = history (home_of heading own) (shard_of which heading.shards) before
-
       same : (v : Option (List Field)) (n : ℕ) → own ≡ client → Looked number key value at ≡ Looked seq which v n
           → Peeked client number key value at ≡ Peeked own seq which v n
       same v n own_is e = cc

@@ -12,17 +12,11 @@ use Rattle.gr_law.specs.Grids.{Among, Grid}
 use Rattle.gr_law.specs.Next.{IsNext}
 use Rattle.gr_script.specs.Rules.{Heading, home_of}
 use Rattle.gr_world.specs.Events.{Event, Did, Peeked, Gathered, history}
+use Rattle.gr_world.specs.Grids.{grid_from}
 
--- all members' histories of one shard
+-- all members' histories of one shard, as events have them
 abbrev pub grid_at : Heading → ℕ → List Event → Grid
-grid_at heading shard course = record {
-  members = heading.members;
-  founders = heading.founders;
-  shard = shard;
-  shards = heading.shards;
-  opening = λ _. heading.floor;
-  history = λ member. history member shard course;
-}
+grid_at heading shard course = grid_from heading (λ member shard. history member shard course) shard
 
 -- A call stands at its client's member, in the shard of its key. A query's step stands at its client's member.
 abbrev pub IsPlaced : Heading → ℕ → ℕ → Deed → Type 0

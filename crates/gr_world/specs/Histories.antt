@@ -7,6 +7,7 @@ use Rattle.gr_law.specs.Integrity.{IsWhole}
 use Rattle.gr_law.specs.QueryMaps.{law_queries}
 use Rattle.gr_law.specs.Laws.{law_0, law_1, law_2, law_3, same_value, same_entry, law_4, law_5}
 use Rattle.gr_script.specs.Rules.{Heading}
+use Rattle.gr_world.specs.Grids.{grid_from}
 use Rattle.gr_world.specs.Records.{MemberHistories, histories_of}
 
 -- the deeds of a shard, of which this many come before it; there are none behind the last shard
@@ -23,14 +24,7 @@ history_at shard (first ∷ rest) member =
 
 -- the histories of all members at a shard
 abbrev pub grid_of : Heading → ℕ → List MemberHistories → Grid
-grid_of heading shard all = record {
-  members = heading.members;
-  founders = heading.founders;
-  shard = shard;
-  shards = heading.shards;
-  opening = λ _. heading.floor;
-  history = history_at shard all;
-}
+grid_of heading shard all = grid_from heading (λ member shard. history_at shard all member) shard
 
 -- What was taken in was made, and the laws of records hold of the histories.
 pub record IsLawAbiding (grid : Grid) : Type 0 where

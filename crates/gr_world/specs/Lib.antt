@@ -3,6 +3,7 @@ pub mod Clients
 pub mod Courses
 pub mod Doings
 pub mod Events
+pub mod Grids
 pub mod Histories
 pub mod Named
 pub mod Noted

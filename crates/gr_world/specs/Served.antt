@@ -26,14 +26,12 @@ use Rattle.gr_script.specs.declared.line.Step.{Step}
 use Rattle.gr_script.specs.Rules.{Heading, IsStated, home_of}
 use Rattle.gr_script.specs.Steps.{steps_of}
 use Rattle.gr_world.specs.Clients.{askings, asked}
+use Rattle.gr_world.specs.Grids.{Histories}
 use Rattle.gr_world.specs.Histories.{history_at}
 use Rattle.gr_world.specs.Numbered.{numbers_from}
 use Rattle.gr_world.specs.Records.{histories_of}
 
--- of each member, and each of its shards, the history, the newest deed first
-abbrev pub Histories : Type 0
-Histories = ℕ → ℕ → List Deed
-
+-- the histories of a record
 abbrev pub histories_in : Record → Histories
 histories_in left member shard = history_at shard (map histories_of left.members) member
 
