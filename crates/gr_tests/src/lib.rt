@@ -14,6 +14,8 @@ mod slots;
 #[cfg(test)]
 mod stability;
 #[cfg(test)]
+mod stamps;
+#[cfg(test)]
 mod streams;
 #[cfg(test)]
 mod turns;
