@@ -94,12 +94,19 @@ fn a_full_inbox_hands_the_mail_back(rt: HostRuntime) -> Result<(), Fail> {
     Ok(())
 }
 
-// What member 2 takes of the mails from 1 on, which a client posts to it alone.
-fn delivered<R: Wait + Sync>(rt: &R, alloc: Global, trouble: u32, mails: u64) -> Option<Vec<u64>>
-    requires { trouble ≤ 2147483646 }
+// What two members take of the mails from 1 on, each of which goes to those whose bits are set.
+fn delivered<R: Wait + Sync>(
+    rt: &R,
+    alloc: Global,
+    sender: u8,
+    trouble: u32,
+    posts: &[u8],
+) -> Option<[Vec<u64>; 2]>
+    requires sender { (1 ≤ sender) × (sender ≤ 72) }
+    requires trouble { trouble ≤ 2147483646 }
 {
-    let (first, first_pass, _) = inbox_with_one(alloc, 16)?;
-    let (second, second_pass, taker) = inbox_with_one(alloc, 16)?;
+    let (first, first_pass, first_taker) = inbox_with_one(alloc, 16)?;
+    let (second, second_pass, second_taker) = inbox_with_one(alloc, 16)?;
     let Ok(mut passes) = SendPassList::new(alloc) else {
         return None;
     };
@@ -112,12 +119,13 @@ fn delivered<R: Wait + Sync>(rt: &R, alloc: Global, trouble: u32, mails: u64) ->
     let (Ok(()), Ok(())) = (inboxes.push(first), inboxes.push(second)) else {
         return None;
     };
-    let Ok(mut courier) = Courier::new(alloc, 1, trouble, passes) else {
+    let Ok(mut courier) = Courier::new(alloc, sender, trouble, passes) else {
         return None;
     };
-    for at in 0..mails {
-        let one = mail(alloc, at + 1)?;
-        let Ok(()) = courier.post(alloc, &one, 2) else {
+    for at in 0..posts.len() {
+        let one = mail(alloc, at as u64 + 1)?;
+        let to = posts[at].min(3);
+        let Ok(()) = courier.post(alloc, &one, to) else {
             return None;
         };
     }
@@ -125,25 +133,53 @@ fn delivered<R: Wait + Sync>(rt: &R, alloc: Global, trouble: u32, mails: u64) ->
         return None;
     };
     courier.flush(rt, &inboxes);
-    take_all(rt, alloc, inboxes.get(1)?, taker, 17)
+    Some([
+        take_all(rt, alloc, inboxes.get(0)?, first_taker, 17)?,
+        take_all(rt, alloc, inboxes.get(1)?, second_taker, 17)?,
+    ])
 }
 
+// Each mail draws a number for each of its members, in their order, from where the sender and the trouble
+// begin, and comes before what is due behind it.
 #[test]
 fn mails_go_by_the_trouble_plan(rt: HostRuntime) -> Result<(), Fail> {
-    // the trouble, how many mails, and the numbers that are taken, of which an End has 0
-    let cases: [(u32, u64, &[u64]); 5] = [
-        (7, 4, &[1, 1, 2, 3, 4, 0]),
-        (0, 8, &[1, 2, 3, 4, 5, 6, 7, 8, 0]),
-        (1, 8, &[3, 3, 5, 6, 6, 7, 8, 8, 1, 2, 4, 0]),
-        (7, 8, &[1, 1, 2, 3, 6, 7, 7, 4, 5, 8, 0]),
-        (2147483646, 8, &[1, 2, 2, 4, 4, 5, 8, 3, 6, 7, 0]),
+    // the sender, the trouble, the members of each mail, and the numbers that are taken, of which an End has 0
+    let cases: [(u8, u32, &[u8], [&[u64]; 2]); 8] = [
+        (1, 7, &[2; 4], [&[0], &[1, 1, 2, 3, 4, 0]]),
+        (1, 0, &[2; 8], [&[0], &[1, 2, 3, 4, 5, 6, 7, 8, 0]]),
+        (1, 1, &[2; 8], [&[0], &[3, 3, 5, 6, 6, 7, 8, 8, 1, 2, 4, 0]]),
+        (1, 7, &[2; 8], [&[0], &[1, 1, 2, 3, 6, 7, 7, 4, 5, 8, 0]]),
+        (
+            1,
+            2147483646,
+            &[2; 8],
+            [&[0], &[1, 2, 2, 4, 4, 5, 8, 3, 6, 7, 0]],
+        ),
+        (2, 0, &[1, 2, 3], [&[1, 3, 0], &[2, 3, 0]]),
+        (
+            65,
+            5,
+            &[3, 3, 2, 2, 1, 3, 3, 3],
+            [&[5, 1, 2, 6, 7, 8, 0], &[2, 2, 4, 7, 8, 1, 3, 6, 0]],
+        ),
+        (
+            17,
+            1,
+            &[3, 3, 2, 3, 3, 3, 3],
+            [
+                &[7, 7, 1, 5, 2, 4, 6, 0],
+                &[1, 1, 3, 4, 4, 5, 7, 7, 2, 6, 0],
+            ],
+        ),
     ];
-    for (trouble, mails, numbers) in cases {
+    for (sender, trouble, posts, numbers) in cases {
+        assert!(rt; 1 <= sender && sender <= 72);
         assert!(rt; trouble <= 2147483646);
-        let Some(taken) = delivered(&rt, rt.alloc(), trouble, mails) else {
+        let Some(taken) = delivered(&rt, rt.alloc(), sender, trouble, posts) else {
             panic!(rt; "no memory")
         };
-        assert!(rt; taken.as_slice() == numbers);
+        assert!(rt; taken[0].as_slice() == numbers[0]);
+        assert!(rt; taken[1].as_slice() == numbers[1]);
     }
     Ok(())
 }
