@@ -64,7 +64,7 @@ module _ {T E B : Type 0} (entries : T → List E) (base_of : T → B) where
       → (s : State (Option T) (View E B)) (o : Opened entries base_of s) → o.out ≡ true → get_elem? s.views id ≡ some v
       → CanGrab id v s
   grabs_odd id v op none numbered s o busy at =
-      let w : View E B = lost_by v in
+      let w : View E B = lost_by v (get_or s.words 0 0) in
       let found : get_or s.words 0 0 ≡ length o.list * 2 + 1 = ap (λ (ws : List ℕ). get_or ws 0 0) o.word
       ∙ ap (λ (b : Bool). length o.list * 2 + bit b) busy in
       let f = o.each id v at op in (

@@ -72,7 +72,7 @@ module _ {T E B : Type 0} (entries : T → List E) (base_of : T → B) where
   abbrev pub Grabbed : Me (Option T) (View E B) → ℕ → Me (Option T) (View E B) → Type 0
   Grabbed m r n =
       (r % 2 ≡ 0 → (x : T) × Won m x n)
-      × (r % 2 ≢ 0 → (n.0 ≡ lost_by m.0) × (n.1 ≡ []))
+      × (r % 2 ≢ 0 → (n.0 ≡ lost_by m.0 r) × (n.1 ≡ []))
 
   -- the value that the slot has goes home
   abbrev pub Released : Me (Option T) (View E B) → ℕ → Me (Option T) (View E B) → Type 0

@@ -61,6 +61,7 @@ module _ {E B : Type 0} where
     parts = [];
     won = 0;
     lost = 0;
+    word = 0;
     turn = None;
     next = None;
   }
@@ -120,17 +121,17 @@ module _ {E B : Type 0} where
   abbrev pub won_by : View E B → List E → View E B
   won_by v list = record v { turn = Some list; won = v.won + 1 }
 
-  -- after a grab that found the word odd
-  abbrev pub lost_by : View E B → View E B
-  lost_by v = record v { lost = v.lost + 1 }
+  -- after a grab that found this odd word
+  abbrev pub lost_by : View E B → ℕ → View E B
+  lost_by v word = record v { lost = v.lost + 1; word = word }
 
   -- the list that the turn found
   abbrev pub found : View E B → List E
   found v = list_in v.turn
 
-  -- after grabs that brought the lost ones to n
-  abbrev pub with_lost : View E B → ℕ → View E B
-  with_lost v n = record v { lost = n }
+  -- after grabs that brought the lost ones to n, the last of which found the word
+  abbrev pub with_lost : View E B → ℕ → ℕ → View E B
+  with_lost v n word = record v { lost = n; word = word }
 
   -- after a turn that left the list
   abbrev pub left_by : View E B → List E → View E B

@@ -103,7 +103,7 @@ impl<T: Kept> TurnLock<T> {
     pub fn enter<'a, R: Wait + Sync>(&'a self, rt: &R, seat: Seat<T>) -> Turn<'a, T>
         requires { seat.lock ≡ self.now }
         ensures lock { result.lock ≡ seat.lock }
-        ensures won { result.view ≡ won_by (with_lost seat.view result.view.lost) (T.entries result.value) }
+        ensures won { result.view ≡ won_by (with_lost seat.view result.view.lost result.view.word) (T.entries result.value) }
         ensures lost { seat.view.lost ≤ result.view.lost }
         ensures base { seat.view.base ≡ Some (T.base result.value) }
         ensures seen { StartsWith (T.entries result.value) seat.view.seen }
@@ -126,7 +126,7 @@ impl<T: Kept> TurnLock<T> {
         ensures won { IfOk result (λ turn. turn.view ≡ won_by seat.view (T.entries turn.value)) }
         ensures base { IfOk result (λ turn. seat.view.base ≡ Some (T.base turn.value)) }
         ensures seen { IfOk result (λ turn. StartsWith (T.entries turn.value) seat.view.seen) }
-        ensures busy { IfErr result (λ busy. (busy.seat.lock ≡ seat.lock) × (busy.seat.view ≡ lost_by seat.view)) }
+        ensures busy { IfErr result (λ busy. (busy.seat.lock ≡ seat.lock) × (busy.seat.view ≡ lost_by seat.view busy.word)) }
         ensures word { IfErr result (λ busy. busy.word % 2 ≢ 0) }
     {
         let mut token = seat.into_token();

@@ -21,6 +21,8 @@ pub struct View<E, B> {
     pub won: u64,
     /// How many of its grabs found the word odd.
     pub lost: u64,
+    /// The odd word that the last of these found, and 0 before the first.
+    pub word: u64,
     /// The list found, while its turn is out.
     pub turn: Option<LinkedList<E>>,
     /// The next number to give, in the first seat alone.
