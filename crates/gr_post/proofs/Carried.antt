@@ -56,6 +56,7 @@ use Rattle.gr_post.specs.Lanes.{
   stopped,
   is_none,
   AreTheirs,
+  AreTried,
   NoneWaits,
   WasRefused,
 }
@@ -69,6 +70,7 @@ use Rattle.gr_post.specs.Couriers.{
   FollowsPlan,
   IsCarried,
   LineMoves,
+  IsEachTried,
   NothingWaits,
   IsRefused,
   stopped_line,
@@ -261,6 +263,18 @@ line_moves ways now n each k d lt =
 
 pub none_wait : (now : List Way) → NoneWaits now → NothingWaits (map line_of now)
 none_wait now all k d lt = ap (λ (l : Line). l.waiting) (at_line now k d (below now k lt)) ∙ all k (way_of d) (below now k lt)
+
+waits : (mails : List Mail) → (mails ≡ [] → ⊥) → is_none mails ≡ false
+waits [] some = absurd (some refl)
+waits (mail ∷ mails) some = refl
+
+pub are_tried : (ways now : List Way) → length now ≡ length ways → AreTried ways now → IsEachTried (map line_of ways) (map line_of now)
+are_tried ways now n each k d lt some =
+    let here = below now k lt in
+    let old = at_line ways k d (subst (λ (j : ℕ). k < j) n here) in
+    let new = at_line now k d here in
+    subst (λ (y : Line × Line). Rose y.0.pass.refused y.1.pass.refused) (λ i. (sym old i, sym new i))
+    (each k (way_of d) here (waits _ (λ e. some (ap (λ (l : Line). l.waiting) new ∙ e))))
 
 pub is_refused : (ways now : List Way) → length now ≡ length ways → WasRefused ways now → IsRefused (map line_of ways) (map line_of now)
 is_refused ways now n was =

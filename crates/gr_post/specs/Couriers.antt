@@ -120,6 +120,11 @@ pub record IsPushed (old new : Carrying) : Type 0 where
 abbrev pub NothingWaits : List Line → Type 0
 NothingWaits lines = (k : ℕ) (d : Line) → k < length lines → (slice_index_or lines k d).waiting ≡ []
 
+-- No inbox is left without a try: at each place where something waits the count of refusals rose.
+abbrev pub IsEachTried : List Line → List Line → Type 0
+IsEachTried old new = (k : ℕ) (d : Line) → k < length new → (slice_index_or new k d).waiting ≢ [] →
+    Rose (slice_index_or old k d).pass.refused (slice_index_or new k d).pass.refused
+
 -- at some place something waits, and there the count of refusals rose
 abbrev pub IsRefused : List Line → List Line → Type 0
 IsRefused old new = (k : ℕ) × (k < length new) × ((d : Line) → ((slice_index_or new k d).waiting ≢ [])

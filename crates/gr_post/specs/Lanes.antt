@@ -112,6 +112,11 @@ AreTheirs rings ways = (length rings ≡ length ways)
 abbrev pub NoneWaits : List Way → Type 0
 NoneWaits ways = (k : ℕ) (d : Way) → k < length ways → (slice_index_or ways k d).waiting ≡ []
 
+-- at each place where something waits the count of refusals rose
+abbrev pub AreTried : List Way → List Way → Type 0
+AreTried old new = (k : ℕ) (d : Way) → k < length new → is_none (slice_index_or new k d).waiting ≡ false →
+    Rose (slice_index_or old k d).pass.refused (slice_index_or new k d).pass.refused
+
 -- at some place something waits, and there the count of refusals rose
 abbrev pub WasRefused : List Way → List Way → Type 0
 WasRefused old new = (k : ℕ) × (k < length new) × ((d : Way) → (is_none (slice_index_or new k d).waiting ≡ false)

@@ -2,7 +2,7 @@ ghost use Rattle.std.specs.Prelude.{◌≡◌, ◌≤◌, ◌<◌, ◌^◌, ◌+
 ghost use Rattle.gr_post.specs.declared.mail.Mail.TheVariants.{End};
 ghost use Rattle.gr_post.specs.declared.stage.Stage.TheVariants.{Open, Ended, Stopped};
 ghost use Rattle.gr_post.specs.Plan.{first_number};
-ghost use Rattle.gr_post.specs.Couriers.{passes_of, begun, posting, ended, stopped_line, AreOf, FollowsPlan, IsPushed, NothingWaits, IsRefused};
+ghost use Rattle.gr_post.specs.Couriers.{passes_of, begun, posting, ended, stopped_line, AreOf, FollowsPlan, IsPushed, IsEachTried, NothingWaits, IsRefused};
 
 use crate::fate::first_number;
 use crate::inbox::InboxList;
@@ -86,10 +86,11 @@ impl Courier {
         Ok(())
     }
 
-    /// Sends what can be sent without waiting for room in an inbox, and says whether nothing waits.
+    /// Sends to each inbox what can be sent without waiting for room in it, and says whether nothing waits.
     pub fn push<R: Wait + Sync>(&mut self, rt: &R, inboxes: &InboxList) -> bool
         requires { AreOf inboxes.now self.old }
         ensures pushed { IsPushed self.old self.new }
+        ensures tried { IsEachTried self.old.lines self.new.lines }
         ensures all { result ≡ true → NothingWaits self.new.lines }
         ensures refused { result ≡ false → IsRefused self.old.lines self.new.lines }
     {

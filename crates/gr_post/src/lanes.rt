@@ -1,7 +1,7 @@
 ghost use Rattle.std.specs.Prelude.{◌≡◌, ◌≤◌, ◌<◌, ℕ, true, false, Bool, [], Some, IfOk, IfErr, length, slice_index_or, map, vec_capacity, if◌then◌else◌};
 ghost use Rattle.gr_post.specs.declared.fate.Fate.TheVariants.{Last};
 ghost use Rattle.gr_post.specs.Plan.{drawn, number_before};
-ghost use Rattle.gr_post.specs.Lanes.{Way, new_way, pass_of, Moves, settled, stopped, ready_with, ready_by, ready_for, AreTheirs, NoneWaits, WasRefused};
+ghost use Rattle.gr_post.specs.Lanes.{Way, new_way, pass_of, Moves, settled, stopped, ready_with, ready_by, ready_for, AreTheirs, AreTried, NoneWaits, WasRefused};
 
 use crate::fate::drawn;
 use crate::inbox::Inbox;
@@ -121,6 +121,7 @@ pub(crate) fn send_each<R: Wait + Sync>(rt: &R, lanes: &mut Vec<Lane>, inboxes: 
     requires { AreTheirs inboxes.now lanes.old.items }
     ensures count { length lanes.new.items ≡ length lanes.old.items }
     ensures moves { (k : ℕ) (d : Way) → k < length lanes.old.items → Moves (slice_index_or lanes.old.items k d) (slice_index_or lanes.new.items k d) }
+    ensures tried { AreTried lanes.old.items lanes.new.items }
     ensures all { result ≡ true → NoneWaits lanes.new.items }
     ensures refused { result ≡ false → WasRefused lanes.old.items lanes.new.items }
 {

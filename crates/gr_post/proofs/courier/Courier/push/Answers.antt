@@ -1,9 +1,9 @@
 use Rattle.std.proofs.Common.{◌<◌, List, ℕ, length, get_or, map, sym, subst, ap, ◌∙◌}
 use Rattle.std.proofs.lemmas.List.{length-map}
 use Rattle.gr_post.specs.Passes.{Ring}
-use Rattle.gr_post.specs.Couriers.{Carrying, Line, line_of, tables_of, LineMoves, IsRefused}
+use Rattle.gr_post.specs.Couriers.{Carrying, Line, line_of, tables_of, LineMoves, IsEachTried, IsRefused}
 use Rattle.gr_post.specs.Lanes.{AreTheirs}
-use Rattle.gr_post.proofs.Carried.{follows_plan, moves, line_moves, none_wait, is_refused, are_theirs, tables_same}
+use Rattle.gr_post.proofs.Carried.{follows_plan, moves, line_moves, none_wait, are_tried, is_refused, are_theirs, tables_same}
 use Rattle.gr_post.proofs.courier.Courier.push.Goals as goal
 
 pub send_each-requires-after_bounds : goal.send_each-requires-after_bounds
@@ -29,6 +29,12 @@ returns-clause-pushed g c =
       plan = follows_plan now s.posted.items s.first s.number s.stage
           (moves ways now s.posted.items s.first s.number s.stage c.self.invariant.0 count moved);
     }
+
+pub returns-clause-tried : goal.returns-clause-tried
+returns-clause-tried g c =
+    let now = c.send_each.new.lanes.items in
+    subst (λ (k : Carrying). IsEachTried k.lines (map line_of now)) c.self.view_is
+    (are_tried c.self.inside.lanes.items now c.send_each.ensures.count c.send_each.ensures.tried)
 
 pub returns-clause-all : goal.returns-clause-all
 returns-clause-all g c = λ e. none_wait c.send_each.new.lanes.items (c.send_each.ensures.all e)
