@@ -1,3 +1,5 @@
+ghost use Rattle.std.specs.Prelude.{◌≡◌, IfOk};
+
 use gr_io::{
     Failed, MemorySink, MemorySource, ReadEnd, Sink, Source, StdSink, StdSource, WriteFault,
     read_all, write_all, write_each,
@@ -91,6 +93,52 @@ impl Write for Broken {
     fn flush(&mut self) -> io::Result<()> {
         Ok(())
     }
+}
+
+/// Fails at every second call.
+#[derive(Drop)]
+struct InTurns {
+    failed: bool,
+}
+
+impl InTurns {
+    fn answer(&mut self, count: usize) -> io::Result<usize>
+        ensures { IfOk result (λ n. n ≡ count) }
+    {
+        self.failed = !self.failed;
+        if self.failed {
+            Ok(count)
+        } else {
+            Err(io::Error::from(io::ErrorKind::Other))
+        }
+    }
+}
+
+impl Read for InTurns {
+    fn read(&mut self, buf: &mut [u8]) -> io::Result<usize> {
+        self.answer(buf.len())
+    }
+}
+
+impl Write for InTurns {
+    fn write(&mut self, buf: &[u8]) -> io::Result<usize> {
+        self.answer(buf.len())
+    }
+
+    fn flush(&mut self) -> io::Result<()> {
+        Ok(())
+    }
+}
+
+#[test]
+fn a_fault_is_an_error_of_the_stream_behind(rt: HostRuntime) -> Result<(), Fail> {
+    let mut source = StdSource::new(InTurns { failed: false });
+    let mut sink = StdSink::new(InTurns { failed: false });
+    for count in [Ok(4), Err(Failed), Ok(4), Err(Failed)] {
+        assert_eq!(rt; source.read(&mut [0; 4]), count);
+        assert_eq!(rt; sink.write(&[0; 4]), count);
+    }
+    Ok(())
 }
 
 #[test]

@@ -1,3 +1,4 @@
+pub mod Arguments
 pub mod Causes
 pub mod CauseTexts
 pub mod Outcomes

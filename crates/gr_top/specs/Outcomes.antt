@@ -20,6 +20,7 @@ use Rattle.gr_top.specs.CauseTexts.{text_of_cause}
 use Rattle.gr_top.specs.declared.words.Mode.{Mode}
 use Rattle.gr_top.specs.declared.words.Mode.TheVariants.{Check, Replay}
 use Rattle.gr_top.specs.Words.{mode_of}
+use Rattle.gr_top.specs.Arguments.{AreWords}
 
 -- The most bytes of a script.
 abbrev pub most_bytes : ℕ
@@ -148,3 +149,20 @@ pub record IsAnswered (words : List (List ℕ)) (source sink errors : Stream) (s
   pub status_is : status ≡ status_of cause
   pub explained : Answers (mode_of words) source sink kept cause
   pub told : IsTold errors cause
+
+-- Memory for the words was refused: nothing was read or written, and this cause was told.
+pub record LacksWords (source sink errors : Stream) (status : ℕ) : Type 0 where
+  pub status_is : status ≡ status_of Memory
+  pub source_is : IsUntouched source
+  pub sink_is : IsUntouched sink
+  pub told : IsTold errors Memory
+
+-- The program answered just the words of the arguments, where these are told.
+pub record IsAnsweredFor (arguments : Option (List (List ℕ))) (source sink errors : Stream) (status : ℕ) : Type 0 where
+  pub words : List (List ℕ)
+  pub words_are : IfSome arguments (λ all. AreWords all words)
+  pub answered : IsAnswered words source sink errors status
+
+-- How a run of the program ends: it answered its arguments, or memory for their words was refused.
+abbrev pub IsRun : Option (List (List ℕ)) → Stream → Stream → Stream → ℕ → Type 0
+IsRun arguments source sink errors status = IsAnsweredFor arguments source sink errors status ⊎ LacksWords source sink errors status

@@ -10,7 +10,7 @@ mod giving;
 mod words;
 
 pub use answering::replay_words;
-pub use arguments::given_words;
+pub use arguments::{Arguments, StdArguments, given_words};
 pub use cause::{Cause, Outcome};
 pub use cause_texts::cause_text;
 pub use concluding::{conclude, program};
