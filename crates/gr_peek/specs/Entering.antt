@@ -1,0 +1,37 @@
+-- What an entering leaves of an eye.
+use Rattle.std.specs.Prelude.{◌≡◌, ◌≤◌, [], Result, Ok, Err}
+use mathlib.Core.List.{IsPrefix}
+use Rattle.logbook.specs.Pages.{Book}
+use Rattle.gr_peek.specs.declared.eye.PeekEnd.{PeekEnd}
+use Rattle.gr_peek.specs.declared.eye.PeekEnd.TheVariants as end
+use Rattle.gr_peek.specs.Views.{Watching, next_of}
+
+-- It knows a list of publications that begins with all that it knew, and with all notes that it had learnt.
+pub record HasEntered (old new : Watching) : Type 0 where
+  pub copy_is : new.copy ≡ old.copy
+  pub knew : IsPrefix old.known new.known
+  pub learnt : IsPrefix old.told new.known
+  pub told_is : new.told ≡ new.known
+  pub denied_is : new.denied ≡ old.denied
+
+-- only the count of refusals rose, which never falls
+pub record IsDenied (old new : Watching) : Type 0 where
+  pub rest : new ≡ record old { denied = next_of old.denied }
+  pub never_falls : old.denied ≤ new.denied
+
+-- the eye after a peek with this answer
+abbrev pub IsEntered : {T : Type 0} → Result T PeekEnd → Watching → Watching → Type 0
+IsEntered (Ok value) old new = HasEntered old new
+IsEntered (Err end.Memory) old new = HasEntered old new
+IsEntered (Err end.Denied) old new = IsDenied old new
+
+-- the eye after some enterings
+pub record Follows (old new : Watching) : Type 0 where
+  pub copy_is : new.copy ≡ old.copy
+  pub knew : IsPrefix old.known new.known
+  pub learnt : IsPrefix old.told new.told
+  pub never_falls : old.denied ≤ new.denied
+
+-- an eye as it is made
+abbrev pub new_eye : Book → Watching
+new_eye copy = record { copy = copy; known = []; told = []; denied = 0 }

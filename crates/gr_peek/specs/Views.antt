@@ -1,0 +1,26 @@
+-- What contracts see of a copy, its eyes and its notes.
+use Rattle.std.specs.Prelude.{ℕ, ◌+◌, ◌-◌, ◌^◌, Bool, List, min}
+use Rattle.logbook.specs.Pages.{Book}
+use Rattle.gr_oql.specs.declared.event.Turned.{Turned}
+
+-- a note: of which copy it tells, and what had been published
+pub record Note : Type 0 where
+  pub copy : Book
+  pub publications : List (List Turned)
+
+-- A published copy: which it is, what was published, and whether memory was refused. Nothing is published after that.
+pub record Publishing : Type 0 where
+  pub copy : Book
+  pub publications : List (List Turned)
+  pub halted : Bool
+
+-- An eye: of which copy, the publications that it knows, the longest of these and of its notes, and how many enterings were denied.
+pub record Watching : Type 0 where
+  pub copy : Book
+  pub known : List (List Turned)
+  pub told : List (List Turned)
+  pub denied : ℕ
+
+-- one more, up to the greatest u64, where a count stops
+abbrev pub next_of : ℕ → ℕ
+next_of n = min (n + 1) (2 ^ 64 - 1)

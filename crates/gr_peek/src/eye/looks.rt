@@ -1,0 +1,115 @@
+ghost use Rattle.std.specs.Prelude.{◌≡◌, ◌≤◌, length, Some, IfOk, IfErr, option_and_then, option_copied};
+ghost use mathlib.Core.List.{IsPrefix};
+ghost use Rattle.left_right.specs.Sides.{view};
+ghost use Rattle.gr_peek.specs.Publications.{present_after};
+ghost use Rattle.gr_peek.specs.Rule.{IsShown};
+ghost use Rattle.gr_peek.specs.Entering.{IsEntered, Follows};
+
+use super::{Eye, PeekEnd, Seen, StoreReader};
+use crate::rule::{See, Shows};
+use crate::store::Store;
+use crate::told::{CopyName, Told};
+use gr_value::{Key, Memory, Value};
+use left_right::reader::Reading;
+use std::alloc::Global;
+use std::sync::Wait;
+use std::thread;
+
+type StoreReading = Reading<Store, Option<CopyName>, Shows>;
+
+// Enters the copy once. It is refused too where less is shown than was told, which never happens.
+fn enter(reader: StoreReader, least: &Told) -> Result<StoreReading, StoreReader>
+    requires { view reader.place ≡ Some least.now.copy }
+    ensures view { IfOk result (λ reading. view reading.place ≡ Some least.now.copy) }
+    ensures copy { IfOk result (λ reading. reading.part.value.told.copy ≡ least.now.copy) }
+    ensures shown { IfOk result (λ reading. IsShown reading.part.value) }
+    ensures begins { IfOk result (λ reading. IsPrefix least.now.publications reading.part.value.told.publications) }
+    ensures err { IfErr result (λ reader. view reader.place ≡ Some least.now.copy) }
+{
+    let reading = match reader.enter_as::<See>() {
+        Ok(reading) => reading,
+        Err(reader) => return Err(reader),
+    };
+    if reading.get().told.reaches(least) {
+        Ok(reading)
+    } else {
+        Err(reading.leave())
+    }
+}
+
+impl Eye {
+    /// Keeps a note. What the eye knows stays as it is, until it enters again.
+    pub fn learn(&mut self, told: &Told)
+        requires { told.now.copy ≡ self.old.copy }
+        ensures rest { self.new ≡ record self.old { told = self.new.told } }
+        ensures before { IsPrefix self.old.told self.new.told }
+        ensures learnt { IsPrefix told.now.publications self.new.told }
+    {
+        if !self.told.reaches(told) {
+            self.told = told.again();
+        }
+    }
+
+    // Enters once, and looks at the key, where one is asked for.
+    fn enter(&mut self, asked: Option<(Global, &Key)>) -> Result<Option<Value>, PeekEnd>
+        ensures seen { IfOk result (λ value. value ≡ option_and_then (λ a. present_after self.new.known a.1.now) asked.entry) }
+        ensures entered { IsEntered result self.old self.new }
+        ensures stays { self.new.copy ≡ self.old.copy }
+    {
+        let Some(reader) = self.reader.take() else {
+            unreachable!()
+        };
+        match enter(reader, &self.told) {
+            Ok(reading) => {
+                let store = reading.get();
+                let value = match asked {
+                    Some((alloc, key)) => store.value(alloc, key),
+                    None => Ok(None),
+                };
+                self.known = store.told.again();
+                self.told = store.told.again();
+                self.reader = Some(reading.leave());
+                match value {
+                    Ok(value) => Ok(value),
+                    Err(Memory) => Err(PeekEnd::Memory),
+                }
+            }
+            Err(reader) => {
+                self.reader = Some(reader);
+                self.denied = self.denied.saturating_add(1);
+                Err(PeekEnd::Denied)
+            }
+        }
+    }
+
+    /// Enters again and again, until it knows just so many publications.
+    pub fn reach<R: Wait>(&mut self, rt: &R, at: u64)
+        ensures reached { length self.new.known ≡ at }
+        ensures told { self.new.told ≡ self.new.known }
+        ensures learnt { IsPrefix self.old.told self.new.known }
+        ensures follows { Follows self.old self.new }
+    {
+        for _ in rt.forever() {
+            if self.enter(None).is_ok() && self.known.at() == at {
+                return;
+            }
+            thread::yield_now();
+        }
+        unreachable!()
+    }
+}
+
+/// Enters the copy once, and never waits. It tells what is present at the key after the publications
+/// that the eye then knows, and how many they are.
+pub fn peek(alloc: Global, eye: &mut Eye, key: &Key) -> Result<Seen, PeekEnd>
+    ensures value { IfOk result (λ seen. seen.value ≡ present_after eye.new.known key.now) }
+    ensures at { IfOk result (λ seen. seen.at ≡ length eye.new.known) }
+    ensures entered { IsEntered result eye.old eye.new }
+    ensures stays { eye.new.copy ≡ eye.old.copy }
+{
+    let value = eye.enter(Some((alloc, key)))?;
+    Ok(Seen {
+        value,
+        at: eye.known.at(),
+    })
+}

@@ -1,0 +1,172 @@
+ghost use Rattle.std.specs.Prelude.{◌≡◌, ◌+◌, [], ◌∷◌, ◌++◌, true, false, drop, fold, length, Some, IsErr, None, OnOk, OnErr};
+ghost use Rattle.left_right.specs.Sides.{view as view_of};
+ghost use Rattle.gr_peek.specs.Rule.{after, IsShown};
+ghost use Rattle.gr_peek.specs.Writing.{steps_of, IsAt};
+
+use crate::rule::{See, Shows};
+use crate::store::{Step, Store};
+use crate::told::{CopyName, Head, Told};
+use gr_cq::Turned;
+use gr_value::Memory;
+use left_right::writer::Writer;
+use std::alloc::{AllocError, Global};
+use std::marker::Model;
+use std::sync::Wait;
+
+pub(crate) type StoreWriter = Writer<Store, Step, Option<CopyName>, Shows>;
+
+/// What publishes. It is never dropped: `end` takes it apart. Contracts see which copy it is, the
+/// publications, the oldest first, and whether memory was refused, after which nothing is published.
+pub struct Published {
+    pub(crate) writer: Option<StoreWriter>,
+    pub(crate) head: Head,
+    pub(crate) told: Told,
+    pub(crate) halted: bool,
+}
+
+impl Model for Published {
+    ghost use Rattle.std.specs.Prelude.{◌≡◌, drop, IsSomeAnd};
+    ghost use Rattle.left_right.specs.Sides.{view as view_of};
+    ghost use Rattle.gr_peek.specs.Views.{Publishing};
+    ghost use Rattle.gr_peek.specs.Log.{head_of};
+    ghost use Rattle.gr_peek.specs.Writing.{IsAt};
+
+    ghost Value = { Publishing };
+
+    ghost view = { λ p. record { copy = p.told.copy; publications = p.told.publications; halted = p.halted } };
+
+    ghost invariant = { λ p. (p.head ≡ head_of p.told.copy)
+        × IsSomeAnd p.writer (λ w. IsAt p.told w.desk.shown.value (view_of w.desk.place) (drop w.behind w.log.items) p.halted) };
+}
+
+fn append(writer: &mut StoreWriter, step: Step) -> Result<(), Memory>
+    ensures desk { writer.new.desk ≡ writer.old.desk }
+    ensures laid { OnOk result (drop writer.new.behind writer.new.log.items ≡ drop writer.old.behind writer.old.log.items ++ step ∷ []) }
+{
+    match writer.append(step) {
+        Ok(()) => Ok(()),
+        Err(_) => Err(Memory),
+    }
+}
+
+// Lays out what a publication does.
+fn lay_out(
+    writer: &mut StoreWriter,
+    alloc: Global,
+    turned: &[Turned],
+    told: Told,
+) -> Result<(), Memory>
+    ensures desk { writer.new.desk ≡ writer.old.desk }
+    ensures laid { OnOk result (drop writer.new.behind writer.new.log.items ≡ drop writer.old.behind writer.old.log.items ++ steps_of turned.now told) }
+{
+    for one in turned {
+        append(writer, Step::turn(alloc, one)?)?;
+    }
+    append(writer, Step::Close { told })
+}
+
+/// Shows readers all that is laid out. Where memory is refused they see what they saw.
+pub(crate) fn send<R: Wait>(writer: StoreWriter, rt: &R) -> (StoreWriter, Result<(), AllocError>)
+    requires shown { IsShown (fold after writer.desk.shown.value (drop writer.behind writer.log.items)) }
+    requires copy { (fold after writer.desk.shown.value (drop writer.behind writer.log.items)).told.copy ≡ writer.desk.shown.value.told.copy }
+    ensures ok { OnOk result.1 (result.0.desk.shown.value ≡ fold after writer.desk.shown.value (drop writer.behind writer.log.items)) }
+    ensures sent { OnOk result.1 (drop result.0.behind result.0.log.items ≡ []) }
+    ensures named { OnOk result.1 (view_of result.0.desk.place ≡ Some result.0.desk.shown.value.told.copy) }
+    ensures err { OnErr result.1 ((result.0.desk.shown.value ≡ writer.desk.shown.value) × (view_of result.0.desk.place ≡ view_of writer.desk.place)) }
+{
+    writer.publish_as::<See, R>(rt)
+}
+
+// One publication more, of which this is told.
+fn publish_on<R: Wait>(
+    mut writer: StoreWriter,
+    rt: &R,
+    alloc: Global,
+    turned: &[Turned],
+    told: Told,
+) -> (StoreWriter, Result<(), Memory>)
+    requires at { IsAt writer.desk.shown.value.told writer.desk.shown.value (view_of writer.desk.place) (drop writer.behind writer.log.items) false }
+    requires copy { told.copy ≡ writer.desk.shown.value.told.copy }
+    requires next { told.publications ≡ writer.desk.shown.value.told.publications ++ turned.now ∷ [] }
+    ensures ok { OnOk result.1 (IsAt told result.0.desk.shown.value (view_of result.0.desk.place) (drop result.0.behind result.0.log.items) false) }
+    ensures err { OnErr result.1 (IsAt writer.desk.shown.value.told result.0.desk.shown.value (view_of result.0.desk.place) (drop result.0.behind result.0.log.items) true) }
+{
+    if lay_out(&mut writer, alloc, turned, told).is_err() {
+        return (writer, Err(Memory));
+    }
+    let (writer, sent) = send(writer, rt);
+    match sent {
+        Ok(()) => (writer, Ok(())),
+        Err(_) => (writer, Err(Memory)),
+    }
+}
+
+// The writer is back in its place, which is empty.
+fn put_back(place: &mut Option<StoreWriter>, writer: StoreWriter)
+    requires { place.old ≡ None }
+    ensures { place.new ≡ Some writer }
+{
+    match place.replace(writer) {
+        None => {}
+        Some(_) => unreachable!(),
+    }
+}
+
+impl Published {
+    /// Adds one publication, the turned keys of a deed, which is the `at`-th. Where memory is refused
+    /// what was published stays, and nothing is published any more.
+    pub fn publish<R: Wait>(
+        &mut self,
+        rt: &R,
+        alloc: Global,
+        turned: &[Turned],
+        at: u64,
+    ) -> Result<(), Memory>
+        requires { at ≡ length self.old.publications + 1 }
+        ensures ok { OnOk result (self.new ≡ record self.old { publications = self.old.publications ++ turned.now ∷ [] }) }
+        ensures err { OnErr result (self.new ≡ record self.old { halted = true }) }
+        ensures halted { self.old.halted ≡ true → IsErr result }
+    {
+        if self.halted {
+            return Err(Memory);
+        }
+        let Some(told) = self.told.grown(&self.head, turned, at) else {
+            self.halted = true;
+            return Err(Memory);
+        };
+        let Some(writer) = self.writer.take() else {
+            unreachable!()
+        };
+        let (writer, sent) = publish_on(writer, rt, alloc, turned, told.again());
+        put_back(&mut self.writer, writer);
+        match sent {
+            Ok(()) => {
+                self.told = told;
+                Ok(())
+            }
+            Err(_) => {
+                self.halted = true;
+                Err(Memory)
+            }
+        }
+    }
+
+    /// A note of all that was published so far.
+    pub fn tell(&self) -> Told
+        ensures { result ≡ record { copy = self.now.copy; publications = self.now.publications } }
+    {
+        self.told.again()
+    }
+
+    /// Takes the copy apart. It waits for the eyes that look just then; from then on they are denied.
+    pub fn end<R: Wait>(self, rt: &R) {
+        let Published {
+            writer,
+            head: _head,
+            told: _told,
+            halted: _,
+        } = self;
+        let Some(writer) = writer else { unreachable!() };
+        drop(writer.take(rt));
+    }
+}
