@@ -4,6 +4,8 @@
 #[cfg(test)]
 mod lexing;
 #[cfg(test)]
+mod peek;
+#[cfg(test)]
 mod pictures;
 #[cfg(test)]
 mod post;

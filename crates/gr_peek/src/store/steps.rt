@@ -25,9 +25,7 @@ impl Copied for Step {
                 key: key.copy(alloc)?,
                 value: value.copy(alloc)?,
             }),
-            Step::Close { told } => Ok(Step::Close {
-                told: told.again(),
-            }),
+            Step::Close { told } => Ok(Step::Close { told: told.again() }),
         }
     }
 }
