@@ -39,7 +39,7 @@ fn add<R: Wait>(rt: &R, alloc: Global, copy: &mut Published) -> Result<u64, Memo
     Ok(next)
 }
 
-// Whether the key of the number has what the place that is named gives it. That is this place at least.
+// The place that a peek names, if that is this one at least and gives the key of the number what is seen.
 fn is_due(alloc: Global, eye: &mut Eye, number: u64, least: u64) -> Option<u64> {
     let number = number % 4;
     match peeked(alloc, eye, b'a' + number as u8) {
