@@ -1,5 +1,5 @@
 use crate::layout::Place;
-use crate::letters::{after_words, last_words, number};
+use crate::letters::{after_words, last_words, number, outside_quotes};
 
 /// A change, by the member that made it and its number there.
 #[derive(Clone, Copy, PartialEq, Eq, PartialOrd, Ord)]
@@ -34,6 +34,32 @@ pub enum Look {
     Notice,
 }
 
+/// A line of a box: words of the report, and what is said around them.
+#[derive(Clone, Copy)]
+pub struct Note<'a> {
+    pub before: &'static str,
+    pub words: &'a str,
+    pub behind: &'static str,
+}
+
+impl<'a> Note<'a> {
+    fn of(words: &'a str) -> Note<'a> {
+        Note {
+            before: "",
+            words,
+            behind: "",
+        }
+    }
+
+    fn behind(before: &'static str, words: &'a str) -> Note<'a> {
+        Note {
+            before,
+            words,
+            behind: "",
+        }
+    }
+}
+
 /// A deed of a history, as its line says it.
 #[derive(Clone, Copy)]
 pub struct Deed<'a> {
@@ -41,19 +67,21 @@ pub struct Deed<'a> {
     pub line: usize,
     pub text: &'a str,
     pub title: &'a str,
-    pub note: &'a str,
+    pub note: Note<'a>,
     pub look: Look,
     /// The change that it made, if it made one.
     pub made: Option<ChangeId>,
     pub origin: Origin,
     /// The deed that it comes from, once that is known.
     pub from: Option<Place>,
-    /// Where it is drawn along the line, counted from 0, once that is known.
+    /// Which column it is drawn in, counted from 0, once that is known.
     pub column: Option<usize>,
+    /// How many deeds of its history stand above it in its column.
+    pub depth: usize,
 }
 
-// The change of a stamp, `VER.MEMBER.RV`.
-fn change_of(stamp: &str) -> Option<ChangeId> {
+/// The change of a stamp, `VER.MEMBER.RV`.
+pub fn change_of(stamp: &str) -> Option<ChangeId> {
     let (ver, rest) = stamp.split_once('.')?;
     let (member, rv) = rest.split_once('.')?;
     number(ver)?;
@@ -68,18 +96,19 @@ fn is_list(text: &str) -> bool {
     text == "-" || text.split(',').all(|part| number(part).is_some())
 }
 
-// What stands behind the word `made` at the end of a line: a stamp and the members it goes to.
+// What stands from the word `made` on at the end of a line, and its change: a stamp and the members it
+// goes to.
 fn made_of(text: &str) -> Option<(&str, ChangeId)> {
     let (_, tail) = last_words(text, 4)?;
     let (stamp, rest) = tail.strip_prefix("made ")?.split_once(' ')?;
     if !is_list(rest.strip_prefix("to ")?) {
         return None;
     }
-    Some((stamp, change_of(stamp)?))
+    Some((tail, change_of(stamp)?))
 }
 
 // A deed that comes from nothing and made nothing.
-fn plain<'a>(line: usize, text: &'a str, title: &'a str, note: &'a str, look: Look) -> Deed<'a> {
+fn plain<'a>(line: usize, text: &'a str, title: &'a str, note: Note<'a>, look: Look) -> Deed<'a> {
     Deed {
         line,
         text,
@@ -90,56 +119,87 @@ fn plain<'a>(line: usize, text: &'a str, title: &'a str, note: &'a str, look: Lo
         origin: Origin::Here,
         from: None,
         column: None,
+        depth: 0,
     }
 }
 
 // `call C.S ASK -> REPLY`, and what was made.
 fn call(line: usize, text: &str) -> Option<Deed<'_>> {
     let rest = text.strip_prefix("call ")?;
-    let (title, behind) = after_words(rest, 3)?;
-    let (_, reply) = behind.split_once("-> ")?;
+    let (front, behind) = after_words(rest, 3)?;
+    let place = outside_quotes(behind, "-> ")?;
+    let (_, arrow) = behind.split_at_checked(place)?;
+    let (title, _) = rest.split_at_checked(front.len().saturating_add(place))?;
+    let reply = arrow.strip_prefix("-> ")?;
     match made_of(reply) {
-        Some((stamp, change)) => Some(Deed {
+        Some((tail, change)) => Some(Deed {
             made: Some(change),
             ..plain(
                 line,
                 text,
                 title,
-                stamp,
+                Note::of(tail),
                 Look::Applied {
                     member: change.member,
                 },
             )
         }),
-        None => Some(plain(line, text, title, reply, Look::Quiet)),
+        None => Some(plain(
+            line,
+            text,
+            title,
+            Note::behind("answered ", reply),
+            Look::Quiet,
+        )),
     }
 }
 
 // `ask C.S ASK -> REPLY`
 fn ask(line: usize, text: &str) -> Option<Deed<'_>> {
-    let rest = text.strip_prefix("ask ")?;
-    let (title, _) = after_words(rest, 3)?;
-    let (_, reply) = text.rsplit_once("-> ")?;
-    Some(plain(line, text, title, reply, Look::Quiet))
+    let (front, reply) = text.rsplit_once(" -> ")?;
+    let title = front.strip_prefix("ask ")?;
+    after_words(title, 3)?;
+    let note = Note::behind("answered ", reply);
+    Some(plain(line, text, title, note, Look::Quiet))
+}
+
+// How a change that came in is drawn, and what its verdict means.
+fn verdict_of(verdict: &str, member: u64) -> Option<(Look, &'static str)> {
+    match verdict {
+        "applied" => Some((Look::Applied { member }, ": it stands")),
+        "discarded" => Some((Look::Passed, ": it loses")),
+        "repeat" => Some((Look::Passed, ": known before")),
+        _ => None,
+    }
 }
 
 // `take KEY put VALUE STAMP VERDICT` or `take KEY remove STAMP VERDICT`
 fn take(line: usize, text: &str) -> Option<Deed<'_>> {
-    let (title, _) = after_words(text, 3)?;
-    let (_, note) = last_words(text, 2)?;
-    let (stamp, verdict) = note.split_once(' ')?;
+    let (title, words) = last_words(text, 2)?;
+    after_words(title, 3)?;
+    let (stamp, verdict) = words.split_once(' ')?;
     let change = change_of(stamp)?;
-    let look = match verdict {
-        "applied" => Look::Applied {
-            member: change.member,
-        },
-        "discarded" | "repeat" => Look::Passed,
-        _ => return None,
+    let (look, behind) = verdict_of(verdict, change.member)?;
+    let note = Note {
+        before: "",
+        words,
+        behind,
     };
     Some(Deed {
         origin: Origin::Change(change),
         ..plain(line, text, title, note, look)
     })
+}
+
+// `gave M image` or `gave M own`
+fn gave(line: usize, text: &str) -> Option<Deed<'_>> {
+    let (_, what) = last_words(text, 1)?;
+    let note = match what {
+        "image" => Note::of("all that stands here"),
+        "own" => Note::of("all that was made here"),
+        _ => return None,
+    };
+    Some(plain(line, text, text, note, Look::Image))
 }
 
 // `image from M at P rows N floor F`
@@ -151,8 +211,19 @@ fn image(line: usize, text: &str) -> Option<Deed<'_>> {
             member: number(member)?,
             place: number(place)?,
         },
-        ..plain(line, text, title, note, Look::Image)
+        ..plain(line, text, title, Note::of(note), Look::Image)
     })
+}
+
+// What a report says of its member's own changes.
+fn own_of(note: &str) -> Option<Note<'_>> {
+    Some(Note::behind("own changes: ", note.strip_prefix("own ")?))
+}
+
+// `report at P own N`
+fn report(line: usize, text: &str) -> Option<Deed<'_>> {
+    let (title, note) = after_words(text, 3)?;
+    Some(plain(line, text, title, own_of(note)?, Look::Notice))
 }
 
 // `heard M at P own N`
@@ -164,14 +235,14 @@ fn heard(line: usize, text: &str) -> Option<Deed<'_>> {
             member: number(member)?,
             place: number(place)?,
         },
-        ..plain(line, text, title, note, Look::Notice)
+        ..plain(line, text, title, own_of(note)?, Look::Notice)
     })
 }
 
-// A deed whose title is its first words.
-fn titled(line: usize, text: &str, words: usize, look: Look) -> Option<Deed<'_>> {
-    let (title, note) = after_words(text, words)?;
-    Some(plain(line, text, title, note, look))
+// `sweep T expired N`, and the keys
+fn sweep(line: usize, text: &str) -> Option<Deed<'_>> {
+    let (title, note) = after_words(text, 2)?;
+    Some(plain(line, text, title, Note::of(note), Look::Notice))
 }
 
 impl<'a> Deed<'a> {
@@ -182,11 +253,11 @@ impl<'a> Deed<'a> {
             "call" => call(line, text),
             "ask" => ask(line, text),
             "take" => take(line, text),
-            "gave" => titled(line, text, 3, Look::Image),
+            "gave" => gave(line, text),
             "image" => image(line, text),
-            "report" => titled(line, text, 3, Look::Notice),
+            "report" => report(line, text),
             "heard" => heard(line, text),
-            "sweep" => titled(line, text, 2, Look::Notice),
+            "sweep" => sweep(line, text),
             _ => None,
         }
     }

@@ -1,12 +1,12 @@
 use crate::halt::Halt;
 use crate::layout::lay_out;
 use crate::picture::picture_of;
-use crate::reading::histories_of;
+use crate::reading::report_of;
 use std::alloc::Global;
 
 /// The picture of a report with histories, or the first line that isn't what such a report has there.
 pub fn drawn(alloc: Global, bytes: &[u8]) -> Result<String, Halt> {
-    let mut histories = histories_of(alloc, bytes)?;
-    lay_out(alloc, &mut histories)?;
-    picture_of(alloc, histories.as_slice())
+    let mut report = report_of(alloc, bytes)?;
+    lay_out(alloc, &mut report.histories)?;
+    picture_of(alloc, &report)
 }

@@ -11,6 +11,13 @@ pub struct Place {
     pub deed: usize,
 }
 
+/// Where a deed is drawn: its column, and how many deeds of its history stand above it there.
+#[derive(Clone, Copy)]
+struct Spot {
+    column: usize,
+    depth: usize,
+}
+
 /// Where each deed that another may come from stands.
 #[derive(Drop)]
 struct Index {
@@ -79,18 +86,30 @@ fn deed_at<'a, 'b>(histories: &'b [History<'a>], place: Place) -> Option<&'b Dee
     histories.get(place.history)?.deeds.get(place.deed)
 }
 
+// The spot below that of a deed, where it has one.
+fn spot_below(histories: &[History], place: Place) -> Option<Spot> {
+    let deed = deed_at(histories, place)?;
+    Some(Spot {
+        column: deed.column?,
+        depth: deed.depth.saturating_add(1),
+    })
+}
+
 // The first column behind that of a deed, where it has one.
 fn behind(histories: &[History], place: Place) -> Option<usize> {
     let column = deed_at(histories, place)?.column?;
     Some(column.saturating_add(1))
 }
 
-// The column of a deed: behind the one before it and behind the one that it comes from. `None` where
-// these have none yet.
-fn column_of(histories: &[History], place: Place) -> Option<usize> {
-    let after = match place.deed {
-        0 => 0,
-        deed => behind(
+// Where a deed stands: in the column of the deed before it, below it, or in the first column behind that of
+// the deed that it comes from. `None` where these have no column yet.
+fn spot_of(histories: &[History], place: Place) -> Option<Spot> {
+    let below = match place.deed {
+        0 => Spot {
+            column: 0,
+            depth: 0,
+        },
+        deed => spot_below(
             histories,
             Place {
                 deed: deed - 1,
@@ -98,16 +117,22 @@ fn column_of(histories: &[History], place: Place) -> Option<usize> {
             },
         )?,
     };
-    match deed_at(histories, place)?.from {
-        None => Some(after),
-        Some(from) => Some(after.max(behind(histories, from)?)),
+    let Some(from) = deed_at(histories, place)?.from else {
+        return Some(below);
+    };
+    let column = behind(histories, from)?;
+    if column <= below.column {
+        Some(below)
+    } else {
+        Some(Spot { column, depth: 0 })
     }
 }
 
-fn set_column(histories: &mut [History], place: Place, column: usize) {
+fn set_spot(histories: &mut [History], place: Place, spot: Spot) {
     if let Some(history) = histories.get_mut(place.history) {
         if let Some(deed) = history.deeds.get_mut(place.deed) {
-            deed.column = Some(column);
+            deed.column = Some(spot.column);
+            deed.depth = spot.depth;
         }
     }
 }
@@ -116,8 +141,8 @@ fn set_column(histories: &mut [History], place: Place, column: usize) {
 fn advance(histories: &mut [History], history: usize, from: usize) -> usize {
     for deed in from..usize::MAX {
         let place = Place { history, deed };
-        match column_of(histories, place) {
-            Some(column) => set_column(histories, place, column),
+        match spot_of(histories, place) {
+            Some(spot) => set_spot(histories, place, spot),
             None => return deed,
         }
     }
@@ -144,8 +169,8 @@ fn first_left(histories: &[History]) -> Option<usize> {
         .map(|deed| deed.line)
 }
 
-/// Gives each deed its column: behind that of the deed before it, and behind that of the deed that it
-/// comes from.
+/// Gives each deed its column: that of the deed before it, or, where it comes from a deed that stands there or
+/// farther right, the first one behind that. The deeds of a history in one column stand below one another.
 pub fn lay_out(alloc: Global, histories: &mut [History]) -> Result<(), Halt> {
     let index = Index::new(alloc, histories)?;
     for history in histories.iter_mut() {

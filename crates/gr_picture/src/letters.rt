@@ -27,13 +27,38 @@ pub fn last_words(text: &str, words: usize) -> Option<(&str, &str)> {
     after_words(text, spaces - words + 1)
 }
 
+/// The first place at which a mark stands in a text, but not inside quotes.
+pub fn outside_quotes(text: &str, mark: &str) -> Option<usize> {
+    let (mut quoted, mut escaped) = (false, false);
+    for (place, letter) in text.char_indices() {
+        if !quoted {
+            let (_, rest) = text.split_at_checked(place)?;
+            if rest.starts_with(mark) {
+                return Some(place);
+            }
+        }
+        if letter == '"' && !escaped {
+            quoted = !quoted;
+        }
+        escaped = quoted && letter == '\\' && !escaped;
+    }
+    None
+}
+
 /// The first letters of a text, and whether there are more.
 pub fn shortened(text: &str, most: usize) -> (&str, bool) {
     match text.char_indices().nth(most) {
-        Some((place, _)) => match text.split_at_checked(place) {
-            Some((front, _)) => (front, true),
-            None => (text, false),
-        },
+        Some(_) => (first_letters(text, most.saturating_sub(3)), true),
         None => (text, false),
+    }
+}
+
+fn first_letters(text: &str, count: usize) -> &str {
+    match text.char_indices().nth(count) {
+        Some((place, _)) => match text.split_at_checked(place) {
+            Some((front, _)) => front,
+            None => text,
+        },
+        None => text,
     }
 }

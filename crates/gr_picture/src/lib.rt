@@ -1,14 +1,19 @@
-//! The picture of what a run did, an SVG: each member's history of a shard is a line of deeds, and each
-//! delivery an arrow from the deed that it comes from.
+//! The picture of what a run did, an SVG: each member's history of a shard is a row of deeds, and an arrow
+//! leads to each deed from the one that it comes from. Below stands what each member holds at the end.
 #![tactic(auto)]
 
 mod deed;
 mod drawing;
 mod halt;
 mod layout;
+mod legend;
 mod letters;
+mod measures;
+mod pen;
 mod picture;
 mod reading;
+mod rows;
+mod standing;
 
 pub use drawing::drawn;
 pub use halt::Halt;

@@ -1,8 +1,25 @@
-use crate::deed::Deed;
+use crate::deed::{Deed, change_of};
 use crate::halt::Halt;
-use crate::letters::number;
+use crate::letters::{after_words, last_words, number};
 use std::alloc::Global;
 use std::str;
+
+/// An entry that stands at a member at the end.
+#[derive(Clone, Copy)]
+pub struct Entry<'a> {
+    /// The key and the value.
+    pub pair: &'a str,
+    pub stamp: &'a str,
+}
+
+/// What stands at a member at the end.
+#[derive(Drop)]
+pub struct Standing<'a> {
+    pub member: u64,
+    /// Its counts, behind that of its entries.
+    pub counts: &'a str,
+    pub entries: Vec<Entry<'a>>,
+}
 
 /// The history of one member at one shard.
 #[derive(Drop)]
@@ -12,10 +29,19 @@ pub struct History<'a> {
     pub deeds: Vec<Deed<'a>>,
 }
 
+/// What is drawn of a report.
+#[derive(Drop)]
+pub struct Report<'a> {
+    pub members: Vec<Standing<'a>>,
+    pub histories: Vec<History<'a>>,
+}
+
 /// Which part of a report comes next.
 #[derive(Clone, Copy, PartialEq, Eq)]
 enum Stage {
-    BeforeHistories,
+    BeforeRegions,
+    /// This many entries of the last member are still to come.
+    Entries(u64),
     /// This many deeds of the last history are still to come.
     Deeds(u64),
     End,
@@ -23,8 +49,23 @@ enum Stage {
 
 #[derive(Drop)]
 struct Reader<'a> {
-    histories: Vec<History<'a>>,
+    report: Report<'a>,
     stage: Stage,
+}
+
+// The member, the number of its entries, and its other counts.
+fn member_of(text: &str) -> Option<(u64, u64, &str)> {
+    let (member, rest) = text.strip_prefix("member ")?.split_once(" entries ")?;
+    let (entries, counts) = rest.split_once(' ')?;
+    Some((number(member)?, number(entries)?, counts))
+}
+
+// `KEY VALUE STAMP`
+fn entry_of(text: &str) -> Option<Entry<'_>> {
+    let (pair, stamp) = last_words(text, 1)?;
+    after_words(pair, 2)?;
+    change_of(stamp)?;
+    Some(Entry { pair, stamp })
 }
 
 // The member, the shard and the number of deeds of a history's first line.
@@ -35,24 +76,48 @@ fn heading(text: &str) -> Option<(u64, u64, u64)> {
 }
 
 impl<'a> Reader<'a> {
-    fn begin(&mut self, alloc: Global, line: usize, text: &'a str) -> Result<(), Halt> {
+    fn member(&mut self, alloc: Global, line: usize, text: &'a str) -> Result<(), Halt> {
+        if text == "histories" {
+            self.stage = Stage::Deeds(0);
+            return Ok(());
+        }
+        let (member, due, counts) = member_of(text).ok_or(Halt::Line(line))?;
+        self.report.members.push(Standing {
+            member,
+            counts,
+            entries: Vec::new(alloc),
+        })?;
+        self.stage = Stage::Entries(due);
+        Ok(())
+    }
+
+    fn entry(&mut self, line: usize, text: &'a str, due: u64) -> Result<(), Halt> {
+        let entry = entry_of(text).ok_or(Halt::Line(line))?;
+        if let Some(member) = self.report.members.last_mut() {
+            member.entries.push(entry)?;
+        }
+        self.stage = Stage::Entries(due);
+        Ok(())
+    }
+
+    fn history(&mut self, alloc: Global, line: usize, text: &'a str) -> Result<(), Halt> {
         if text == "end" {
             self.stage = Stage::End;
             return Ok(());
         }
-        let (member, shard, deeds) = heading(text).ok_or(Halt::Line(line))?;
-        self.histories.push(History {
+        let (member, shard, due) = heading(text).ok_or(Halt::Line(line))?;
+        self.report.histories.push(History {
             member,
             shard,
             deeds: Vec::new(alloc),
         })?;
-        self.stage = Stage::Deeds(deeds);
+        self.stage = Stage::Deeds(due);
         Ok(())
     }
 
-    fn add(&mut self, line: usize, text: &'a str, due: u64) -> Result<(), Halt> {
+    fn deed(&mut self, line: usize, text: &'a str, due: u64) -> Result<(), Halt> {
         let deed = Deed::read(line, text).ok_or(Halt::Line(line))?;
-        if let Some(history) = self.histories.last_mut() {
+        if let Some(history) = self.report.histories.last_mut() {
             history.deeds.push(deed)?;
         }
         self.stage = Stage::Deeds(due);
@@ -61,14 +126,16 @@ impl<'a> Reader<'a> {
 
     fn take(&mut self, alloc: Global, line: usize, text: &'a str) -> Result<(), Halt> {
         match self.stage {
-            Stage::BeforeHistories => {
-                if text == "histories" {
-                    self.stage = Stage::Deeds(0);
+            Stage::BeforeRegions => {
+                if text == "regions" {
+                    self.stage = Stage::Entries(0);
                 }
                 Ok(())
             }
-            Stage::Deeds(0) => self.begin(alloc, line, text),
-            Stage::Deeds(due) => self.add(line, text, due - 1),
+            Stage::Entries(0) => self.member(alloc, line, text),
+            Stage::Entries(due) => self.entry(line, text, due - 1),
+            Stage::Deeds(0) => self.history(alloc, line, text),
+            Stage::Deeds(due) => self.deed(line, text, due - 1),
             Stage::End => Err(Halt::Line(line)),
         }
     }
@@ -80,22 +147,28 @@ fn line_at(bytes: &[u8], place: usize) -> usize {
     feeds.count().saturating_add(1)
 }
 
-// The histories that have deeds, those of a shard together.
-fn in_order(mut histories: Vec<History<'_>>) -> Result<Vec<History<'_>>, Halt> {
-    histories.retain(|history| !history.deeds.is_empty());
-    histories.sort_by_key(|history| (history.shard, history.member))?;
-    Ok(histories)
+// The report with those histories that have deeds, those of a shard together.
+fn in_order(mut report: Report<'_>) -> Result<Report<'_>, Halt> {
+    report.histories.retain(|history| !history.deeds.is_empty());
+    report
+        .histories
+        .sort_by_key(|history| (history.shard, history.member))?;
+    Ok(report)
 }
 
-/// The histories of a report that have deeds, in order of shards and then of members.
-pub fn histories_of(alloc: Global, bytes: &[u8]) -> Result<Vec<History<'_>>, Halt> {
+/// What is drawn of a report: the members, and the histories that have deeds, in order of shards and then
+/// of members.
+pub fn report_of(alloc: Global, bytes: &[u8]) -> Result<Report<'_>, Halt> {
     let text = match str::from_utf8(bytes) {
         Ok(text) => text,
         Err(error) => return Err(Halt::Line(line_at(bytes, error.valid_up_to()))),
     };
     let mut reader = Reader {
-        histories: Vec::new(alloc),
-        stage: Stage::BeforeHistories,
+        report: Report {
+            members: Vec::new(alloc),
+            histories: Vec::new(alloc),
+        },
+        stage: Stage::BeforeRegions,
     };
     let mut count = 0usize;
     for line in text.lines() {
@@ -103,7 +176,7 @@ pub fn histories_of(alloc: Global, bytes: &[u8]) -> Result<Vec<History<'_>>, Hal
         reader.take(alloc, count, line)?;
     }
     match reader.stage {
-        Stage::End => in_order(reader.histories),
+        Stage::End => in_order(reader.report),
         _ => Err(Halt::Line(count.saturating_add(1))),
     }
 }
