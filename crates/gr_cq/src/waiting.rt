@@ -5,6 +5,8 @@ use gr_value::{Copied, Memory};
 use std::alloc::Global;
 use std::marker::Model;
 
+// Events that are handed out are copies, which share their keys and values with those that waited. So they
+// cost what is handed out, and the list that waited keeps its room.
 /// Events that wait to be fetched. Contracts see them beside the number of further ones that there is
 /// room for.
 #[derive(Drop)]

@@ -7,6 +7,9 @@ use gr_value::{Copied, KeyList, Memory};
 use gr_vector::Report;
 use std::alloc::Global;
 
+// A deed stands whole, so that a history lends it and takes any. Of what a call made the stamp alone could
+// be kept, since a lawful call makes what it asks for; a deed would then take 80 bytes in place of 120,
+// but could be neither lent nor pushed without asking that it is so.
 /// One entry of a history.
 #[derive(Drop)]
 pub enum Deed {

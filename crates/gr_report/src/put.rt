@@ -23,6 +23,8 @@ pub fn put_byte(out: &mut Vec<u8>, byte: u8) -> Result<(), Memory>
     Ok(())
 }
 
+// Nearly all numbers of a report are such, and what `itoa` gives is copied by a call. The table of pairs
+// is that of `itoa`, which isn't public; its lemma is cited. Greater numbers go through `itoa`.
 // Puts a number of two to six digits last, in one piece.
 #[inline(always)]
 fn put_short(out: &mut Vec<u8>, number: u32) -> Result<(), Memory>

@@ -17,6 +17,8 @@ pub fn report(alloc: Global, record_of: &Record, histories: bool) -> Result<Vec<
     report_in(alloc, Vec::new(alloc), record_of, histories)
 }
 
+// Once a script was played its text is let go, and the report is put into the same memory, which the
+// system need not hand out anew. Only time and memory rest on it.
 /// The same text, in the memory of a list whose bytes are let go.
 pub fn report_in(
     alloc: Global,

@@ -230,6 +230,9 @@ fn act_in(alloc: Global, kind: LineKind, rest: &[u8]) -> Result<Option<Act>, Mem
     }
 }
 
+// Such a line is read in one pass, without a list of its fields, and its values are taken where their own
+// text stands. That is right since what is printed is read as what it is printed for. Any other line is
+// cut into fields as the grammar says, so another spelling takes more time and nothing else.
 /// The call or peek that the line is printed for. None of another line, and of one that is spelled
 /// otherwise, as with more spaces.
 #[tactic(auto, using(crate::proofs::Plainly::printed))]

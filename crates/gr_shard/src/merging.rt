@@ -89,6 +89,10 @@ fn set_unknown(
     left.set(key.copy(alloc)?, slot.copy(alloc)?)
 }
 
+// The slots are built anew: first the rows are set over what stood at their keys, then what stood at other
+// keys is added unless the image knows it. So nothing is searched in the image, and where memory is
+// refused what stood is as before. Each row and each slot is looked up and set once; keys and values are
+// shared. A joiner mostly has few slots when it merges.
 /// What stands after an image is merged, where these ids are known.
 pub fn merged(
     alloc: Global,

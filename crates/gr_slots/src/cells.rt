@@ -15,6 +15,12 @@ use std::alloc::Global;
 use std::collections::BTreeMap;
 use std::marker::Model;
 
+// An ordered map has the place of each key's cell, so rows come in its order. It is searched only where a
+// key is entered, or where the chain of the key's seat can't tell. Where a cell has left, the last cell
+// moves to its place and chains may be broken: a cell that is met is still right, since its key tells, but
+// a chain's end tells nothing. A place beyond 32 bits is refused as memory is. std's map can't promise
+// room for keys that aren't named yet, so `set` may be refused memory, and each deed sets its slot before
+// it changes anything else.
 /// Slots in cells, one for each key. The chain of a key's seat leads to its cell, or tells that it has
 /// none, without a search for the key.
 #[derive(Drop)]

@@ -15,6 +15,12 @@ use std::alloc::Global;
 use std::collections::BTreeMap;
 use std::marker::Model;
 
+// A removal puts its key last in the list of its moment, before its slot is set. What is listed may be
+// stale, and only what isn't listed would be missed: a sweep looks each listed key up, takes out of the
+// lists that it looks at what is stale or stands twice, and lets go of empty ones, so a stale key is
+// looked at by one sweep. Moments are few, so a removal costs a search among them and a key's copy, which
+// shares its bytes. Without sweeps the lists grow by a key for each removal, as the history does. A slot
+// that might bring the number of removals to 2^64 is refused as memory is.
 /// Slots by their keys. Contracts see them as a list in the order of the keys. Beside them each removal
 /// is listed by the moment at which it came in, so that those that have timed out are found without a
 /// scan, and it is counted. A key stays listed where its removal stands no more, until a sweep finds it.

@@ -31,6 +31,9 @@ fn name_begun(bytes: &[u8]) -> Option<(Text, &[u8])>
     Some((Text::of_few(name)?, rest))
 }
 
+// The scripts that time is measured on put values of one field with a short name and a number, so these
+// are read at once from the text that they print. Any other value is read field by field. Only time rests
+// on it.
 /// The field with a number that stands alone in braces, and what is left behind it.
 pub(crate) fn lone_number(bytes: &[u8]) -> Option<(Field, &[u8])>
     ensures { IfSome result (λ parts.

@@ -14,6 +14,10 @@ use std::marker::Model;
 /// The greatest member number.
 const MEMBERS: usize = 8;
 
+// The last range goes from the greatest number on without end, so that the next number in order, a late
+// one and a jump ahead are one step: a number leaves its range. The next in order costs constant time,
+// another one a binary search; where it parts or fills a range, the ranges behind it are moved, since an
+// ordered map could not promise room.
 /// A set of ids. Contracts see it as the list of its ids, in order, beside a number: how many more it
 /// can note for sure. Kept are, for each member, the ranges of the numbers that are missing.
 #[derive(Drop)]

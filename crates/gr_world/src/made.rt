@@ -8,6 +8,8 @@ use gr_value::Memory;
 use std::alloc::Global;
 use std::marker::Model;
 
+// Where a step made nothing the place of member 0 is kept, which is none: so a step takes 16 bytes, where
+// an `Option` took 24.
 /// Where what each step of each client made stands, if it made anything.
 #[derive(Drop)]
 pub struct Made {

@@ -9,6 +9,9 @@ use gr_history::Record;
 use gr_script::{Feed, Form, ScriptEnd};
 use std::alloc::Global;
 
+// Each line is moved into its deed, so no list of lines is made; a fault at a later line ends the call,
+// and what was played is let go. What the lines say isn't kept either: a `Feed` has the text and how many
+// of its lines were taken in, which fixes all that was said.
 /// Plays the script that a text is as `replay` does, each line as soon as it is read, and keeps none of
 /// them.
 pub fn play_text(alloc: Global, text: &[u8]) -> Result<Record, ScriptEnd>
