@@ -1,6 +1,6 @@
 -- Records of runs keep the laws, and their members are equal.
 use Rattle.std.proofs.Common.{◌≡◌, ℕ, zero, suc, ◌+◌, ◌<◌, ◌==◌, true, List, [], ◌∷◌, length, map, reverse, Some}
-use Rattle.std.proofs.Common.{refl, sym, ap, ◌∙◌, arith, if◌then◌else◌, ne_eqb}
+use Rattle.std.proofs.Common.{refl, sym, ap, ◌∙◌, arith, if◌then◌else◌, ne_eqb, inl}
 use Rattle.std.specs.Prelude.{slice_get}
 use Rattle.std.specs.List.{AllByRecursion, list_all}
 use Rattle.gr_stamp.specs.declared.change.Change.{Change}
@@ -11,6 +11,7 @@ use Rattle.gr_history.specs.declared.record.ShardRecord.{ShardRecord}
 use Rattle.gr_report.specs.Same.{rows_by_shard, member_eq, are_equal}
 use Rattle.gr_report.proofs.Sameness.{member_eq_decides}
 use Rattle.gr_script.specs.declared.line.Line.{Line}
+use Rattle.gr_script.specs.Drill.{IsDrill}
 use Rattle.gr_script.specs.Rules.{Heading, IsMember, IsScript}
 use Rattle.gr_world.specs.Histories.{deeds_at, history_at, KeepsLaws}
 use Rattle.gr_world.specs.Numbered.{numbers_from}
@@ -154,3 +155,14 @@ members_equal heading lines left head lawful all_in = at_members left.members re
     at_members [] is = rw is refl
     at_members (first ∷ rest) is =
         rw is (all_equal first rest (λ k one get. (member_eq_decides first one).1 (same (first ∷ rest) is first one (suc k) refl get)))
+
+-- So it is in each drill, whose members are all founders.
+pub drill_equal : (start steps : ℕ) (script : Heading × List Line) (left : Record) → IsDrill start steps script
+    → IsScript script.0 script.1 → IsLawfulRun script.0 script.1 left → are_equal left.members ≡ true
+drill_equal start steps script left drill head lawful = members_equal script.0 script.1 left head lawful ready
+  where
+    all_found : script.0.members ≡ script.0.founders
+    all_found = ap (λ (s : Heading × List Line). s.0.members) drill.2 ∙ sym (ap (λ (s : Heading × List Line). s.0.founders) drill.2)
+
+    ready : (member : ℕ) → IsMember script.0 member → EndsReady script.0 script.1 member
+    ready member is = (is, inl (let few = is.1 in let all = all_found in omega arith))

@@ -1,5 +1,6 @@
 -- Threads leave the small run.
-use Rattle.std.proofs.Common.{◌≡◌, ℕ, zero, suc, ◌<◌, ◌≤◌, ◌⊎◌, List, [], ◌∷◌, refl, arith, inl, inr, Option, Some, map, reverse, flat_map, ne_eqb}
+use Rattle.std.proofs.Common.{◌≡◌, ℕ, zero, suc, ◌<◌, ◌≤◌, ◌⊎◌, List, [], ◌∷◌, refl, arith, inl, inr, Option, Some, map, reverse, flat_map}
+use Rattle.std.proofs.Common.{ne_eqb}
 use Rattle.std.specs.List.{filter_map}
 use Rattle.gr_value.specs.Shard.{shard_of}
 use Rattle.gr_value.specs.declared.value.Field.{Field}

@@ -1,20 +1,21 @@
 ghost use Rattle.std.specs.Prelude.{◌≡◌, ℕ, suc, ◌≤◌, ◌<◌, List, [], ◌∷◌, ◌++◌, true, length, Option};
+ghost use Rattle.std.specs.List.{filter_map};
 ghost use Rattle.gr_value.specs.declared.value.Field.{Field};
 ghost use Rattle.gr_value.specs.Shard.{shard_of};
-ghost use Rattle.std.specs.List.{filter_map};
 ghost use Rattle.gr_turn.specs.Views.{StartsWith, times};
 ghost use Rattle.gr_history.specs.declared.deed.Deed.{Deed};
 ghost use Rattle.gr_history.specs.declared.deed.Deed.TheVariants.{Gave};
 ghost use Rattle.gr_history.specs.declared.image.What.{What};
 ghost use Rattle.gr_history.specs.Gifts.{own_changes};
-ghost use Rattle.gr_law.specs.Grids.{Among, Older};
 ghost use Rattle.gr_history.specs.declared.record.ClientRecord.{ClientRecord};
 ghost use Rattle.gr_history.specs.declared.record.Record.{Record};
-ghost use Rattle.gr_report.specs.Same.{are_equal};
+ghost use Rattle.gr_law.specs.Grids.{Among, Older};
 ghost use Rattle.gr_script.specs.declared.line.Line.{Line};
+ghost use Rattle.gr_script.specs.Drill.{IsDrill};
 ghost use Rattle.gr_script.specs.Rules.{Heading, IsMember, IsScript};
 ghost use Rattle.gr_world.specs.Histories.{KeepsLaws};
 ghost use Rattle.gr_world.specs.Numbered.{numbers_from};
+ghost use Rattle.gr_report.specs.Same.{are_equal};
 ghost use Rattle.gr_run_law.specs.Broken.{asked_early, given_twice, half_rounds, left_out, small_rounds, swept_twice, taken_once, unheard};
 ghost use Rattle.gr_run_law.specs.Threads.{AreLeftByThreads, IsLeftByThreads, LooksFit};
 ghost use Rattle.gr_run_law.specs.Duties.{gift_in, given_to, own_where};
@@ -44,12 +45,14 @@ pub fn lawful_runs_are_closed()
         → IsRun heading lines histories clients → HasSameRows heading lines histories }
 {}
 
-/// The record of a run keeps the laws at each shard; and where each member is a founder or joins, its
-/// members are equal.
+/// The record of a run keeps the laws at each shard; and where each member is a founder or joins, as in
+/// each drill, its members are equal.
 pub fn records_of_runs_keep_the_laws()
     ensures laws { (heading : Heading) (lines : List Line) (left : Record) → IsLawfulRun heading lines left → KeepsLaws heading left }
     ensures equal { (heading : Heading) (lines : List Line) (left : Record) → IsScript heading lines → IsLawfulRun heading lines left
         → ((member : ℕ) → IsMember heading member → EndsReady heading lines member) → are_equal left.members ≡ true }
+    ensures drill { (start steps : ℕ) (script : Heading × List Line) (left : Record) → IsDrill start steps script
+        → IsScript script.0 script.1 → IsLawfulRun script.0 script.1 left → are_equal left.members ≡ true }
 {}
 
 /// There are such histories, so the law isn't empty: of three members, of which the third joins, with a
