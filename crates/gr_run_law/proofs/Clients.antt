@@ -6,21 +6,21 @@ use Rattle.std.specs.Prelude.{slice_get, slice_index, ◌-◌, ◌%◌}
 use Rattle.std.specs.List.{filter_map, AllByRecursion}
 use native.Mathlib.Decide.{ℕ_discrete}
 use mathlib.Core.Logic.{dite}
+use Rattle.gr_value.specs.declared.value.Field.{Field}
+use Rattle.gr_value.specs.Shard.{shard_of, key_hash}
+use Rattle.gr_turn.specs.Views.{times}
 use Rattle.gr_history.specs.Deeds.{is_of_client}
 use Rattle.gr_history.specs.declared.deed.Deed.{Deed}
 use Rattle.gr_law.specs.Grids.{Among}
 use Rattle.gr_script.specs.declared.line.Line.{Line}
 use Rattle.gr_script.specs.Rules.{Heading, IsHeading, IsWithin, AreWithin, IsMember, IsStated, home_of}
-use Rattle.gr_run_law.specs.Shares.{Stands, Owner, Client, Thread, Giver}
-use Rattle.gr_run_law.specs.Served.{Served, Looked, all_deeds_of, number_in, step_of, IsPeek, Histories, ArePlaced, IsServed}
-use Rattle.gr_value.specs.declared.value.Field.{Field}
-use Rattle.gr_value.specs.Shard.{shard_of, key_hash}
-use Rattle.gr_turn.specs.Views.{times}
 use Rattle.gr_script.specs.Rules.{IsScript}
 use Rattle.gr_script.specs.Steps.{AreNumbered}
 use Rattle.gr_script.proofs.Numbers.{steps_numbered}
-use Rattle.gr_run_law.proofs.Peeks.{late_of, in_order}
+use Rattle.gr_world.specs.Served.{Served, Looked, all_deeds_of, number_in, step_of, IsPeek, Histories, ArePlaced, IsServed}
+use Rattle.gr_run_law.specs.Shares.{Stands, Owner, Client, Thread, Giver}
 use Rattle.gr_run_law.specs.Threads.{AreLeftByThreads}
+use Rattle.gr_run_law.proofs.Peeks.{late_of, in_order}
 use Rattle.gr_run_law.proofs.Sharing.{GivesNone, one_owner, entry_at, get_below}
 use Rattle.gr_run_law.proofs.Lists.{all_at, all_pass, where_so, filter_as_map, reverse_get, older_get, same_number, none_isnt_some}
 use Rattle.gr_run_law.proofs.Lists.{same_in_some}

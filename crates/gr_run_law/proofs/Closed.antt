@@ -5,10 +5,10 @@ use Rattle.std.proofs.Common.{refl, sym, ap, ◌∙◌, subst, arith, inl, inr, 
 use Rattle.std.proofs.Common.{eqb-true}
 use Rattle.std.specs.Prelude.{nat_le, count_by, get_or}
 use Rattle.std.specs.List.{filter_map}
-use native.Mathlib.Decide.{ℕ_discrete}
-use mathlib.Core.Logic.{dite}
 use Rattle.std.proofs.lemmas.Bool.Decides.{nat_tests}
 use Rattle.std.proofs.lemmas.List.{reverse-reverse}
+use native.Mathlib.Decide.{ℕ_discrete}
+use mathlib.Core.Logic.{dite}
 use Rattle.gr_value.specs.Shard.{shard_of}
 use Rattle.gr_stamp.specs.declared.change.Change.{Change}
 use Rattle.gr_stamp.specs.declared.change.Kind.{Kind}
@@ -53,7 +53,7 @@ use Rattle.gr_script.specs.declared.line.Line.{Line}
 use Rattle.gr_script.specs.declared.line.Line.TheVariants as line
 use Rattle.gr_script.specs.Rules.{Heading, IsMember, IsStated, IsScript, home_of}
 use Rattle.gr_script.specs.Steps.{joins_of, is_join_of}
-use Rattle.gr_run_law.specs.Served.{Served, Called, Queried, Looked, deeds_of, Histories}
+use Rattle.gr_world.specs.Served.{Served, Called, Queried, Looked, deeds_of, Histories}
 use Rattle.gr_run_law.specs.Duties.{Reports, Sweeps, Joins, duty_in, duty_of, gift_in, gift_due, given_to, own_where, taken_in}
 use Rattle.gr_run_law.specs.Plans.{total_to, draws_for, brings_change, changes_posted, posted_by}
 use Rattle.gr_run_law.specs.Runs.{grid_from, IsRun}

@@ -1,6 +1,8 @@
 -- What a courier delivers was posted.
 use Rattle.std.proofs.Common.{◌≡◌, ◌⊎◌, ℕ, ◌+◌, ◌-◌, ◌/◌, ◌%◌, ◌==◌, Bool, true, false, List, [], ◌∷◌, ◌++◌, map, filter, reverse}
 use Rattle.std.proofs.Common.{refl, sym, ap, subst, inl, inr, ⊎_elim, if◌then◌else◌}
+use Rattle.gr_law.specs.Grids.{Among}
+use Rattle.gr_law.proofs.Lists.{among_either, among_filter, among_reverse}
 use Rattle.gr_post.specs.declared.mail.Mail.{Mail}
 use Rattle.gr_post.specs.declared.mail.Mail.TheVariants.{End}
 use Rattle.gr_post.specs.declared.mail.Posting.{Posting}
@@ -9,8 +11,6 @@ use Rattle.gr_post.specs.declared.fate.Fate.{Fate}
 use Rattle.gr_post.specs.declared.fate.Fate.TheVariants.{Once, Twice, Hold, Last}
 use Rattle.gr_post.specs.Plan.{Draw, is_named, draws, fate, mails, due, kept, released_by, held_by, held, released, delivered}
 use Rattle.gr_post.proofs.Counting.{draws_mails}
-use Rattle.gr_law.specs.Grids.{Among}
-use Rattle.gr_law.proofs.Lists.{among_either, among_filter, among_reverse}
 
 -- the mails that a fate is of
 abbrev of_fate : Fate → List Mail

@@ -6,8 +6,8 @@ use Rattle.std.specs.List.{filter_map, cons_option, AllByRecursion}
 use native.Mathlib.Decide.{ℕ_discrete}
 use mathlib.Core.Logic.{dite}
 use Rattle.gr_value.specs.Shard.{shard_of}
-use Rattle.gr_turn.specs.Views.{times}
 use Rattle.gr_vector.specs.declared.report.Report.{Report}
+use Rattle.gr_turn.specs.Views.{times}
 use Rattle.gr_history.specs.declared.deed.Deed.{Deed}
 use Rattle.gr_history.specs.declared.deed.Deed.TheVariants.{Call, Asked, Taken, Gave, Imaged, Reported, Heard, Swept}
 use Rattle.gr_history.specs.declared.image.What.{What}
@@ -16,8 +16,8 @@ use Rattle.gr_law.specs.Grids.{Older}
 use Rattle.gr_script.specs.declared.line.Line.{Line}
 use Rattle.gr_script.specs.Rules.{Heading, IsMember, IsStated, home_of}
 use Rattle.gr_script.specs.Steps.{joins_of}
+use Rattle.gr_world.specs.Served.{Served, all_deeds_of, Histories}
 use Rattle.gr_run_law.specs.Shares.{Owner, Client, Thread, Giver}
-use Rattle.gr_run_law.specs.Served.{Served, all_deeds_of, Histories}
 use Rattle.gr_run_law.specs.Duties.{Joins, duty_in, gift_in, gift_due, reported_in, is_step}
 use Rattle.gr_run_law.specs.Runs.{DoesDuties, GivesGifts, WaitsForImage, AreRounds}
 use Rattle.gr_run_law.specs.Threads.{AreLeftByThreads, Work, TookIn, HeardOf, ReportedAll, SweptAll, Merged, GotFrom, work_at, deed_if}

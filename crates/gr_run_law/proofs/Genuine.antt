@@ -20,6 +20,7 @@ use Rattle.gr_history.specs.Lawful.{IsLawful, IsLawfulDeed}
 use Rattle.gr_history.specs.Made.{made}
 use Rattle.gr_law.specs.Grids.{Among, Grid, identity}
 use Rattle.gr_law.specs.Integrity.{IsMade, IsGenuine, IsGenuineDeed, IsHeardDeed, AreHeard, HasNoImage, IsImagedOnce, IsWhole}
+use Rattle.gr_law.specs.Integrity.{IsGift}
 use Rattle.gr_law.proofs.Images.{filter_map_has}
 use Rattle.gr_law.proofs.Lists.{among_filter, among_reverse}
 use Rattle.gr_law.proofs.Made.{older_lawful, made_member}
@@ -28,19 +29,18 @@ use Rattle.gr_post.specs.declared.mail.Mail.{Mail}
 use Rattle.gr_post.specs.declared.mail.Mail.TheVariants as mail
 use Rattle.gr_script.specs.declared.line.Line.{Line}
 use Rattle.gr_script.specs.Rules.{Heading, IsMember, IsStated, IsScript, home_of}
-use Rattle.gr_run_law.specs.Shares.{Owner, Client, Thread, Giver}
-use Rattle.gr_run_law.specs.Served.{Served, Called, deeds_of, Histories}
-use Rattle.gr_run_law.specs.Duties.{Duty, Reports, Sweeps, Joins, duty_in, duty_of}
-use Rattle.gr_run_law.proofs.Integrity.{made_key, among_older, made_in_one, flat_among, all_flat_in, given_made, IsOfClient, IsOfMember}
-use Rattle.gr_run_law.proofs.Integrity.{work_from}
-use Rattle.gr_run_law.proofs.Duties.{duties_done}
 use Rattle.gr_script.specs.declared.line.Line.TheVariants as line
 use Rattle.gr_script.specs.Steps.{joins_of, is_join_of}
 use Rattle.gr_script.specs.Rules.{AllStand}
-use Rattle.gr_law.specs.Integrity.{IsGift}
+use Rattle.gr_world.specs.Served.{Served, Called, deeds_of, Histories}
+use Rattle.gr_run_law.specs.Shares.{Owner, Client, Thread, Giver}
+use Rattle.gr_run_law.specs.Duties.{Duty, Reports, Sweeps, Joins, duty_in, duty_of}
 use Rattle.gr_run_law.specs.Runs.{grid_from}
 use Rattle.gr_run_law.specs.Threads.{AreLeftByThreads, Work, TookIn, HeardOf, ReportedAll, SweptAll, Merged, GotFrom, work_at, deed_if}
 use Rattle.gr_run_law.specs.Threads.{report_deed, sweep_deed, got_from, IsFromMember}
+use Rattle.gr_run_law.proofs.Integrity.{made_key, among_older, made_in_one, flat_among, all_flat_in, given_made, IsOfClient, IsOfMember}
+use Rattle.gr_run_law.proofs.Integrity.{work_from}
+use Rattle.gr_run_law.proofs.Duties.{duties_done}
 use Rattle.gr_run_law.proofs.Sharing.{entry_at, get_below, owned_stands}
 use Rattle.gr_run_law.proofs.Lists.{count_cons, all_at, reverse_get, same_number, same_in_some}
 use Rattle.gr_run_law.proofs.Owners.{client_all, giver_all}

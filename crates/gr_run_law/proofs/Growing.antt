@@ -13,8 +13,8 @@ use Rattle.gr_history.specs.declared.deed.Deed.TheVariants.{Call, Asked, Taken, 
 use Rattle.gr_history.specs.declared.image.What.{What}
 use Rattle.gr_history.specs.Gifts.{own_changes}
 use Rattle.gr_law.specs.Grids.{Among, Older}
+use Rattle.gr_world.specs.Served.{Served, Called, Queried, Looked, deeds_of, all_deeds_of}
 use Rattle.gr_run_law.specs.Shares.{Stands, Owner, Client, Thread, Giver, AreShared, AreSharedSoFar, same_owner, with_owner}
-use Rattle.gr_run_law.specs.Served.{Served, Called, Queried, Looked, deeds_of, all_deeds_of}
 use Rattle.gr_run_law.specs.Duties.{gift_in, given_to, own_where}
 use Rattle.gr_run_law.specs.Threads.{LooksFit, behind_first, rest_if, seen_if}
 use Rattle.gr_run_law.proofs.Lists.{get_front, get_last, same_number}

@@ -13,8 +13,8 @@ use Rattle.gr_history.specs.declared.deed.Deed.{Deed}
 use Rattle.gr_history.specs.declared.deed.Deed.TheVariants.{Call}
 use Rattle.gr_law.specs.Grids.{Among}
 use Rattle.gr_script.specs.Steps.{AreNumbered}
+use Rattle.gr_world.specs.Served.{Served, Called, Queried, Looked, step_of, deeds_of, all_deeds_of, number_in}
 use Rattle.gr_run_law.specs.Shares.{Stands}
-use Rattle.gr_run_law.specs.Served.{Served, Called, Queried, Looked, step_of, deeds_of, all_deeds_of, number_in}
 use Rattle.gr_run_law.specs.Threads.{LooksFit, behind_first, rest_if, seen_if}
 use Rattle.gr_run_law.proofs.Sharing.{entry_at}
 use Rattle.gr_run_law.proofs.Lists.{all_at, all_append, same_number, none_isnt_some, same_in_some}

@@ -8,27 +8,27 @@ use Rattle.gr_history.specs.declared.deed.Deed.{Deed}
 use Rattle.gr_history.specs.declared.record.MemberRecord.{MemberRecord}
 use Rattle.gr_history.specs.declared.record.Record.{Record}
 use Rattle.gr_history.specs.declared.record.ShardRecord.{ShardRecord}
-use Rattle.gr_report.specs.Same.{rows_by_shard, member_eq, are_equal}
-use Rattle.gr_report.proofs.Sameness.{member_eq_decides}
-use Rattle.gr_script.specs.declared.line.Line.{Line}
-use Rattle.gr_script.specs.Drill.{IsDrill}
-use Rattle.gr_script.specs.Rules.{Heading, IsMember, IsScript}
-use Rattle.gr_world.specs.Histories.{deeds_at, history_at, KeepsLaws}
-use Rattle.gr_world.specs.Numbered.{numbers_from}
-use Rattle.gr_world.specs.Records.{HasRegion, HasRegions, histories_of}
 use Rattle.gr_law.specs.Grids.{Grid}
 use Rattle.gr_law.specs.Integrity.{IsWhole}
 use Rattle.gr_law.proofs.Reached.{law_0-holds}
 use Rattle.gr_law.proofs.Took.{law_1-holds}
 use Rattle.gr_law.proofs.Late.{law_2-holds}
 use Rattle.gr_law.proofs.Queries.{law_queries-holds}
-use Rattle.gr_law.proofs.Held.{law_3-holds, law_4-holds, law_5-holds, same_value-holds}
+use Rattle.gr_law.proofs.Held.{law_3-holds, law_4-holds, law_5-holds, same_value-holds, same_entry-holds}
+use Rattle.gr_script.specs.declared.line.Line.{Line}
+use Rattle.gr_script.specs.Drill.{IsDrill}
+use Rattle.gr_script.specs.Rules.{Heading, IsMember, IsScript}
+use Rattle.gr_world.specs.Histories.{deeds_at, history_at, KeepsLaws}
+use Rattle.gr_world.specs.Numbered.{numbers_from}
+use Rattle.gr_world.specs.Records.{HasRegion, HasRegions, histories_of}
 use Rattle.gr_world.specs.Histories.{IsLawAbiding}
+use Rattle.gr_world.specs.Served.{histories_in}
+use Rattle.gr_report.specs.Same.{rows_by_shard, member_eq, are_equal}
+use Rattle.gr_report.proofs.Sameness.{member_eq_decides}
 use Rattle.gr_run_law.specs.Runs.{IsLawfulRun, grid_from}
 use Rattle.gr_run_law.specs.Closed.{EndsReady}
 use Rattle.gr_run_law.proofs.Lists.{all_at, same_number, none_isnt_some, same_in_some}
 use Rattle.gr_run_law.proofs.Rows.{rows_left, rows_same}
-use Rattle.gr_run_law.specs.Served.{histories_in}
 
 whole_abiding : (grid : Grid) → IsWhole grid → IsLawAbiding grid
 whole_abiding grid whole = record {
@@ -38,6 +38,7 @@ whole_abiding grid whole = record {
   late = law_2-holds grid whole;
   held = law_3-holds grid whole;
   same = same_value-holds grid whole;
+  one_entry = same_entry-holds grid whole;
   no_removed = law_4-holds grid whole;
   one_history = law_5-holds grid whole.sound;
   queries = law_queries-holds grid whole.sound;

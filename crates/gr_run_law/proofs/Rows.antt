@@ -1,50 +1,28 @@
--- Members that are in have the same rows, stamps included.
+-- Members that end ready have the same rows, stamps included.
 use Rattle.std.proofs.Common.{◌≡◌, ℕ, ◌<◌, not, Bool, true, false, List, [], ◌∷◌, Option, Some, None}
 use Rattle.std.proofs.Common.{refl, sym, ap, ◌∙◌, filter, cond}
-use Rattle.std.specs.Prelude.{is_some, option_and_then, if◌then◌else◌}
+use Rattle.std.specs.Prelude.{is_some, if◌then◌else◌}
 use Rattle.std.specs.List.{filter_map, cons_option}
-use Rattle.gr_value.specs.declared.value.Field.{Field}
 use Rattle.gr_stamp.specs.declared.change.Change.{Change}
-use Rattle.gr_stamp.specs.declared.change.Kind.{Kind}
-use Rattle.gr_stamp.specs.declared.change.Kind.TheVariants.{Put, Remove}
-use Rattle.gr_stamp.specs.Winner.{winner, put_value, is_removal}
+use Rattle.gr_stamp.specs.Winner.{is_removal}
 use Rattle.gr_history.specs.declared.deed.Deed.{Deed}
 use Rattle.gr_history.specs.declared.record.ClientRecord.{ClientRecord}
 use Rattle.gr_history.specs.Regions.{keys_of, all_standing}
-use Rattle.gr_history.specs.Standing.{changes, standing, present}
-use Rattle.gr_law.specs.Grids.{Among, Grid}
-use Rattle.gr_law.specs.Integrity.{IsMade, IsSound, IsWhole}
-use Rattle.gr_law.specs.Laws.{took, IsHeld}
-use Rattle.gr_law.proofs.Held.{law_3-holds}
+use Rattle.gr_history.specs.Standing.{changes, standing}
+use Rattle.gr_law.specs.Grids.{Among}
+use Rattle.gr_law.specs.Laws.{AreAlso, took}
+use Rattle.gr_law.proofs.Held.{same_entry-holds}
 use Rattle.gr_law.proofs.Keys.{in_order_keys, same_filtered}
-use Rattle.gr_law.proofs.Lists.{one_name}
-use Rattle.gr_law.proofs.Made.{made_unique, older_itself}
+use Rattle.gr_law.proofs.Made.{older_itself}
 use Rattle.gr_law.proofs.Took.{took_sound}
 use Rattle.gr_law.proofs.Turning.{standing_key}
-use Rattle.gr_law.proofs.Winners.{winner-best, IsBest, unbeaten-same}
 use Rattle.gr_script.specs.declared.line.Line.{Line}
 use Rattle.gr_script.specs.Rules.{Heading, IsScript}
-use Rattle.gr_run_law.specs.Served.{Histories}
+use Rattle.gr_world.specs.Served.{Histories}
 use Rattle.gr_run_law.specs.Runs.{grid_from, IsRun}
-use Rattle.gr_run_law.specs.Closed.{EndsReady, TakesAll, HasSameRows}
-use Rattle.gr_run_law.proofs.Lists.{none_isnt_some}
+use Rattle.gr_run_law.specs.Closed.{EndsReady, HasSameRows}
+use Rattle.gr_run_law.proofs.Lists.{none_isnt_some, same_in_some}
 use Rattle.gr_run_law.proofs.Closed.{takes_all}
-
--- The winners of two lists with the same changes are one.
-one_winner : (grid : Grid) → IsSound grid → (key : List ℕ) (all more : List Change)
-    → ((change : Change) → Among change all → IsMade grid change) → ((change : Change) → Among change more → IsMade grid change)
-    → ((change : Change) → Among change all → Among change more) → ((change : Change) → Among change more → Among change all)
-    → winner key all ≡ winner key more
-one_winner grid sound key all more made_all made_more into back =
-    at_winners (winner key all) (winner key more) (winner-best key all) (winner-best key more)
-  where
-    at_winners : (o p : Option Change) → IsBest key all o → IsBest key more p → o ≡ p
-    at_winners None None n m = refl
-    at_winners None (Some y) n b = absurd (n y (back y b.among) b.of_key)
-    at_winners (Some x) None a m = absurd (m x (into x a.among) a.of_key)
-    at_winners (Some x) (Some y) a b =
-        let s = unbeaten-same x.stamp y.stamp (b.unbeaten x (into x a.among) a.of_key) (a.unbeaten y (back y b.among) b.of_key) in
-        ap (λ c. Some c) (made_unique grid sound x y (made_all x a.among) (made_more y b.among) (one_name x y s.1 s.2))
 
 -- the change, where it is a put
 abbrev put_of : Option Change → Option Change
@@ -55,48 +33,32 @@ put_of (Some change) = if is_removal change.kind then None else Some change
 abbrev put_at : List Deed → List ℕ → Option Change
 put_at past key = put_of (standing key past)
 
-put_kind : (change : Change) → is_removal change.kind ≡ false → (value : List Field) × (put_value change.kind ≡ Some value)
-put_kind change h = at_kind change.kind h
-  where
-    at_kind : (k : Kind) → is_removal k ≡ false → (value : List Field) × (put_value k ≡ Some value)
-    at_kind (Put value) h = (value, refl)
-    at_kind Remove h = absurd (no h)
-      where
-        no : true ≡ false → ⊥
-        no e = cc
+put_of_put : (change : Change) → is_removal change.kind ≡ false → put_of (Some change) ≡ Some change
+put_of_put change h = rw h refl
 
-removal_kind : (kind : Kind) → is_removal kind ≡ true → put_value kind ≡ None
-removal_kind (Put value) h = absurd (no h)
+-- what is there of an option by `put_of` is a put
+put_there : (o : Option Change) (change : Change) → put_of o ≡ Some change → (o ≡ Some change) × (is_removal change.kind ≡ false)
+put_there None change e = absurd (none_isnt_some change e)
+put_there (Some own) change e = at_test (is_removal own.kind) refl e
   where
-    no : false ≡ true → ⊥
-    no e = cc
-removal_kind Remove h = refl
+    at_test : (b : Bool) → is_removal own.kind ≡ b → (if b then None else Some own) ≡ Some change
+        → (Some own ≡ Some change) × (is_removal change.kind ≡ false)
+    at_test true f e = absurd (none_isnt_some change e)
+    at_test false f e = (e, ap (λ c. is_removal c.kind) (sym (same_in_some own change e)) ∙ f)
 
--- the put that stands is that of the winner of all that was taken in
-put_is : (grid : Grid) (key : List ℕ) (past : List Deed) → IsHeld grid key past → put_at past key ≡ put_of (winner key (took grid past))
-put_is grid key past held = at_winner (winner key (took grid past)) refl
+-- where a put that stands at either stands at the other too, the same put stands at both, or none
+same_put : (one two : Option Change) → ((held : Change) → one ≡ Some held → is_removal held.kind ≡ false → two ≡ Some held)
+    → ((held : Change) → two ≡ Some held → is_removal held.kind ≡ false → one ≡ Some held) → put_of one ≡ put_of two
+same_put one two into back = at_puts (put_of one) (put_of two) refl refl
   where
-    -- where nothing is present, no put stands
-    none_present : (o : Option Change) → option_and_then (λ (c : Change). put_value c.kind) o ≡ None → put_of o ≡ None
-    none_present None e = refl
-    none_present (Some c) e = at_test (is_removal c.kind) refl
-      where
-        at_test : (b : Bool) → is_removal c.kind ≡ b → (if b then None else Some c) ≡ None
-        at_test true f = refl
-        at_test false f = let v = put_kind c f in absurd (none_isnt_some v.0 (sym e ∙ v.1))
-
-    at_winner : (w : Option Change) → winner key (took grid past) ≡ w → put_of (standing key past) ≡ put_of w
-    at_winner None e =
-        let p : present key past ≡ None = held.present_is ∙ ap (option_and_then (λ (c : Change). put_value c.kind)) e in
-        none_present (standing key past) p
-    at_winner (Some c) e = at_test (is_removal c.kind) refl
-      where
-        at_test : (b : Bool) → is_removal c.kind ≡ b → put_of (standing key past) ≡ (if b then None else Some c)
-        at_test true f =
-            let p : present key past ≡ None = held.present_is ∙ ap (option_and_then (λ (c : Change). put_value c.kind)) e
-            ∙ removal_kind c.kind f in
-            none_present (standing key past) p
-        at_test false f = ap put_of (held.stands c e f) ∙ ap (λ b. if b then None else Some c) f
+    at_puts : (p q : Option Change) → put_of one ≡ p → put_of two ≡ q → p ≡ q
+    at_puts None None e f = refl
+    at_puts (Some x) q e f =
+        let there = put_there one x e in
+        sym (put_of_put x there.1) ∙ ap put_of (sym (into x there.0 there.1)) ∙ f
+    at_puts None (Some y) e f =
+        let there = put_there two y f in
+        sym e ∙ ap put_of (back y there.0 there.1) ∙ put_of_put y there.1
 
 -- ---- rows
 
@@ -188,42 +150,31 @@ same_rows one two same =
     ∙ map_same (put_at one) (put_at two) same (filter q ys)
     ∙ sym (rows_put two ys)
 
--- Founders and members that joined have the same rows.
-pub rows_same : (heading : Heading) (lines : List Line) (histories : Histories) (clients : List ClientRecord) → IsScript heading lines
-    → IsRun heading lines histories clients → (one two shard : ℕ) → EndsReady heading lines one → EndsReady heading lines two
+-- Members that end ready have the same rows.
+pub rows_same : (heading : Heading) (lines : List Line) (histories : Histories) (records : List ClientRecord) → IsScript heading lines
+    → IsRun heading lines histories records → (one two shard : ℕ) → EndsReady heading lines one → EndsReady heading lines two
     → shard < heading.shards → rows_left (histories one shard) ≡ rows_left (histories two shard)
-rows_same heading lines histories clients head r one two shard is_one is_two within =
-    same_rows (histories one shard) (histories two shard) same
+rows_same heading lines histories records head r one two shard is_one is_two within = same_rows (histories one shard) (histories two shard) same
   where
-    grid : Grid
-    grid = grid_from heading histories shard
-
-    whole : IsWhole (grid_from heading histories shard)
-    whole = r.whole shard within
-
-    made_of : (member : ℕ) (change : Change) → Among change (took (grid_from heading histories shard) (histories member shard))
-        → IsMade (grid_from heading histories shard) change
-    made_of member change a = (took_sound (grid_from heading histories shard) (r.whole shard within).sound member (histories member shard)
+    -- what a member took in the others took in
+    also : (member other : ℕ) → EndsReady heading lines other → (key : List ℕ)
+        → AreAlso key (took (grid_from heading histories shard) (histories member shard))
+        (took (grid_from heading histories shard) (histories other shard))
+    also member other is key change a of_key = takes_all heading lines histories records head r other shard is within change
+        (took_sound (grid_from heading histories shard) (r.whole shard within).sound member (histories member shard)
         (older_itself (histories member shard)) ((r.whole shard within).sound.lawful member)
         ((r.whole shard within).sound.genuine member) change a).0
 
-    all_of : TakesAll heading lines histories
-    all_of = takes_all heading lines histories clients head r
-
-    held : (member : ℕ) (key : List ℕ) → IsHeld (grid_from heading histories shard) key (histories member shard)
-    held member key = law_3-holds (grid_from heading histories shard) (r.whole shard within) member (histories member shard)
-        (older_itself (histories member shard)) key
-
     same : (key : List ℕ) → put_at (histories one shard) key ≡ put_at (histories two shard) key
     same key =
-        let g = grid_from heading histories shard in
-        put_is g key (histories one shard) (held one key)
-        ∙ ap put_of (one_winner g (r.whole shard within).sound key (took g (histories one shard)) (took g (histories two shard))
-        (made_of one) (made_of two)
-        (λ c a. all_of two shard is_two within c (made_of one c a)) (λ c a. all_of one shard is_one within c (made_of two c a)))
-        ∙ sym (put_is g key (histories two shard) (held two key))
+        let entry = same_entry-holds (grid_from heading histories shard) (r.whole shard within) in
+        let first = older_itself (histories one shard) in
+        let second = older_itself (histories two shard) in
+        same_put (standing key (histories one shard)) (standing key (histories two shard))
+        (entry one two (histories one shard) (histories two shard) first second key (also one two is_two key) (also two one is_one key))
+        (entry two one (histories two shard) (histories one shard) second first key (also two one is_one key) (also one two is_two key))
 
-pub regions_same : (heading : Heading) (lines : List Line) (histories : Histories) (clients : List ClientRecord) → IsScript heading lines
-    → IsRun heading lines histories clients → HasSameRows heading lines histories
-regions_same heading lines histories clients head r one two shard is_one is_two within left right of_one of_two =
-    of_one.rows_are ∙ rows_same heading lines histories clients head r one two shard is_one is_two within ∙ sym of_two.rows_are
+pub regions_same : (heading : Heading) (lines : List Line) (histories : Histories) (records : List ClientRecord) → IsScript heading lines
+    → IsRun heading lines histories records → HasSameRows heading lines histories
+regions_same heading lines histories records head r one two shard is_one is_two within left right of_one of_two =
+    of_one.rows_are ∙ rows_same heading lines histories records head r one two shard is_one is_two within ∙ sym of_two.rows_are

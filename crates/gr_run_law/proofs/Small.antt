@@ -5,8 +5,8 @@ use Rattle.std.specs.List.{filter_map}
 use Rattle.gr_value.specs.Shard.{shard_of}
 use Rattle.gr_value.specs.declared.value.Field.{Field}
 use Rattle.gr_stamp.specs.declared.change.Change.{Change}
-use Rattle.gr_turn.specs.Views.{times}
 use Rattle.gr_vector.specs.declared.report.Report.{Report}
+use Rattle.gr_turn.specs.Views.{times}
 use Rattle.gr_history.specs.declared.ask.Ask.{Ask}
 use Rattle.gr_history.specs.declared.reply.Reply.{Reply}
 use Rattle.gr_history.specs.declared.query_ask.QueryAsk.{QueryAsk}
@@ -22,10 +22,10 @@ use Rattle.gr_post.specs.Mails.{of}
 use Rattle.gr_post.specs.Plan.{delivered}
 use Rattle.gr_script.specs.Rules.{IsHeading, IsMember, IsScript, IsStated, IsWithin, home_of}
 use Rattle.gr_world.specs.Rows.{one_key}
+use Rattle.gr_world.specs.Served.{Called, Queried, Looked, all_deeds_of}
 use Rattle.gr_run_law.specs.Duties.{given_to, gift_due, duty_of}
 use Rattle.gr_run_law.specs.Plans.{draws_for, courier_of, reports_posted, changes_posted}
 use Rattle.gr_run_law.specs.Shares.{Owner, Client, Thread, Giver, AreShared, Stands}
-use Rattle.gr_run_law.specs.Served.{Called, Queried, Looked, all_deeds_of}
 use Rattle.gr_run_law.specs.Runs.{grid_from}
 use Rattle.gr_run_law.specs.Threads.{AreLeftByThreads, HeardOf, Merged, GotFrom, IsWrittenBy, IsSession, IsThread, IsMailed, LooksFit}
 use Rattle.gr_run_law.specs.Threads.{IsLook, IsReadyBefore, work_at, duty_at, got_from, round_of, client_place, member_place}

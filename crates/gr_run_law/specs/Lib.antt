@@ -1,5 +1,4 @@
 pub mod Shares
-pub mod Served
 pub mod Duties
 pub mod Plans
 pub mod Runs

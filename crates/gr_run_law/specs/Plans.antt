@@ -9,7 +9,7 @@ use Rattle.gr_post.specs.declared.mail.Mail.TheVariants as mail
 use Rattle.gr_post.specs.declared.mail.Posting.{Posting}
 use Rattle.gr_post.specs.Plan.{Draw, draws, first_number}
 use Rattle.gr_script.specs.Rules.{Heading}
-use Rattle.gr_run_law.specs.Served.{Served, Called, Queried, Looked}
+use Rattle.gr_world.specs.Served.{Served, Called, Queried, Looked}
 
 -- ---- what couriers carry
 

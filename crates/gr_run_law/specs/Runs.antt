@@ -15,7 +15,7 @@ use Rattle.gr_script.specs.Rules.{Heading, IsMember}
 use Rattle.gr_script.specs.Steps.{joins_of}
 use Rattle.gr_world.specs.Numbered.{numbers_from}
 use Rattle.gr_world.specs.Records.{HasRegions}
-use Rattle.gr_run_law.specs.Served.{Histories, histories_in, Served, AreServed}
+use Rattle.gr_world.specs.Served.{Histories, histories_in, Served, AreServed}
 use Rattle.gr_run_law.specs.Duties.{duty_in, duty_of, gift_in, gift_due, given_to, taken_in, heard_in, reported_in, is_step}
 use Rattle.gr_run_law.specs.Plans.{changes_posted, reports_posted, total_to, courier_of, draws_for, brings_change, brings_report}
 

@@ -24,8 +24,8 @@ use Rattle.gr_script.specs.declared.line.Line.{Line}
 use Rattle.gr_script.specs.declared.line.Line.TheVariants as line
 use Rattle.gr_script.specs.Rules.{Heading, heading}
 use Rattle.gr_world.specs.Rows.{one_key, put, puts, peeks, id}
+use Rattle.gr_world.specs.Served.{Served, Called, Queried, Looked}
 use Rattle.gr_run_law.specs.Shares.{Owner, Client, Thread, Giver}
-use Rattle.gr_run_law.specs.Served.{Served, Called, Queried, Looked}
 use Rattle.gr_run_law.specs.Threads.{Work, TookIn, HeardOf, ReportedAll, SweptAll, Merged, GotFrom}
 
 -- ---- the script

@@ -5,10 +5,10 @@ use Rattle.std.specs.Prelude.{nat_lt, filter, reverse, slice_get, flat_map, ifâ—
 use Rattle.std.specs.List.{AllByRecursion, filter_map}
 use Rattle.gr_value.specs.declared.value.Field.{Field}
 use Rattle.gr_value.specs.Shard.{shard_of}
-use Rattle.gr_turn.specs.Views.{times}
-use Rattle.gr_history.specs.Asks.{key_of}
 use Rattle.gr_stamp.specs.declared.change.Change.{Change}
 use Rattle.gr_vector.specs.declared.report.Report.{Report}
+use Rattle.gr_turn.specs.Views.{times}
+use Rattle.gr_history.specs.Asks.{key_of}
 use Rattle.gr_history.specs.declared.deed.Deed.{Deed}
 use Rattle.gr_history.specs.declared.deed.Deed.TheVariants.{Taken, Gave, Imaged, Reported, Heard, Swept}
 use Rattle.gr_history.specs.declared.image.Image.{Image}
@@ -16,6 +16,7 @@ use Rattle.gr_history.specs.declared.verdict.Verdict.{Verdict}
 use Rattle.gr_history.specs.Lawful.{IsLawful}
 use Rattle.gr_history.specs.Recipients.{has_image}
 use Rattle.gr_history.specs.Standing.{present}
+use Rattle.gr_history.specs.declared.record.Record.{Record}
 use Rattle.gr_law.specs.Grids.{Among, Older, at_place, identity}
 use Rattle.gr_law.specs.Integrity.{IsGift}
 use Rattle.gr_post.specs.declared.mail.Mail.{Mail}
@@ -26,13 +27,12 @@ use Rattle.gr_post.specs.Plan.{delivered}
 use Rattle.gr_script.specs.declared.line.Line.{Line}
 use Rattle.gr_script.specs.Rules.{Heading, IsMember, IsStated, home_of}
 use Rattle.gr_script.specs.Steps.{steps_of, joins_of}
-use Rattle.gr_run_law.specs.Shares.{Owner, Client, Thread, Giver, AreShared}
-use Rattle.gr_run_law.specs.Served.{Histories, histories_in, Served, Called, Queried, Looked, step_of, all_deeds_of, HasReplies, client_of}
-use Rattle.gr_run_law.specs.Duties.{Duty, Reports, Sweeps, Joins, duty_of, gift_due, given_to}
-use Rattle.gr_run_law.specs.Plans.{changes_posted, reports_posted, courier_of, draws_for}
-use Rattle.gr_history.specs.declared.record.Record.{Record}
 use Rattle.gr_world.specs.Numbered.{numbers_from}
 use Rattle.gr_world.specs.Records.{HasRegions}
+use Rattle.gr_world.specs.Served.{Histories, histories_in, Served, Called, Queried, Looked, step_of, all_deeds_of, HasReplies, client_of}
+use Rattle.gr_run_law.specs.Shares.{Owner, Client, Thread, Giver, AreShared}
+use Rattle.gr_run_law.specs.Duties.{Duty, Reports, Sweeps, Joins, duty_of, gift_due, given_to}
+use Rattle.gr_run_law.specs.Plans.{changes_posted, reports_posted, courier_of, draws_for}
 use Rattle.gr_run_law.specs.Runs.{grid_from}
 
 -- ---- a client's session

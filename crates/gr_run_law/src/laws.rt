@@ -21,7 +21,7 @@ ghost use Rattle.gr_run_law.specs.Threads.{AreLeftByThreads, IsLeftByThreads, Lo
 ghost use Rattle.gr_run_law.specs.Duties.{gift_in, given_to, own_where};
 ghost use Rattle.gr_run_law.specs.Closed.{HasSameRows, EndsReady, TakesAll};
 ghost use Rattle.gr_run_law.specs.Runs.{AreRounds, DoesDuties, GivesGifts, HearsReports, IsLawfulRun, IsRun, TakesChanges, WaitsForImage};
-ghost use Rattle.gr_run_law.specs.Served.{Histories, Looked, Served, all_deeds_of, client_of};
+ghost use Rattle.gr_world.specs.Served.{Histories, Looked, Served, all_deeds_of, client_of};
 ghost use Rattle.gr_run_law.specs.Shares.{AreShared, AreSharedSoFar, Owner, Stands, with_owner};
 ghost use Rattle.gr_run_law.specs.Small.{small_histories, small_lines, small_served, three};
 
