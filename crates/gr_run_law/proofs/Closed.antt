@@ -1,25 +1,19 @@
 -- Every founder and every member that joined took in all changes.
-use Rattle.std.proofs.Common.{◌≡◌, ◌≢◌, ℕ, zero, suc, ◌+◌, ◌-◌, ◌*◌, ◌/◌, ◌%◌, ◌<◌, ◌≤◌, ◌⊎◌, ◌==◌, ◌&&◌, ◌||◌, not, Bool, true, false}
-use Rattle.std.proofs.Common.{List, [], ◌∷◌, length, map, Option, Some, None}
-use Rattle.std.proofs.Common.{refl, sym, ap, ◌∙◌, subst, arith, inl, inr, ⊎_elim, reverse, filter, max, if◌then◌else◌, cond, ne_eqb}
+use Rattle.std.proofs.Common.{◌≡◌, ◌≢◌, ℕ, ◌+◌, ◌-◌, ◌<◌, ◌≤◌, ◌⊎◌, ◌==◌, ◌&&◌, ◌||◌, not, Bool, true, false}
+use Rattle.std.proofs.Common.{List, [], ◌∷◌, length, Some, None}
+use Rattle.std.proofs.Common.{refl, sym, ap, ◌∙◌, subst, arith, inl, inr, ⊎_elim, reverse, filter, if◌then◌else◌, cond, ne_eqb}
 use Rattle.std.proofs.Common.{eqb-true}
 use Rattle.std.specs.Prelude.{nat_le, count_by, get_or}
-use Rattle.std.specs.List.{filter_map}
 use Rattle.std.proofs.lemmas.Bool.Decides.{nat_tests}
 use Rattle.std.proofs.lemmas.List.{reverse-reverse}
 use native.Mathlib.Decide.{ℕ_discrete}
 use mathlib.Core.Logic.{dite}
 use Rattle.gr_value.specs.Shard.{shard_of}
 use Rattle.gr_stamp.specs.declared.change.Change.{Change}
-use Rattle.gr_stamp.specs.declared.change.Kind.{Kind}
-use Rattle.gr_stamp.specs.declared.stamp.TheConstants.{LIMIT}
-use Rattle.gr_vector.specs.Ids.{Id, has_id, is_same_id}
+use Rattle.gr_vector.specs.Ids.{has_id, is_same_id}
 use Rattle.gr_vector.proofs.Order.{same_id_itself}
-use Rattle.gr_history.specs.declared.identity.Identity.{Identity}
 use Rattle.gr_history.specs.declared.ask.Ask.{Ask}
 use Rattle.gr_history.specs.declared.reply.Reply.{Reply}
-use Rattle.gr_history.specs.declared.reply.Reply.TheVariants.{Limit, NotReady}
-use Rattle.gr_history.specs.declared.reply.Told.{Told}
 use Rattle.gr_history.specs.declared.query_reply.QueryReply.{QueryReply}
 use Rattle.gr_history.specs.declared.query_reply.QueryReply.TheVariants.{Unknown}
 use Rattle.gr_history.specs.declared.image.Image.{Image}
@@ -29,241 +23,37 @@ use Rattle.gr_history.specs.declared.image.What.TheVariants as what
 use Rattle.gr_history.specs.declared.deed.Deed.{Deed}
 use Rattle.gr_history.specs.declared.deed.Deed.TheVariants.{Call, Asked, Taken, Gave, Imaged, Reported, Heard, Swept}
 use Rattle.gr_history.specs.Asks.{key_of, told}
-use Rattle.gr_history.specs.Calls.{call_gives, given, nothing_made, made_change, reach, last_rv}
 use Rattle.gr_history.specs.Deeds.{is_of_client}
 use Rattle.gr_history.specs.Gifts.{own_changes}
-use Rattle.gr_history.specs.Ids.{id_of, ids_at, ids}
+use Rattle.gr_history.specs.Ids.{id_of, ids}
 use Rattle.gr_history.specs.Lawful.{IsLawfulDeed}
 use Rattle.gr_history.specs.Made.{made, made_at}
-use Rattle.gr_history.specs.Recipients.{recipients, is_ready, gave_to, is_recipient, member_bits}
-use Rattle.gr_history.specs.Standing.{present}
+use Rattle.gr_history.specs.Recipients.{gave_to, is_recipient}
 use Rattle.gr_law.specs.Grids.{Among, Older, Grid, identity}
 use Rattle.gr_law.specs.Integrity.{IsMade, IsGenuine, IsGenuineDeed, IsGift, giver_of}
 use Rattle.gr_law.proofs.Images.{among_filter_map, filter_map_has}
-use Rattle.gr_law.proofs.Lists.{among_left, among_right, among_reverse, has_left, has_right, filter_keeps, known_ids}
+use Rattle.gr_law.proofs.Lists.{among_left, among_right, among_reverse, filter_keeps, known_ids}
 use Rattle.gr_law.proofs.Made.{older_itself, older_lawful, made_known, older_made}
 use Rattle.gr_law.proofs.Settled.{known_took}
-use Rattle.gr_post.specs.declared.mail.Mail.{Mail}
 use Rattle.gr_post.specs.declared.mail.Mail.TheVariants as mail
 use Rattle.gr_post.specs.declared.mail.Posting.{Posting}
-use Rattle.gr_post.specs.Plan.{Draw, is_named, first_number}
-use Rattle.gr_post.specs.Laws.{owed, times}
+use Rattle.gr_post.specs.Plan.{is_named, first_number}
+use Rattle.gr_post.specs.Laws.{owed}
 use Rattle.gr_post.proofs.Counting.{draws_mails}
 use Rattle.gr_script.specs.declared.line.Line.{Line}
 use Rattle.gr_script.specs.declared.line.Line.TheVariants as line
 use Rattle.gr_script.specs.Rules.{Heading, IsMember, IsStated, IsScript, home_of}
 use Rattle.gr_script.specs.Steps.{joins_of, is_join_of}
 use Rattle.gr_world.specs.Served.{Served, Called, Queried, Looked, deeds_of, Histories}
-use Rattle.gr_run_law.specs.Duties.{Reports, Sweeps, Joins, duty_in, duty_of, gift_in, gift_due, given_to, own_where, taken_in}
+use Rattle.gr_run_law.specs.Duties.{Reports, Sweeps, Joins, duty_in, duty_of, gift_in, gift_due, given_to, own_where}
 use Rattle.gr_run_law.specs.Plans.{total_to, draws_for, brings_change, changes_posted, posted_by}
 use Rattle.gr_run_law.specs.Runs.{grid_from, IsRun}
 use Rattle.gr_run_law.specs.Closed.{EndsReady, TakesAll}
-use Rattle.gr_run_law.proofs.Lists.{count_cons, same_number, none_isnt_some, same_in_some}
+use Rattle.gr_run_law.proofs.Lists.{true_false, count_cons, same_number, none_isnt_some, same_in_some}
 use Rattle.gr_run_law.proofs.Delivering.{map_among}
-use Rattle.gr_run_law.proofs.Integrity.{made_key, among_flat, flat_among}
-
--- ---- numbers and counts
-
-true_false : true ≡ false → ⊥
-true_false e = cc
-
-total_at : (n : ℕ) (f : ℕ → ℕ) (k : ℕ) → 1 ≤ k → k ≤ n → f k ≤ total_to n f
-total_at zero f k low high = absurd (omega arith)
-total_at (suc n) f k low high = at_case (λ le. total_at n f k low le) (below k n)
-  where
-    below : (a b : ℕ) → (a ≤ b) ⊎ (b < a)
-    below a b = grind arith
-
-    at_case : (k ≤ n → f k ≤ total_to n f) → (k ≤ n) ⊎ (n < k) → f k ≤ total_to n f + f (suc n)
-    at_case next (inl le) = let a = next le in omega arith
-    at_case next (inr lt) = let e : k ≡ suc n = omega arith in rw e (omega arith)
-
-among_count : {A : Type 0} (test : A → Bool) (x : A) (xs : List A) → Among x xs → test x ≡ true → 1 ≤ count_by test xs
-among_count test x [] a is = absurd a
-among_count test x (y ∷ xs) (inl same) is =
-    let c = count_cons test y xs in
-    let e : cond {A = ℕ} (test y) 1 0 ≡ 1 = rw (sym (ap test same) ∙ is) refl in omega arith
-among_count test x (y ∷ xs) (inr a) is = let c = count_cons test y xs in let n = among_count test x xs a is in omega arith
-
-count_some : {A : Type 0} (test : A → Bool) (xs : List A) → 1 ≤ count_by test xs → (x : A) × Among x xs × (test x ≡ true)
-count_some test [] le = absurd (omega arith)
-count_some test (x ∷ xs) le = at_test (test x) refl (λ more. count_some test xs more)
-  where
-    at_test : (b : Bool) → test x ≡ b → (1 ≤ count_by test xs → (y : _) × Among y xs × (test y ≡ true)) → (y : _)
-        × Among y (x ∷ xs) × (test y ≡ true)
-    at_test true e next = (x, inl refl, e)
-    at_test false e next =
-        let c = count_cons test x xs in
-        let z : cond {A = ℕ} (test x) 1 0 ≡ 0 = rw e refl in
-        let r = next (omega arith) in (r.0, inr r.1, r.2)
-
-owed_some : (test : Mail → Bool) (ds : List Draw) (m : Mail) → Among m (map (λ (d : Draw). d.mail) ds) → test m ≡ true → 1 ≤ owed test ds
-owed_some test [] m a is = absurd a
-owed_some test (d ∷ ds) m (inl same) is =
-    let e : test d.mail ≡ true = sym (ap test same) ∙ is in
-    let o : owed test (d ∷ ds) ≡ times d.number + owed test ds = ap (λ b. (if b then times d.number else 0) + owed test ds) e in
-    let t = some_times (d.number % 4 == 1) in
-    omega arith
-  where
-    some_times : (b : Bool) → 1 ≤ (if b then 2 else 1)
-    some_times true = omega arith
-    some_times false = omega arith
-owed_some test (d ∷ ds) m (inr a) is = let n = owed_some test ds m a is in omega arith
-
--- ---- what is known
-
-ids_among : (i : Id) (d : Deed) (h : List Deed) → Among d h → has_id i (ids_at d) ≡ true → has_id i (ids h) ≡ true
-ids_among i d [] a is = absurd a
-ids_among i d (first ∷ past) (inl same) is = has_left i (ids_at first) (ids past) (subst (λ x. has_id i (ids_at x) ≡ true) same is)
-ids_among i d (first ∷ past) (inr a) is = has_right i (ids_at first) (ids past) (ids_among i d past a is)
-
-taken_known : (d : Deed) (change : Change) (i : Id) → taken_in d ≡ Some change → is_same_id (id_of change) i ≡ true
-    → has_id i (ids_at d) ≡ true
-taken_known (Call client to seq ask reply own) change i e is = absurd (none_isnt_some change e)
-taken_known (Asked client seq ask reply) change i e is = absurd (none_isnt_some change e)
-taken_known (Taken own verdict) change i e is =
-    let same : is_same_id (id_of own) i ≡ true = ap (λ c. is_same_id (id_of c) i) (same_in_some own change e) ∙ is in rw same refl
-taken_known (Gave to what) change i e is = absurd (none_isnt_some change e)
-taken_known (Imaged image) change i e is = absurd (none_isnt_some change e)
-taken_known (Reported report) change i e is = absurd (none_isnt_some change e)
-taken_known (Heard report) change i e is = absurd (none_isnt_some change e)
-taken_known (Swept moment expired) change i e is = absurd (none_isnt_some change e)
-
--- where a change with this id was taken in, it is known
-counted_known : (i : Id) (h : List Deed) → 1 ≤ count_by (λ change. is_same_id (id_of change) i) (filter_map taken_in (reverse h))
-    → has_id i (ids h) ≡ true
-counted_known i h le =
-    let c = count_some (λ change. is_same_id (id_of change) i) (filter_map taken_in (reverse h)) le in
-    let d = among_filter_map taken_in c.0 (reverse h) c.1 in
-    ids_among i d.0 h (among_reverse d.0 h d.1) (taken_known d.0 c.0 i d.2 c.2)
-
--- ---- whom a change goes to
-
-abbrev one_bit : Bool → ℕ
-one_bit b = if b then 1 else 0
-
-bit_small : (b : Bool) → one_bit b ≤ 1
-bit_small true = omega arith
-bit_small false = omega arith
-
-bit_times : (b : Bool) (p : ℕ) → (if b then p else 0) ≡ p * one_bit b
-bit_times true p = omega arith
-bit_times false p = omega arith
-
-abbrev eight : ℕ → ℕ → ℕ → ℕ → ℕ → ℕ → ℕ → ℕ → ℕ
-eight a b c d e f g h = a + 2 * b + 4 * c + 8 * d + 16 * e + 32 * f + 64 * g + 128 * h
-
-module _ (a b c d e f g h : ℕ) (ka : a ≤ 1) (kb : b ≤ 1) (kc : c ≤ 1) (kd : d ≤ 1) (ke : e ≤ 1) (kf : f ≤ 1) (kg : g ≤ 1) (kh : h ≤ 1) where
-  bit_1 : a ≡ 1 → eight a b c d e f g h / 1 % 2 ≡ 1
-  bit_1 is = omega arith
-
-  bit_2 : b ≡ 1 → eight a b c d e f g h / 2 % 2 ≡ 1
-  bit_2 is = omega arith
-
-  bit_3 : c ≡ 1 → eight a b c d e f g h / 4 % 2 ≡ 1
-  bit_3 is = omega arith
-
-  bit_4 : d ≡ 1 → eight a b c d e f g h / 8 % 2 ≡ 1
-  bit_4 is = omega arith
-
-  bit_5 : e ≡ 1 → eight a b c d e f g h / 16 % 2 ≡ 1
-  bit_5 is = omega arith
-
-  bit_6 : f ≡ 1 → eight a b c d e f g h / 32 % 2 ≡ 1
-  bit_6 is = omega arith
-
-  bit_7 : g ≡ 1 → eight a b c d e f g h / 64 % 2 ≡ 1
-  bit_7 is = omega arith
-
-  bit_8 : h ≡ 1 → eight a b c d e f g h / 128 % 2 ≡ 1
-  bit_8 is = omega arith
-
-module _ (t : ℕ → Bool) where
-  bits : member_bits t 8
-      ≡ eight (one_bit (t 1)) (one_bit (t 2)) (one_bit (t 3)) (one_bit (t 4)) (one_bit (t 5)) (one_bit (t 6))
-      (one_bit (t 7)) (one_bit (t 8))
-  bits =
-      let a = bit_times (t 1) 1 in
-      let b = bit_times (t 2) 2 in
-      let c = bit_times (t 3) 4 in
-      let d = bit_times (t 4) 8 in
-      let e = bit_times (t 5) 16 in
-      let f = bit_times (t 6) 32 in
-      let g = bit_times (t 7) 64 in
-      let h = bit_times (t 8) 128 in
-      omega arith
-
-  one_of : (b : Bool) → b ≡ true → one_bit b ≡ 1
-  one_of b is = rw is refl
-
-  test_one : (x : ℕ) → x ≡ 1 → (x == 1) ≡ true
-  test_one x is = rw is refl
-
-  -- so each of the eight positions tells its member
-  bits_named : (member : ℕ) → 1 ≤ member → member ≤ 8 → t member ≡ true → is_named (member_bits t 8) (member - 1) ≡ true
-  bits_named zero low high is = absurd (omega arith)
-  bits_named (suc zero) low high is =
-      test_one _ (ap (λ n. n / 1 % 2) bits ∙ bit_1 _ _ _ _ _ _ _ _ (bit_small (t 1)) (bit_small (t 2)) (bit_small (t 3)) (bit_small (t 4))
-      (bit_small (t 5)) (bit_small (t 6)) (bit_small (t 7)) (bit_small (t 8)) (one_of (t 1) is))
-  bits_named (suc (suc zero)) low high is =
-      test_one _ (ap (λ n. n / 2 % 2) bits ∙ bit_2 _ _ _ _ _ _ _ _ (bit_small (t 1)) (bit_small (t 2)) (bit_small (t 3)) (bit_small (t 4))
-      (bit_small (t 5)) (bit_small (t 6)) (bit_small (t 7)) (bit_small (t 8)) (one_of (t 2) is))
-  bits_named (suc (suc (suc zero))) low high is =
-      test_one _ (ap (λ n. n / 4 % 2) bits ∙ bit_3 _ _ _ _ _ _ _ _ (bit_small (t 1)) (bit_small (t 2)) (bit_small (t 3)) (bit_small (t 4))
-      (bit_small (t 5)) (bit_small (t 6)) (bit_small (t 7)) (bit_small (t 8)) (one_of (t 3) is))
-  bits_named (suc (suc (suc (suc zero)))) low high is =
-      test_one _ (ap (λ n. n / 8 % 2) bits ∙ bit_4 _ _ _ _ _ _ _ _ (bit_small (t 1)) (bit_small (t 2)) (bit_small (t 3)) (bit_small (t 4))
-      (bit_small (t 5)) (bit_small (t 6)) (bit_small (t 7)) (bit_small (t 8)) (one_of (t 4) is))
-  bits_named (suc (suc (suc (suc (suc zero))))) low high is =
-      test_one _ (ap (λ n. n / 16 % 2) bits ∙ bit_5 _ _ _ _ _ _ _ _ (bit_small (t 1)) (bit_small (t 2)) (bit_small (t 3)) (bit_small (t 4))
-      (bit_small (t 5)) (bit_small (t 6)) (bit_small (t 7)) (bit_small (t 8)) (one_of (t 5) is))
-  bits_named (suc (suc (suc (suc (suc (suc zero)))))) low high is =
-      test_one _ (ap (λ n. n / 32 % 2) bits ∙ bit_6 _ _ _ _ _ _ _ _ (bit_small (t 1)) (bit_small (t 2)) (bit_small (t 3)) (bit_small (t 4))
-      (bit_small (t 5)) (bit_small (t 6)) (bit_small (t 7)) (bit_small (t 8)) (one_of (t 6) is))
-  bits_named (suc (suc (suc (suc (suc (suc (suc zero))))))) low high is =
-      test_one _ (ap (λ n. n / 64 % 2) bits ∙ bit_7 _ _ _ _ _ _ _ _ (bit_small (t 1)) (bit_small (t 2)) (bit_small (t 3)) (bit_small (t 4))
-      (bit_small (t 5)) (bit_small (t 6)) (bit_small (t 7)) (bit_small (t 8)) (one_of (t 7) is))
-  bits_named (suc (suc (suc (suc (suc (suc (suc (suc zero)))))))) low high is =
-      test_one _ (ap (λ n. n / 128 % 2) bits ∙ bit_8 _ _ _ _ _ _ _ _ (bit_small (t 1)) (bit_small (t 2)) (bit_small (t 3)) (bit_small (t 4))
-      (bit_small (t 5)) (bit_small (t 6)) (bit_small (t 7)) (bit_small (t 8)) (one_of (t 8) is))
-  bits_named (suc (suc (suc (suc (suc (suc (suc (suc (suc n))))))))) low high is = absurd (omega arith)
-
--- the member's bit is set where the change goes to it
-pub bit_set : (id : Identity) (past : List Deed) (member : ℕ) → 1 ≤ member → member ≤ 8 → is_recipient id past member ≡ true
-    → is_named (recipients id past) (member - 1) ≡ true
-unfolding recipients
-bit_set id past member low high is = bits_named (is_recipient id past) member low high is
-
--- a change that a call made goes to the recipients
-given_to_all : (id : Identity) (opening : ℕ) (past : List Deed) (key : List ℕ) (reply : Reply) (kind : Option Kind) (change : Change)
-    → (given id opening past key reply kind).made ≡ Some change → (given id opening past key reply kind).to ≡ recipients id past
-given_to_all id opening past key reply None change h = absurd (none_isnt_some change h)
-given_to_all id opening past key reply (Some kind) change h = at_test (nat_le LIMIT (max (reach opening key past) (last_rv id past))) h
-  where
-    at_test : (b : Bool) → (if b then nothing_made Limit
-        else record { reply = reply; made = Some (made_change id opening past key kind); to = recipients id past }).made ≡ Some change
-        → (if b then nothing_made Limit
-        else record { reply = reply; made = Some (made_change id opening past key kind); to = recipients id past }).to ≡ recipients id past
-    at_test true h = absurd (none_isnt_some change h)
-    at_test false h = refl
-
-gives_to_all : (id : Identity) (opening : ℕ) (past : List Deed) (ask : Ask) (change : Change)
-    → (call_gives id opening past ask).made ≡ Some change → (call_gives id opening past ask).to ≡ recipients id past
-gives_to_all id opening past ask change h = at_test (is_ready id past) h
-  where
-    answer : Told
-    answer = told ask (present (key_of ask) past)
-
-    at_test : (b : Bool) → (if b then given id opening past (key_of ask) answer.reply answer.change else nothing_made NotReady).made
-        ≡ Some change
-        → (if b then given id opening past (key_of ask) answer.reply answer.change else nothing_made NotReady).to ≡ recipients id past
-    at_test true h = given_to_all id opening past (key_of ask) answer.reply answer.change change h
-    at_test false h = absurd (none_isnt_some change h)
-
-made_to_all : (id : Identity) (opening client to number : ℕ) (ask : Ask) (reply : Reply) (change : Change) (past : List Deed)
-    → IsLawfulDeed id opening (Call client to number ask reply (Some change)) past → to ≡ recipients id past
-made_to_all id opening client to number ask reply change past law =
-    ap (λ d. d.to) law ∙ gives_to_all id opening past ask change (sym (ap (λ d. d.made) law))
+use Rattle.gr_run_law.proofs.Integrity.{made_key, among_older, among_flat, flat_among}
+use Rattle.gr_run_law.proofs.Known.{total_at, among_count, owed_some, ids_among, counted_known}
+use Rattle.gr_run_law.proofs.Recipients.{bit_set, made_to_all}
 
 -- ---- gifts before and behind
 
@@ -394,11 +184,6 @@ older_among deed past (first ∷ rest) (inl is) = inl (heads deed first past res
     heads : (a b : Deed) (xs ys : List Deed) → a ∷ xs ≡ b ∷ ys → a ≡ b
     heads a b xs ys e = cc
 older_among deed past (first ∷ rest) (inr o) = inr (older_among deed past rest o)
-
-pub among_older : (deed : Deed) (h : List Deed) → Among deed h → (past : List Deed) × Older (deed ∷ past) h
-among_older deed [] a = absurd a
-among_older deed (first ∷ past) (inl is) = (past, inl (ap (λ d. d ∷ past) is))
-among_older deed (first ∷ past) (inr a) = let r = among_older deed past a in (r.0, inr r.1)
 
 gift_is : (joiner : ℕ) (d : Deed) (w : What) → gift_in joiner d ≡ Some w → d ≡ Gave joiner w
 gift_is joiner (Call client to number ask reply own) w e = absurd (none_isnt_some w e)

@@ -10,6 +10,8 @@ pub mod Genuine
 pub mod Totals
 pub mod Takings
 pub mod Running
+pub mod Known
+pub mod Recipients
 pub mod Closed
 pub mod Rows
 pub mod Growing

@@ -12,6 +12,9 @@ use Rattle.std.proofs.lemmas.Bool.Decides.{nat_tests}
 use Rattle.gr_history.specs.declared.deed.Deed.{Deed}
 use Rattle.gr_law.specs.Grids.{Among, Older}
 
+pub true_false : true ≡ false → ⊥
+true_false e = cc
+
 pub none_isnt_some : {X : Type 0} (x : X) → None ≡ Some x → ⊥
 none_isnt_some x e = cc
 

@@ -154,7 +154,8 @@ same_rows one two same =
 pub rows_same : (heading : Heading) (lines : List Line) (histories : Histories) (records : List ClientRecord) → IsScript heading lines
     → IsRun heading lines histories records → (one two shard : ℕ) → EndsReady heading lines one → EndsReady heading lines two
     → shard < heading.shards → rows_left (histories one shard) ≡ rows_left (histories two shard)
-rows_same heading lines histories records head r one two shard is_one is_two within = same_rows (histories one shard) (histories two shard) same
+rows_same heading lines histories records head r one two shard is_one is_two within =
+    same_rows (histories one shard) (histories two shard) same
   where
     -- what a member took in the others took in
     also : (member other : ℕ) → EndsReady heading lines other → (key : List ℕ)

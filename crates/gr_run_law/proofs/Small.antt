@@ -1,12 +1,18 @@
 -- Threads leave the small run.
 use Rattle.std.proofs.Common.{◌≡◌, ℕ, zero, suc, ◌<◌, ◌≤◌, ◌⊎◌, List, [], ◌∷◌, refl, arith, inl, inr, Option, Some, map, reverse, flat_map}
-use Rattle.std.proofs.Common.{ne_eqb}
+use Rattle.std.proofs.Common.{length, sym, ap, subst}
+use Rattle.std.proofs.Common.{ne_eqb, eqb-true, ◌==◌, Bool, true, false, if◌then◌else◌}
 use Rattle.std.specs.List.{filter_map}
+use native.Mathlib.Decide.{ℕ_discrete}
+use mathlib.Core.Logic.{dite}
 use Rattle.gr_value.specs.Shard.{shard_of}
 use Rattle.gr_value.specs.declared.value.Field.{Field}
 use Rattle.gr_stamp.specs.declared.change.Change.{Change}
 use Rattle.gr_vector.specs.declared.report.Report.{Report}
 use Rattle.gr_turn.specs.Views.{times}
+use Rattle.gr_history.specs.declared.deed.Deed.{Deed}
+use Rattle.gr_history.specs.declared.image.What.{What}
+use Rattle.gr_history.specs.declared.image.What.TheVariants as what
 use Rattle.gr_history.specs.declared.ask.Ask.{Ask}
 use Rattle.gr_history.specs.declared.reply.Reply.{Reply}
 use Rattle.gr_history.specs.declared.query_ask.QueryAsk.{QueryAsk}
@@ -29,7 +35,7 @@ use Rattle.gr_run_law.specs.Shares.{Owner, Client, Thread, Giver, AreShared, Sta
 use Rattle.gr_run_law.specs.Runs.{grid_from}
 use Rattle.gr_run_law.specs.Threads.{AreLeftByThreads, HeardOf, Merged, GotFrom, IsWrittenBy, IsSession, IsThread, IsMailed, LooksFit}
 use Rattle.gr_run_law.specs.Threads.{IsLook, IsReadyBefore, work_at, duty_at, got_from, round_of, client_place, member_place}
-use Rattle.gr_run_law.specs.Small.{three, small_lines, image_0, image_1, small_histories, small_served, small_owned, small_places}
+use Rattle.gr_run_law.specs.Small.{only, three, small_lines, image_0, image_1, small_histories, small_served, small_owned, small_places}
 use Rattle.gr_run_law.specs.Small.{small_works, small_taken}
 
 -- two facts as one
@@ -63,58 +69,45 @@ abbrev StandsAt : ℕ → ℕ → Owner → Type 0
 StandsAt member shard owner =
     Stands (reverse (small_histories member shard)) 0 (small_places member shard owner) (small_owned member shard owner)
 
+-- what is only one owner's stands for each
+stands_only : (list : List Deed) (number : ℕ) (ps : List ℕ) (ds : List Deed) → Stands list 0 ps ds → (own : ℕ)
+    → Stands list 0 (only number ps own) (only number ds own)
+stands_only list number ps ds h own = at_test (own == number)
+  where
+    at_test : (b : Bool) → Stands list 0 (if b then ps else []) (if b then ds else [])
+    at_test true = h
+    at_test false = (let k : 0 ≤ length list = omega arith in k)
+
 first_stands_0 : (owner : Owner) → StandsAt 1 0 owner
-first_stands_0 (Client zero) = omega arith
-first_stands_0 (Client (suc zero)) = (omega arith, refl, omega arith)
-first_stands_0 (Client (suc (suc n))) = omega arith
+first_stands_0 (Client client) = stands_only (reverse (small_histories 1 0)) 1 _ _ (omega arith, refl, omega arith) client
 first_stands_0 Thread = (omega arith, refl, (omega arith, refl, (omega arith, refl, omega arith)))
-first_stands_0 (Giver zero) = omega arith
-first_stands_0 (Giver (suc zero)) = omega arith
-first_stands_0 (Giver (suc (suc zero))) = omega arith
-first_stands_0 (Giver (suc (suc (suc zero)))) = (omega arith, refl, omega arith)
-first_stands_0 (Giver (suc (suc (suc (suc n))))) = omega arith
+first_stands_0 (Giver joiner) = stands_only (reverse (small_histories 1 0)) 3 _ _ (omega arith, refl, omega arith) joiner
 
 first_stands_1 : (owner : Owner) → StandsAt 1 1 owner
-first_stands_1 (Client zero) = omega arith
-first_stands_1 (Client (suc zero)) = (omega arith, refl, (omega arith, refl, omega arith))
-first_stands_1 (Client (suc (suc n))) = omega arith
+first_stands_1 (Client client) =
+    stands_only (reverse (small_histories 1 1)) 1 _ _ (omega arith, refl, (omega arith, refl, omega arith)) client
 first_stands_1 Thread = (omega arith, refl, (omega arith, refl, omega arith))
-first_stands_1 (Giver zero) = omega arith
-first_stands_1 (Giver (suc zero)) = omega arith
-first_stands_1 (Giver (suc (suc zero))) = omega arith
-first_stands_1 (Giver (suc (suc (suc zero)))) = (omega arith, refl, omega arith)
-first_stands_1 (Giver (suc (suc (suc (suc n))))) = omega arith
+first_stands_1 (Giver joiner) = stands_only (reverse (small_histories 1 1)) 3 _ _ (omega arith, refl, omega arith) joiner
 
 second_stands_0 : (owner : Owner) → StandsAt 2 0 owner
-second_stands_0 (Client number) = omega arith
+second_stands_0 (Client client) = omega arith
 second_stands_0 Thread = (omega arith, refl, omega arith)
-second_stands_0 (Giver zero) = omega arith
-second_stands_0 (Giver (suc zero)) = omega arith
-second_stands_0 (Giver (suc (suc zero))) = omega arith
-second_stands_0 (Giver (suc (suc (suc zero)))) = (omega arith, refl, omega arith)
-second_stands_0 (Giver (suc (suc (suc (suc n))))) = omega arith
+second_stands_0 (Giver joiner) = stands_only (reverse (small_histories 2 0)) 3 _ _ (omega arith, refl, omega arith) joiner
 
 second_stands_1 : (owner : Owner) → StandsAt 2 1 owner
-second_stands_1 (Client number) = omega arith
+second_stands_1 (Client client) = omega arith
 second_stands_1 Thread = (omega arith, refl, (omega arith, refl, (omega arith, refl, omega arith)))
-second_stands_1 (Giver zero) = omega arith
-second_stands_1 (Giver (suc zero)) = omega arith
-second_stands_1 (Giver (suc (suc zero))) = omega arith
-second_stands_1 (Giver (suc (suc (suc zero)))) = (omega arith, refl, omega arith)
-second_stands_1 (Giver (suc (suc (suc (suc n))))) = omega arith
+second_stands_1 (Giver joiner) = stands_only (reverse (small_histories 2 1)) 3 _ _ (omega arith, refl, omega arith) joiner
 
 third_stands_0 : (owner : Owner) → StandsAt 3 0 owner
-third_stands_0 (Client number) = omega arith
+third_stands_0 (Client client) = omega arith
 third_stands_0 Thread = (omega arith, refl, (omega arith, refl, omega arith))
-third_stands_0 (Giver number) = omega arith
+third_stands_0 (Giver joiner) = omega arith
 
 third_stands_1 : (owner : Owner) → StandsAt 3 1 owner
-third_stands_1 (Client zero) = omega arith
-third_stands_1 (Client (suc zero)) = omega arith
-third_stands_1 (Client (suc (suc zero))) = (omega arith, refl, omega arith)
-third_stands_1 (Client (suc (suc (suc n)))) = omega arith
+third_stands_1 (Client client) = stands_only (reverse (small_histories 3 1)) 2 _ _ (omega arith, refl, omega arith) client
 third_stands_1 Thread = (omega arith, refl, (omega arith, refl, (omega arith, refl, omega arith)))
-third_stands_1 (Giver number) = omega arith
+third_stands_1 (Giver joiner) = omega arith
 
 abbrev OwnedAt : ℕ → ℕ → ℕ → Type 0
 OwnedAt member shard p = (owner : Owner) × (0 < times p (small_places member shard owner))
@@ -171,86 +164,47 @@ small_shared member shard is within = at_three (λ m. SharedAt m shard)
     (at_shards (SharedAt 3) (record { stands = third_stands_0; each = third_each_0 })
     (record { stands = third_stands_1; each = third_each_1 }) shard within) member is
 
-abbrev ClientAt : ℕ → ℕ → ℕ → Type 0
-ClientAt member shard client = (IsStated client three × (member ≡ home_of three client)) ⊎ (small_owned member shard (Client client) ≡ [])
+-- who is a client at the member
+client_only : (member number : ℕ) (ds : List Deed) → IsStated number three → member ≡ home_of three number → (own : ℕ)
+    → (IsStated own three × (member ≡ home_of three own)) ⊎ (only number ds own ≡ [])
+client_only member number ds stated home own = at_test (own == number) refl
+  where
+    at_test : (b : Bool) → (own == number) ≡ b → (IsStated own three × (member ≡ home_of three own)) ⊎ ((if b then ds else []) ≡ [])
+    at_test true e =
+        inl (subst (λ c. IsStated c three × (member ≡ home_of three c)) (sym (eqb-true own number e)) (stated, home))
+    at_test false e = inr refl
 
-first_clients_0 : (client : ℕ) → ClientAt 1 0 client
-first_clients_0 zero = inr refl
-first_clients_0 (suc zero) = inl ((omega arith, omega arith), refl)
-first_clients_0 (suc (suc n)) = inr refl
+first_client : (ds : List Deed) (own : ℕ) → (IsStated own three × (1 ≡ home_of three own)) ⊎ (only 1 ds own ≡ [])
+first_client ds = client_only 1 1 ds (omega arith, omega arith) refl
 
-first_clients_1 : (client : ℕ) → ClientAt 1 1 client
-first_clients_1 zero = inr refl
-first_clients_1 (suc zero) = inl ((omega arith, omega arith), refl)
-first_clients_1 (suc (suc n)) = inr refl
+third_client : (ds : List Deed) (own : ℕ) → (IsStated own three × (3 ≡ home_of three own)) ⊎ (only 2 ds own ≡ [])
+third_client ds = client_only 3 2 ds (omega arith, omega arith) refl
 
-third_clients_1 : (client : ℕ) → ClientAt 3 1 client
-third_clients_1 zero = inr refl
-third_clients_1 (suc zero) = inr refl
-third_clients_1 (suc (suc zero)) = inl ((omega arith, omega arith), refl)
-third_clients_1 (suc (suc (suc n))) = inr refl
+-- who is given something: the third, and nobody else
+gives_only : (member : ℕ) (gave : What) → filter_map (gift_due member 3) small_lines ≡ gave ∷ [] → (joiner : ℕ)
+    → only 3 (Gave 3 gave ∷ []) joiner ≡ map (λ what. Gave joiner what) (filter_map (gift_due member joiner) small_lines)
+gives_only member gave due joiner = dite (ℕ_discrete joiner 3)
+    (λ (e : joiner ≡ 3). subst
+    (λ j. only 3 (Gave 3 gave ∷ []) j ≡ map (λ what. Gave j what) (filter_map (gift_due member j) small_lines)) (sym e)
+    (sym (ap (map (λ what. Gave 3 what)) due)))
+    (λ ne. rw (ne_eqb joiner 3 ne, ne_eqb 3 joiner (λ e. ne (sym e))) refl)
 
-abbrev GivesAt : ℕ → ℕ → ℕ → Type 0
-GivesAt member shard joiner =
-    small_owned member shard (Giver joiner) ≡ map (λ what. Gave joiner what) (filter_map (gift_due member joiner) small_lines)
-
--- Nobody is given anything but the third.
-given_none : (member joiner : ℕ) → 4 ≤ joiner → [] ≡ map (λ what. Gave joiner what) (filter_map (gift_due member joiner) small_lines)
-given_none member joiner high = rw (ne_eqb 3 joiner (λ e. absurd (omega arith))) refl
-
-first_gives_0 : (joiner : ℕ) → GivesAt 1 0 joiner
-first_gives_0 zero = refl
-first_gives_0 (suc zero) = refl
-first_gives_0 (suc (suc zero)) = refl
-first_gives_0 (suc (suc (suc zero))) = refl
-first_gives_0 (suc (suc (suc (suc n)))) = given_none 1 (suc (suc (suc (suc n)))) (omega arith)
-
-first_gives_1 : (joiner : ℕ) → GivesAt 1 1 joiner
-first_gives_1 zero = refl
-first_gives_1 (suc zero) = refl
-first_gives_1 (suc (suc zero)) = refl
-first_gives_1 (suc (suc (suc zero))) = refl
-first_gives_1 (suc (suc (suc (suc n)))) = given_none 1 (suc (suc (suc (suc n)))) (omega arith)
-
-second_gives_0 : (joiner : ℕ) → GivesAt 2 0 joiner
-second_gives_0 zero = refl
-second_gives_0 (suc zero) = refl
-second_gives_0 (suc (suc zero)) = refl
-second_gives_0 (suc (suc (suc zero))) = refl
-second_gives_0 (suc (suc (suc (suc n)))) = given_none 2 (suc (suc (suc (suc n)))) (omega arith)
-
-second_gives_1 : (joiner : ℕ) → GivesAt 2 1 joiner
-second_gives_1 zero = refl
-second_gives_1 (suc zero) = refl
-second_gives_1 (suc (suc zero)) = refl
-second_gives_1 (suc (suc (suc zero))) = refl
-second_gives_1 (suc (suc (suc (suc n)))) = given_none 2 (suc (suc (suc (suc n)))) (omega arith)
-
-third_gives_0 : (joiner : ℕ) → GivesAt 3 0 joiner
-third_gives_0 zero = refl
-third_gives_0 (suc zero) = refl
-third_gives_0 (suc (suc zero)) = refl
-third_gives_0 (suc (suc (suc zero))) = refl
-third_gives_0 (suc (suc (suc (suc n)))) = given_none 3 (suc (suc (suc (suc n)))) (omega arith)
-
-third_gives_1 : (joiner : ℕ) → GivesAt 3 1 joiner
-third_gives_1 zero = refl
-third_gives_1 (suc zero) = refl
-third_gives_1 (suc (suc zero)) = refl
-third_gives_1 (suc (suc (suc zero))) = refl
-third_gives_1 (suc (suc (suc (suc n)))) = given_none 3 (suc (suc (suc (suc n)))) (omega arith)
+third_gives : (joiner : ℕ) → [] ≡ map (λ what. Gave joiner what) (filter_map (gift_due 3 joiner) small_lines)
+third_gives joiner = dite (ℕ_discrete joiner 3)
+    (λ (e : joiner ≡ 3). subst (λ j. [] ≡ map (λ what. Gave j what) (filter_map (gift_due 3 j) small_lines)) (sym e) refl)
+    (λ ne. rw (ne_eqb 3 joiner (λ e. ne (sym e))) refl)
 
 abbrev WrittenAt : ℕ → ℕ → Type 0
 WrittenAt member shard = IsWrittenBy three small_lines member (small_owned member shard)
 
 small_written : (member shard : ℕ) → IsMember three member → shard < 2 → WrittenAt member shard
 small_written member shard is within = at_three (λ m. WrittenAt m shard)
-    (at_shards (WrittenAt 1) (record { clients = first_clients_0; givers = first_gives_0 })
-    (record { clients = first_clients_1; givers = first_gives_1 }) shard within)
-    (at_shards (WrittenAt 2) (record { clients = λ client. inr refl; givers = second_gives_0 })
-    (record { clients = λ client. inr refl; givers = second_gives_1 }) shard within)
-    (at_shards (WrittenAt 3) (record { clients = λ client. inr refl; givers = third_gives_0 })
-    (record { clients = third_clients_1; givers = third_gives_1 }) shard within) member is
+    (at_shards (WrittenAt 1) (record { clients = first_client _; givers = gives_only 1 what.Own refl })
+    (record { clients = first_client _; givers = gives_only 1 what.Own refl }) shard within)
+    (at_shards (WrittenAt 2) (record { clients = λ client. inr refl; givers = gives_only 2 what.Image refl })
+    (record { clients = λ client. inr refl; givers = gives_only 2 what.Image refl }) shard within)
+    (at_shards (WrittenAt 3) (record { clients = λ client. inr refl; givers = third_gives })
+    (record { clients = third_client _; givers = third_gives }) shard within) member is
 
 -- ---- histories
 

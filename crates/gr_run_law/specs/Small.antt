@@ -2,7 +2,7 @@
 -- member's client puts, opens a query and peeks, and the member sweeps. The second takes the put in, twice by the trouble
 -- plan, and reports. The third merges the second's images, takes in what the first gave it, and then its client gets.
 -- Histories are listed the newest deed first, all else in order.
-use Rattle.std.specs.Prelude.{ℕ, zero, suc, List, [], ◌∷◌, Some, None, codes}
+use Rattle.std.specs.Prelude.{ℕ, zero, suc, ◌==◌, List, [], ◌∷◌, Some, None, codes, if◌then◌else◌}
 use Rattle.gr_vector.specs.declared.report.Report.{Report}
 use Rattle.gr_history.specs.QueryRows.{all_rows, query_name, row}
 use Rattle.gr_history.specs.declared.ask.Ask.TheVariants as ask
@@ -101,49 +101,52 @@ small_works _ = []
 
 -- ---- the deeds of each owner, and their places
 
+-- these, where the number is this one
+abbrev pub only : {A : Type 0} → ℕ → List A → ℕ → List A
+only number all own = if own == number then all else []
+
 abbrev first_owned : ℕ → Owner → List Deed
-first_owned zero (Client (suc zero)) = Asked 1 2 opens rows_0 ∷ []
+first_owned zero (Client client) = only 1 (Asked 1 2 opens rows_0 ∷ []) client
 first_owned zero Thread = Swept 600 [] ∷ Heard report_0 ∷ Heard report_0 ∷ []
-first_owned zero (Giver (suc (suc (suc zero)))) = Gave 3 what.Own ∷ []
-first_owned (suc zero) (Client (suc zero)) = first_put ∷ Asked 1 2 opens rows_1 ∷ []
-first_owned (suc zero) Thread = Swept 600 [] ∷ Heard report_1 ∷ []
-first_owned (suc zero) (Giver (suc (suc (suc zero)))) = Gave 3 what.Own ∷ []
-first_owned _ _ = []
+first_owned zero (Giver joiner) = only 3 (Gave 3 what.Own ∷ []) joiner
+first_owned (suc shard) (Client client) = only 1 (first_put ∷ Asked 1 2 opens rows_1 ∷ []) client
+first_owned (suc shard) Thread = Swept 600 [] ∷ Heard report_1 ∷ []
+first_owned (suc shard) (Giver joiner) = only 3 (Gave 3 what.Own ∷ []) joiner
 
 abbrev first_places : ℕ → Owner → List ℕ
-first_places zero (Client (suc zero)) = 0 ∷ []
+first_places zero (Client client) = only 1 (0 ∷ []) client
 first_places zero Thread = 1 ∷ 2 ∷ 4 ∷ []
-first_places zero (Giver (suc (suc (suc zero)))) = 3 ∷ []
-first_places (suc zero) (Client (suc zero)) = 0 ∷ 1 ∷ []
-first_places (suc zero) Thread = 2 ∷ 4 ∷ []
-first_places (suc zero) (Giver (suc (suc (suc zero)))) = 3 ∷ []
-first_places _ _ = []
+first_places zero (Giver joiner) = only 3 (3 ∷ []) joiner
+first_places (suc shard) (Client client) = only 1 (0 ∷ 1 ∷ []) client
+first_places (suc shard) Thread = 2 ∷ 4 ∷ []
+first_places (suc shard) (Giver joiner) = only 3 (3 ∷ []) joiner
 
 abbrev second_owned : ℕ → Owner → List Deed
+second_owned shard (Client client) = []
 second_owned zero Thread = Reported report_0 ∷ []
-second_owned zero (Giver (suc (suc (suc zero)))) = Gave 3 what.Image ∷ []
-second_owned (suc zero) Thread = Taken (put 1 1 1) verdict.Applied ∷ Reported report_1 ∷ Taken (put 1 1 1) verdict.Repeat ∷ []
-second_owned (suc zero) (Giver (suc (suc (suc zero)))) = Gave 3 what.Image ∷ []
-second_owned _ _ = []
+second_owned (suc shard) Thread = Taken (put 1 1 1) verdict.Applied ∷ Reported report_1 ∷ Taken (put 1 1 1) verdict.Repeat ∷ []
+second_owned shard (Giver joiner) = only 3 (Gave 3 what.Image ∷ []) joiner
 
 abbrev second_places : ℕ → Owner → List ℕ
+second_places shard (Client client) = []
 second_places zero Thread = 0 ∷ []
-second_places zero (Giver (suc (suc (suc zero)))) = 1 ∷ []
-second_places (suc zero) Thread = 0 ∷ 1 ∷ 3 ∷ []
-second_places (suc zero) (Giver (suc (suc (suc zero)))) = 2 ∷ []
-second_places _ _ = []
+second_places (suc shard) Thread = 0 ∷ 1 ∷ 3 ∷ []
+second_places zero (Giver joiner) = only 3 (1 ∷ []) joiner
+second_places (suc shard) (Giver joiner) = only 3 (2 ∷ []) joiner
 
 abbrev third_owned : ℕ → Owner → List Deed
+third_owned zero (Client client) = []
+third_owned (suc shard) (Client client) = only 2 (get ∷ []) client
 third_owned zero Thread = Imaged image_0 ∷ Heard report_0 ∷ []
-third_owned (suc zero) Thread = Imaged image_1 ∷ Taken (put 1 1 1) verdict.Repeat ∷ Heard report_1 ∷ []
-third_owned (suc zero) (Client (suc (suc zero))) = get ∷ []
-third_owned _ _ = []
+third_owned (suc shard) Thread = Imaged image_1 ∷ Taken (put 1 1 1) verdict.Repeat ∷ Heard report_1 ∷ []
+third_owned shard (Giver joiner) = []
 
 abbrev third_places : ℕ → Owner → List ℕ
+third_places zero (Client client) = []
+third_places (suc shard) (Client client) = only 2 (3 ∷ []) client
 third_places zero Thread = 0 ∷ 1 ∷ []
-third_places (suc zero) Thread = 0 ∷ 1 ∷ 2 ∷ []
-third_places (suc zero) (Client (suc (suc zero))) = 3 ∷ []
-third_places _ _ = []
+third_places (suc shard) Thread = 0 ∷ 1 ∷ 2 ∷ []
+third_places shard (Giver joiner) = []
 
 abbrev pub small_owned : ℕ → ℕ → Owner → List Deed
 small_owned (suc zero) = first_owned
