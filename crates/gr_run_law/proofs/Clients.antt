@@ -17,7 +17,8 @@ use Rattle.gr_script.specs.Rules.{Heading, IsHeading, IsWithin, AreWithin, IsMem
 use Rattle.gr_script.specs.Rules.{IsScript}
 use Rattle.gr_script.specs.Steps.{AreNumbered}
 use Rattle.gr_script.proofs.Numbers.{steps_numbered}
-use Rattle.gr_world.specs.Served.{Served, Looked, all_deeds_of, number_in, step_of, IsPeek, Histories, ArePlaced, IsServed}
+use Rattle.gr_world.specs.Grids.{Histories}
+use Rattle.gr_world.specs.Served.{Served, Looked, all_deeds_of, number_in, step_of, IsPeek, ArePlaced, IsServed}
 use Rattle.gr_run_law.specs.Shares.{Stands, Owner, Client, Thread, Giver}
 use Rattle.gr_run_law.specs.Threads.{AreLeftByThreads}
 use Rattle.gr_run_law.proofs.Peeks.{late_of, in_order}

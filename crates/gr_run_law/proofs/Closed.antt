@@ -44,10 +44,11 @@ use Rattle.gr_script.specs.declared.line.Line.{Line}
 use Rattle.gr_script.specs.declared.line.Line.TheVariants as line
 use Rattle.gr_script.specs.Rules.{Heading, IsMember, IsStated, IsScript, home_of}
 use Rattle.gr_script.specs.Steps.{joins_of, is_join_of}
-use Rattle.gr_world.specs.Served.{Served, Called, Queried, Looked, deeds_of, Histories}
+use Rattle.gr_world.specs.Grids.{Histories, grid_from}
+use Rattle.gr_world.specs.Served.{Served, Called, Queried, Looked, deeds_of}
 use Rattle.gr_run_law.specs.Duties.{Reports, Sweeps, Joins, duty_in, duty_of, gift_in, gift_due, given_to, own_where}
 use Rattle.gr_run_law.specs.Plans.{total_to, draws_for, brings_change, changes_posted, posted_by}
-use Rattle.gr_run_law.specs.Runs.{grid_from, IsRun}
+use Rattle.gr_run_law.specs.Runs.{IsRun}
 use Rattle.gr_run_law.specs.Closed.{EndsReady, TakesAll}
 use Rattle.gr_run_law.proofs.Lists.{true_false, count_cons, same_number, none_isnt_some, same_in_some}
 use Rattle.gr_run_law.proofs.Delivering.{map_among}

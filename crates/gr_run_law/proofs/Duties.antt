@@ -16,7 +16,8 @@ use Rattle.gr_law.specs.Grids.{Older}
 use Rattle.gr_script.specs.declared.line.Line.{Line}
 use Rattle.gr_script.specs.Rules.{Heading, IsMember, IsStated, home_of}
 use Rattle.gr_script.specs.Steps.{joins_of}
-use Rattle.gr_world.specs.Served.{Served, all_deeds_of, Histories}
+use Rattle.gr_world.specs.Grids.{Histories}
+use Rattle.gr_world.specs.Served.{Served, all_deeds_of}
 use Rattle.gr_run_law.specs.Shares.{Owner, Client, Thread, Giver}
 use Rattle.gr_run_law.specs.Duties.{Joins, duty_in, gift_in, gift_due, reported_in, is_step}
 use Rattle.gr_run_law.specs.Runs.{DoesDuties, GivesGifts, WaitsForImage, AreRounds}

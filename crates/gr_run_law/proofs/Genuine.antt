@@ -32,10 +32,10 @@ use Rattle.gr_script.specs.Rules.{Heading, IsMember, IsStated, IsScript, home_of
 use Rattle.gr_script.specs.declared.line.Line.TheVariants as line
 use Rattle.gr_script.specs.Steps.{joins_of, is_join_of}
 use Rattle.gr_script.specs.Rules.{AllStand}
-use Rattle.gr_world.specs.Served.{Served, Called, deeds_of, Histories}
+use Rattle.gr_world.specs.Grids.{Histories, grid_from}
+use Rattle.gr_world.specs.Served.{Served, Called, deeds_of}
 use Rattle.gr_run_law.specs.Shares.{Owner, Client, Thread, Giver}
 use Rattle.gr_run_law.specs.Duties.{Duty, Reports, Sweeps, Joins, duty_in, duty_of}
-use Rattle.gr_run_law.specs.Runs.{grid_from}
 use Rattle.gr_run_law.specs.Threads.{AreLeftByThreads, Work, TookIn, HeardOf, ReportedAll, SweptAll, Merged, GotFrom, work_at, deed_if}
 use Rattle.gr_run_law.specs.Threads.{report_deed, sweep_deed, got_from, IsFromMember}
 use Rattle.gr_run_law.proofs.Integrity.{made_key, among_older, made_in_one, flat_among, all_flat_in, given_made, IsOfClient, IsOfMember}

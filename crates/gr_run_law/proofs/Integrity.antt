@@ -37,7 +37,8 @@ use Rattle.gr_post.specs.Mails.{of, is_end}
 use Rattle.gr_post.specs.Plan.{first_number}
 use Rattle.gr_script.specs.declared.line.Line.{Line}
 use Rattle.gr_script.specs.Rules.{Heading, IsMember, IsStated, IsScript}
-use Rattle.gr_world.specs.Served.{Served, Called, Queried, Looked, Histories}
+use Rattle.gr_world.specs.Grids.{Histories}
+use Rattle.gr_world.specs.Served.{Served, Called, Queried, Looked}
 use Rattle.gr_run_law.specs.Duties.{given_to, own_where}
 use Rattle.gr_run_law.specs.Plans.{posted_from, reports_posted, courier_of, others, changes_posted, posted_by}
 use Rattle.gr_run_law.specs.Threads.{AreLeftByThreads, Work, TookIn, HeardOf, ReportedAll, SweptAll, Merged, GotFrom, mail_of, is_for}

@@ -18,7 +18,8 @@ use Rattle.gr_history.specs.declared.deed.Deed.{Deed}
 use Rattle.gr_history.specs.declared.deed.Deed.TheVariants.{Call, Asked, Taken, Gave, Imaged, Reported, Heard, Swept}
 use Rattle.gr_script.specs.declared.line.Line.{Line}
 use Rattle.gr_script.specs.Rules.{Heading, IsMember, IsStated, home_of}
-use Rattle.gr_world.specs.Served.{Served, Called, Queried, Looked, deeds_of, all_deeds_of, Histories}
+use Rattle.gr_world.specs.Grids.{Histories}
+use Rattle.gr_world.specs.Served.{Served, Called, Queried, Looked, deeds_of, all_deeds_of}
 use Rattle.gr_run_law.specs.Shares.{Owner, Client, Thread, Giver}
 use Rattle.gr_run_law.specs.Duties.{gift_due}
 use Rattle.gr_run_law.specs.Threads.{AreLeftByThreads, Work, TookIn, HeardOf, ReportedAll, SweptAll, Merged, GotFrom, work_at, deed_if}

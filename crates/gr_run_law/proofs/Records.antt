@@ -18,6 +18,7 @@ use Rattle.gr_law.proofs.Held.{law_3-holds, law_4-holds, law_5-holds, same_value
 use Rattle.gr_script.specs.declared.line.Line.{Line}
 use Rattle.gr_script.specs.Drill.{IsDrill}
 use Rattle.gr_script.specs.Rules.{Heading, IsMember, IsScript}
+use Rattle.gr_world.specs.Grids.{grid_from}
 use Rattle.gr_world.specs.Histories.{deeds_at, history_at, KeepsLaws}
 use Rattle.gr_world.specs.Numbered.{numbers_from}
 use Rattle.gr_world.specs.Records.{HasRegion, HasRegions, histories_of}
@@ -25,7 +26,7 @@ use Rattle.gr_world.specs.Histories.{IsLawAbiding}
 use Rattle.gr_world.specs.Served.{histories_in}
 use Rattle.gr_report.specs.Same.{rows_by_shard, member_eq, are_equal}
 use Rattle.gr_report.proofs.Sameness.{member_eq_decides}
-use Rattle.gr_run_law.specs.Runs.{IsLawfulRun, grid_from}
+use Rattle.gr_run_law.specs.Runs.{IsLawfulRun}
 use Rattle.gr_run_law.specs.Closed.{EndsReady}
 use Rattle.gr_run_law.proofs.Lists.{all_at, same_number, none_isnt_some, same_in_some}
 use Rattle.gr_run_law.proofs.Rows.{rows_left, rows_same}

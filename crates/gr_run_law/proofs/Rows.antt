@@ -18,8 +18,8 @@ use Rattle.gr_law.proofs.Took.{took_sound}
 use Rattle.gr_law.proofs.Turning.{standing_key}
 use Rattle.gr_script.specs.declared.line.Line.{Line}
 use Rattle.gr_script.specs.Rules.{Heading, IsScript}
-use Rattle.gr_world.specs.Served.{Histories}
-use Rattle.gr_run_law.specs.Runs.{grid_from, IsRun}
+use Rattle.gr_world.specs.Grids.{Histories, grid_from}
+use Rattle.gr_run_law.specs.Runs.{IsRun}
 use Rattle.gr_run_law.specs.Closed.{EndsReady, HasSameRows}
 use Rattle.gr_run_law.proofs.Lists.{none_isnt_some, same_in_some}
 use Rattle.gr_run_law.proofs.Closed.{takes_all}

@@ -5,8 +5,9 @@ use Rattle.gr_history.specs.declared.record.ClientRecord.{ClientRecord}
 use Rattle.gr_history.specs.declared.record.Record.{Record}
 use Rattle.gr_script.specs.declared.line.Line.{Line}
 use Rattle.gr_script.specs.Rules.{Heading, IsScript}
+use Rattle.gr_world.specs.Grids.{Histories}
 use Rattle.gr_world.specs.Numbered.{numbers_from}
-use Rattle.gr_world.specs.Served.{Histories, histories_in, Served, client_of}
+use Rattle.gr_world.specs.Served.{histories_in, Served, client_of}
 use Rattle.gr_run_law.specs.Runs.{IsRun, IsLawfulRun}
 use Rattle.gr_run_law.specs.Threads.{AreLeftByThreads, IsLeftByThreads, round_of}
 use Rattle.gr_run_law.proofs.Clients.{client_served, steps_placed}

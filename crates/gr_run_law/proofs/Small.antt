@@ -27,12 +27,12 @@ use Rattle.gr_law.specs.Integrity.{IsGift}
 use Rattle.gr_post.specs.Mails.{of}
 use Rattle.gr_post.specs.Plan.{delivered}
 use Rattle.gr_script.specs.Rules.{IsHeading, IsMember, IsScript, IsStated, IsWithin, home_of}
+use Rattle.gr_world.specs.Grids.{grid_from}
 use Rattle.gr_world.specs.Rows.{one_key}
 use Rattle.gr_world.specs.Served.{Called, Queried, Looked, all_deeds_of}
 use Rattle.gr_run_law.specs.Duties.{given_to, gift_due, duty_of}
 use Rattle.gr_run_law.specs.Plans.{draws_for, courier_of, reports_posted, changes_posted}
 use Rattle.gr_run_law.specs.Shares.{Owner, Client, Thread, Giver, AreShared, Stands}
-use Rattle.gr_run_law.specs.Runs.{grid_from}
 use Rattle.gr_run_law.specs.Threads.{AreLeftByThreads, HeardOf, Merged, GotFrom, IsWrittenBy, IsSession, IsThread, IsMailed, LooksFit}
 use Rattle.gr_run_law.specs.Threads.{IsLook, IsReadyBefore, work_at, duty_at, got_from, round_of, client_place, member_place}
 use Rattle.gr_run_law.specs.Small.{only, three, small_lines, image_0, image_1, small_histories, small_served, small_owned, small_places}

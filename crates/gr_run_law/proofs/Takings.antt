@@ -20,7 +20,8 @@ use Rattle.gr_post.specs.Laws.{owed}
 use Rattle.gr_post.proofs.Counting.{delivers_each}
 use Rattle.gr_script.specs.declared.line.Line.{Line}
 use Rattle.gr_script.specs.Rules.{Heading, IsMember, IsScript}
-use Rattle.gr_world.specs.Served.{Served, Histories}
+use Rattle.gr_world.specs.Grids.{Histories}
+use Rattle.gr_world.specs.Served.{Served}
 use Rattle.gr_run_law.specs.Duties.{taken_in, heard_in, given_to}
 use Rattle.gr_run_law.specs.Plans.{total_to, courier_of, draws_for, brings_change, brings_report, reports_posted, changes_posted}
 use Rattle.gr_run_law.specs.Runs.{TakesChanges, HearsReports}

@@ -6,8 +6,8 @@ use Rattle.gr_history.specs.declared.image.What.TheVariants as what
 use Rattle.gr_history.specs.declared.verdict.Verdict.TheVariants as verdict
 use Rattle.gr_history.specs.declared.deed.Deed.{Deed}
 use Rattle.gr_history.specs.declared.deed.Deed.TheVariants.{Asked, Taken, Gave, Imaged, Reported, Swept}
+use Rattle.gr_world.specs.Grids.{Histories}
 use Rattle.gr_world.specs.Rows.{put}
-use Rattle.gr_world.specs.Served.{Histories}
 use Rattle.gr_run_law.specs.Small.{opens, rows_0, report_0, report_1, image_0, small_histories}
 
 -- the small run's histories, but for this one

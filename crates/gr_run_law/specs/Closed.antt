@@ -9,8 +9,7 @@ use Rattle.gr_law.specs.Laws.{took}
 use Rattle.gr_script.specs.declared.line.Line.{Line}
 use Rattle.gr_script.specs.Rules.{Heading, IsMember}
 use Rattle.gr_script.specs.Steps.{joins_of}
-use Rattle.gr_world.specs.Served.{Histories}
-use Rattle.gr_run_law.specs.Runs.{grid_from}
+use Rattle.gr_world.specs.Grids.{Histories, grid_from}
 
 -- The member is a founder, or it joins.
 abbrev pub EndsReady : Heading → List Line → ℕ → Type 0

@@ -7,28 +7,18 @@ use Rattle.gr_history.specs.declared.deed.Deed.{Deed}
 use Rattle.gr_history.specs.declared.record.ClientRecord.{ClientRecord}
 use Rattle.gr_history.specs.declared.record.Record.{Record}
 use Rattle.gr_history.specs.Recipients.{has_image}
-use Rattle.gr_law.specs.Grids.{Older, Grid}
+use Rattle.gr_law.specs.Grids.{Older}
 use Rattle.gr_law.specs.Integrity.{IsWhole}
 use Rattle.gr_post.specs.Laws.{owed}
 use Rattle.gr_script.specs.declared.line.Line.{Line}
 use Rattle.gr_script.specs.Rules.{Heading, IsMember}
 use Rattle.gr_script.specs.Steps.{joins_of}
+use Rattle.gr_world.specs.Grids.{Histories, grid_from}
 use Rattle.gr_world.specs.Numbered.{numbers_from}
 use Rattle.gr_world.specs.Records.{HasRegions}
-use Rattle.gr_world.specs.Served.{Histories, histories_in, Served, AreServed}
+use Rattle.gr_world.specs.Served.{histories_in, Served, AreServed}
 use Rattle.gr_run_law.specs.Duties.{duty_in, duty_of, gift_in, gift_due, given_to, taken_in, heard_in, reported_in, is_step}
 use Rattle.gr_run_law.specs.Plans.{changes_posted, reports_posted, total_to, courier_of, draws_for, brings_change, brings_report}
-
--- all members' histories of one shard
-abbrev pub grid_from : Heading → Histories → ℕ → Grid
-grid_from heading histories shard = record {
-  members = heading.members;
-  founders = heading.founders;
-  shard = shard;
-  shards = heading.shards;
-  opening = λ _. heading.floor;
-  history = λ member. histories member shard;
-}
 
 -- ---- the five clauses
 

@@ -27,13 +27,13 @@ use Rattle.gr_post.specs.Plan.{delivered}
 use Rattle.gr_script.specs.declared.line.Line.{Line}
 use Rattle.gr_script.specs.Rules.{Heading, IsMember, IsStated, home_of}
 use Rattle.gr_script.specs.Steps.{steps_of, joins_of}
+use Rattle.gr_world.specs.Grids.{Histories, grid_from}
 use Rattle.gr_world.specs.Numbered.{numbers_from}
 use Rattle.gr_world.specs.Records.{HasRegions}
-use Rattle.gr_world.specs.Served.{Histories, histories_in, Served, Called, Queried, Looked, step_of, all_deeds_of, HasReplies, client_of}
+use Rattle.gr_world.specs.Served.{histories_in, Served, Called, Queried, Looked, step_of, all_deeds_of, HasReplies, client_of}
 use Rattle.gr_run_law.specs.Shares.{Owner, Client, Thread, Giver, AreShared}
 use Rattle.gr_run_law.specs.Duties.{Duty, Reports, Sweeps, Joins, duty_of, gift_due, given_to}
 use Rattle.gr_run_law.specs.Plans.{changes_posted, reports_posted, courier_of, draws_for}
-use Rattle.gr_run_law.specs.Runs.{grid_from}
 
 -- ---- a client's session
 

@@ -13,6 +13,7 @@ ghost use Rattle.gr_law.specs.Grids.{Among, Older};
 ghost use Rattle.gr_script.specs.declared.line.Line.{Line};
 ghost use Rattle.gr_script.specs.Drill.{IsDrill};
 ghost use Rattle.gr_script.specs.Rules.{Heading, IsMember, IsScript};
+ghost use Rattle.gr_world.specs.Grids.{Histories};
 ghost use Rattle.gr_world.specs.Histories.{KeepsLaws};
 ghost use Rattle.gr_world.specs.Numbered.{numbers_from};
 ghost use Rattle.gr_report.specs.Same.{are_equal};
@@ -21,7 +22,7 @@ ghost use Rattle.gr_run_law.specs.Threads.{AreLeftByThreads, IsLeftByThreads, Lo
 ghost use Rattle.gr_run_law.specs.Duties.{gift_in, given_to, own_where};
 ghost use Rattle.gr_run_law.specs.Closed.{HasSameRows, EndsReady, TakesAll};
 ghost use Rattle.gr_run_law.specs.Runs.{AreRounds, DoesDuties, GivesGifts, HearsReports, IsLawfulRun, IsRun, TakesChanges, WaitsForImage};
-ghost use Rattle.gr_world.specs.Served.{Histories, Looked, Served, all_deeds_of, client_of};
+ghost use Rattle.gr_world.specs.Served.{Looked, Served, all_deeds_of, client_of};
 ghost use Rattle.gr_run_law.specs.Shares.{AreShared, AreSharedSoFar, Owner, Stands, with_owner};
 ghost use Rattle.gr_run_law.specs.Small.{small_histories, small_lines, small_served, three};
 
