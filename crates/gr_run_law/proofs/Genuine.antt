@@ -18,6 +18,7 @@ use Rattle.gr_history.specs.Asks.{key_of}
 use Rattle.gr_history.specs.Deeds.{is_of_client}
 use Rattle.gr_history.specs.Lawful.{IsLawful, IsLawfulDeed}
 use Rattle.gr_history.specs.Made.{made}
+use Rattle.gr_history.specs.Room.{bare}
 use Rattle.gr_law.specs.Grids.{Among, Grid, identity}
 use Rattle.gr_law.specs.Integrity.{IsMade, IsGenuine, IsGenuineDeed, IsHeardDeed, AreHeard, HasNoImage, IsImagedOnce, IsWhole}
 use Rattle.gr_law.specs.Integrity.{IsGift}
@@ -43,6 +44,7 @@ use Rattle.gr_run_law.proofs.Integrity.{work_from}
 use Rattle.gr_run_law.proofs.Duties.{duties_done}
 use Rattle.gr_run_law.proofs.Sharing.{entry_at, get_below, owned_stands}
 use Rattle.gr_run_law.proofs.Lists.{count_cons, all_at, reverse_get, same_number, same_in_some}
+use Rattle.gr_run_law.proofs.Delivering.{map_among}
 use Rattle.gr_run_law.proofs.Owners.{client_all, giver_all}
 use Rattle.gr_run_law.proofs.Clients.{client_deeds, home_is_member, key_within}
 
@@ -287,9 +289,10 @@ module _ (heading : Heading) (lines : List Line) (histories : Histories) (served
       at_test true e = (
         (
           tt,
-          subst (λ s. Among (Reported report) (histories report.member s)) (sym (eqb-true shard at e))
+          map_among bare (Reported report) (histories report.member shard)
+              (subst (λ s. Among (Reported report) (histories report.member s)) (sym (eqb-true shard at e))
               (mailed_report (mail.Report at report) at report refl (subst (λ s. s < heading.shards) (eqb-true shard at e) within)
-              (work_from heading lines histories served a head member is (HeardOf at report) (mail.Report at report) among refl refl)),
+              (work_from heading lines histories served a head member is (HeardOf at report) (mail.Report at report) among refl refl))),
         ),
         tt,
       )
