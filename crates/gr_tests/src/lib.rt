@@ -10,6 +10,10 @@ mod pictures;
 #[cfg(test)]
 mod post;
 #[cfg(test)]
+mod registry;
+#[cfg(test)]
+mod shard;
+#[cfg(test)]
 mod sharing;
 #[cfg(test)]
 mod slots;
@@ -17,6 +21,8 @@ mod slots;
 mod stability;
 #[cfg(test)]
 mod stamps;
+#[cfg(test)]
+mod steps;
 #[cfg(test)]
 mod streams;
 #[cfg(test)]

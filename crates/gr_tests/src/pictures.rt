@@ -16,8 +16,14 @@ fn the_line_that_cannot_be_read_is_told(rt: HostRuntime) -> Result<(), Fail> {
         ("histories\nhistory 1 0\nend\n", 4),
         ("histories\nhistory 1 0 1\nend\n", 5),
         ("histories\nhistory 1 0 1\ncall 1.1 get\nend\n", 5),
-        ("histories\nhistory 1 0 1\ntake a put {} 1.2 applied\nend\n", 5),
-        ("histories\nhistory 1 0 1\ntake a put {} 1.2.1 applied\nend\n", 5),
+        (
+            "histories\nhistory 1 0 1\ntake a put {} 1.2 applied\nend\n",
+            5,
+        ),
+        (
+            "histories\nhistory 1 0 1\ntake a put {} 1.2.1 applied\nend\n",
+            5,
+        ),
         ("histories\nhistory 1 0 1\nheard 1 at 0 own 0\nend\n", 5),
         ("histories\nend\nend\n", 5),
     ];

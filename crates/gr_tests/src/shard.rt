@@ -1,8 +1,13 @@
+ghost use Rattle.std.specs.Prelude.{◌≡◌, IfOk};
+ghost use Rattle.gr_value.specs.Shard.{shard_of};
+ghost use Rattle.gr_history.specs.Asks.{key_of};
+
 use gr_history::Ask;
 use gr_shard::{Identity, Shard};
 use gr_slots::Slot;
 use gr_stamp::{Stamp, decide};
-use gr_value::{Copied, Key, Value};
+use gr_value::{Copied, Key, Memory, Value};
+use std::alloc::Global;
 use std::test::Fail;
 
 // The first of two members, at the one shard of its region.
@@ -14,65 +19,66 @@ const FIRST: Identity = Identity {
     shards: 1,
 };
 
-// Over a floor of 3 a put and a removal have the versions 4 and 5. Both go to the second member, whose
-// bit is 2, and a get makes nothing.
-#[test]
-fn calls_make_changes(rt: HostRuntime) -> Result<(), Fail> {
-    let alloc = rt.alloc();
-    let mut shard = Shard::new(alloc, FIRST, 3)?;
-    let key = Key::read(alloc, b"a")?;
-    assert_eq!(rt; key.shard(1), 0);
-    let value = Value::read(alloc, b"{}")?;
-    let put = Ask::Put {
+// What is asked of a key.
+fn put(alloc: Global, key: &Key) -> Result<Ask, Fail>
+    ensures { IfOk result (λ ask. key_of ask ≡ key.now) }
+{
+    Ok(Ask::Put {
         key: key.copy(alloc)?,
-        value,
-    };
-    let destroy = Ask::Destroy {
-        key: key.copy(alloc)?,
-    };
-    let get = Ask::Get {
-        key: key.copy(alloc)?,
-    };
-    let put = shard.call(alloc, 1, 1, &put)?;
-    let destroyed = shard.call(alloc, 1, 2, &destroy)?;
-    let got = shard.call(alloc, 1, 3, &get)?;
-    let made = put.made.expect(&rt, "a put").stamp;
-    assert_eq!(rt;
-        (made.ver(), made.member(), made.rv(), put.to),
-        (4, 1, 1, 2)
-    );
-    let made = destroyed.made.expect(&rt, "a removal").stamp;
-    assert_eq!(rt;
-        (made.ver(), made.member(), made.rv(), destroyed.to),
-        (5, 1, 2, 2)
-    );
-    assert_eq!(rt; (got.made.is_some(), got.to), (false, 0));
-    Ok(())
+        value: Value::read(alloc, b"{}")?,
+    })
 }
 
-// A removal of an absent key makes nothing, and a put has the version 4 and the first number.
+fn destroy(alloc: Global, key: &Key) -> Result<Ask, Memory>
+    ensures { IfOk result (λ ask. key_of ask ≡ key.now) }
+{
+    Ok(Ask::Destroy {
+        key: key.copy(alloc)?,
+    })
+}
+
+// A shard at which the second client removed an absent key, and the first put a value there.
+fn filled(alloc: Global, key: &Key) -> Result<Shard, Fail>
+    requires { shard_of key.now 1 ≡ 0 }
+{
+    let mut shard = Shard::new(alloc, FIRST, 3)?;
+    shard.serve(alloc, 2, 1, destroy(alloc, key)?)?;
+    shard.serve(alloc, 1, 1, put(alloc, key)?)?;
+    Ok(shard)
+}
+
+// The floor, the version of what stands at the key, and what is known of the first member's changes.
+fn stands(shard: &Shard, key: &Key) -> (u64, Option<u64>, bool, bool, u64) {
+    let version = shard.slots().find(key).map(|slot: &Slot| slot.stamp.ver());
+    let vector = shard.vector();
+    (
+        shard.floor(),
+        version,
+        vector.holds(1, 1),
+        vector.holds(1, 2),
+        vector.top(1),
+    )
+}
+
+// How long the history is that is taken out, and the region's rows, tombstones and floor.
+fn left(alloc: Global, shard: &Shard) -> Result<(u64, usize, u64, u64), Memory> {
+    let left = shard.taken_out(alloc)?;
+    Ok((
+        left.history.len(),
+        left.region.rows.len(),
+        left.region.tombstones,
+        left.region.floor,
+    ))
+}
+
+// The removal makes nothing, and the put has the version 4 and the first number.
 #[test]
 fn a_shard_tells_what_stands(rt: HostRuntime) -> Result<(), Fail> {
     let alloc = rt.alloc();
-    let mut shard = Shard::new(alloc, FIRST, 3)?;
     let key = Key::read(alloc, b"a")?;
     assert_eq!(rt; key.shard(1), 0);
-    let put = Ask::Put {
-        key: key.copy(alloc)?,
-        value: Value::read(alloc, b"{}")?,
-    };
-    let destroy = Ask::Destroy {
-        key: key.copy(alloc)?,
-    };
-    shard.serve(alloc, 2, 1, destroy)?;
-    shard.serve(alloc, 1, 1, put)?;
-    let stands = shard.slots().find(&key).map(|slot: &Slot| slot.stamp.ver());
-    assert_eq!(rt; (shard.floor(), stands), (3, Some(4)));
-    let vector = shard.vector();
-    assert_eq!(rt;
-        (vector.holds(1, 1), vector.holds(1, 2), vector.top(1)),
-        (true, false, 1)
-    );
+    let shard = filled(alloc, &key)?;
+    assert!(rt; stands(&shard, &key) == (3, Some(4), true, false, 1));
     let history = shard.history();
     assert_eq!(rt;
         (
@@ -82,14 +88,7 @@ fn a_shard_tells_what_stands(rt: HostRuntime) -> Result<(), Fail> {
         ),
         (1, 1, 0)
     );
-    let left = shard.taken_out(alloc)?;
-    let region = (
-        left.region.rows.len(),
-        left.region.tombstones,
-        left.region.floor,
-    );
-    assert_eq!(rt; (left.history.len(), region), (2, (1, 0, 3)));
-    assert!(rt; left.region.vector.holds(1, 1));
+    assert_eq!(rt; left(alloc, &shard)?, (2, 1, 0, 3));
     Ok(())
 }
 
