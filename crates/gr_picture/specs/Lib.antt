@@ -1,1 +1,3 @@
+pub mod CauseTexts
+pub mod Outcomes
 pub mod Statuses

@@ -2,6 +2,7 @@
 //! leads to each deed from the one that it comes from. Below stands what each member holds at the end.
 #![tactic(auto)]
 
+mod cause;
 mod deed;
 mod drawing;
 mod halt;
@@ -13,7 +14,11 @@ mod pen;
 mod picture;
 mod reading;
 mod rows;
+mod running;
 mod standing;
+mod telling;
 
+pub use cause::Cause;
 pub use drawing::drawn;
 pub use halt::Halt;
+pub use running::program;

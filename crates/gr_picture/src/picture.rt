@@ -1,3 +1,6 @@
+ghost use Rattle.std.specs.Prelude.{IfOk, string_bytes};
+ghost use Rattle.gr_picture.specs.Outcomes.{IsOpened, IsPicture};
+
 use crate::halt::Halt;
 use crate::legend::put_legend;
 use crate::measures::{MARGIN, width_of};
@@ -12,8 +15,19 @@ const HEAD: &str =
 <rect width="100%" height="100%" fill="#fff"/>
 "##;
 
+// The first tag.
+fn opened(alloc: Global, width: usize, height: usize) -> Result<String, Halt>
+    ensures { IfOk result (λ tag. IsOpened (string_bytes tag)) }
+{
+    Ok(format!(in alloc;
+        "<svg xmlns=\"http://www.w3.org/2000/svg\" width=\"{width}\" height=\"{height}\" viewBox=\"0 0 {width} {height}\" role=\"img\" font-family=\"DejaVu Sans Mono, Menlo, Consolas, monospace\" font-size=\"11\">\n"
+    )?)
+}
+
 /// The picture of a report whose deeds have their columns.
-pub fn picture_of(alloc: Global, report: &Report) -> Result<String, Halt> {
+pub fn picture_of(alloc: Global, report: &Report) -> Result<String, Halt>
+    ensures { IfOk result (λ picture. IsPicture (string_bytes picture)) }
+{
     let histories = report.histories.as_slice();
     let members = report.members.as_slice();
     let width = width_of(histories);
@@ -24,9 +38,7 @@ pub fn picture_of(alloc: Global, report: &Report) -> Result<String, Halt> {
     let legend = put_legend(&mut pen, alloc, end, width, members)?;
     let height = legend.saturating_add(MARGIN);
     let count = members.len();
-    let mut out = format!(in alloc;
-        "<svg xmlns=\"http://www.w3.org/2000/svg\" width=\"{width}\" height=\"{height}\" viewBox=\"0 0 {width} {height}\" role=\"img\" font-family=\"DejaVu Sans Mono, Menlo, Consolas, monospace\" font-size=\"11\">\n"
-    )?;
+    let mut out = opened(alloc, width, height)?;
     out.push_str(format!(in alloc;
         "<title>What happened at {count} members, and what stands there at the end</title>\n"
     )?.as_str())?;
