@@ -1,3 +1,4 @@
 pub mod CauseTexts
+pub mod Escapes
 pub mod Outcomes
 pub mod Statuses

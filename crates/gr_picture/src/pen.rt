@@ -1,3 +1,6 @@
+ghost use Rattle.std.specs.Prelude.{◌≡◌, ◌++◌, OnOk, string_bytes};
+ghost use Rattle.gr_picture.specs.Escapes.{PutsText, escaped, escaped_letter};
+
 use crate::deed::{Look, Note};
 use crate::halt::Halt;
 use crate::letters::shortened;
@@ -43,13 +46,17 @@ impl Pen {
         self.out.as_str()
     }
 
-    pub fn put(&mut self, text: &str) -> Result<(), Halt> {
+    pub fn put(&mut self, text: &str) -> Result<(), Halt>
+        ensures { OnOk result (string_bytes self.new.out ≡ string_bytes self.old.out ++ text.now) }
+    {
         self.out.push_str(text)?;
         Ok(())
     }
 
     // Puts a letter last, as it is written inside an element. What XML can't have is replaced.
-    fn put_letter(&mut self, letter: char) -> Result<(), Halt> {
+    fn put_letter(&mut self, letter: char) -> Result<(), Halt>
+        ensures { OnOk result (string_bytes self.new.out ≡ string_bytes self.old.out ++ escaped_letter letter) }
+    {
         match letter {
             '&' => self.out.push_str("&amp;")?,
             '<' => self.out.push_str("&lt;")?,
@@ -61,18 +68,22 @@ impl Pen {
     }
 
     /// Puts a text last, as it is written inside an element.
-    pub fn put_text(&mut self, text: &str) -> Result<(), Halt> {
+    pub fn put_text(&mut self, text: &str) -> Result<(), Halt>
+        ensures { OnOk result (string_bytes self.new.out ≡ string_bytes self.old.out ++ escaped text.now) }
+    {
         for letter in text.chars() {
             self.put_letter(letter)?;
         }
         Ok(())
     }
 
-    fn put_shortened(&mut self, text: &str, most: usize) -> Result<(), Halt> {
+    fn put_shortened(&mut self, text: &str, most: usize) -> Result<(), Halt>
+        ensures { OnOk result (PutsText (string_bytes self.old.out) (string_bytes self.new.out)) }
+    {
         let (front, more) = shortened(text, most);
         self.put_text(front)?;
         if more {
-            self.put("...")?;
+            self.put_text("...")?;
         }
         Ok(())
     }
