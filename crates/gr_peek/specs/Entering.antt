@@ -1,5 +1,5 @@
--- What an entering leaves of an eye.
-use Rattle.std.specs.Prelude.{◌≡◌, ◌≤◌, [], Result, Ok, Err}
+-- What an entering, or a note, leaves of an eye.
+use Rattle.std.specs.Prelude.{◌≡◌, ◌≤◌, List, [], length, nat_le, if◌then◌else◌, Result, Ok, Err}
 use mathlib.Core.List.{IsPrefix}
 use Rattle.logbook.specs.Pages.{Book}
 use Rattle.gr_peek.specs.declared.eye.PeekEnd.{PeekEnd}
@@ -31,6 +31,10 @@ pub record Follows (old new : Watching) : Type 0 where
   pub knew : IsPrefix old.known new.known
   pub learnt : IsPrefix old.told new.told
   pub never_falls : old.denied ≤ new.denied
+
+-- what an eye was told, once it learns a note: the longer of both
+abbrev pub longer : {A : Type 0} → List A → List A → List A
+longer told noted = if nat_le (length noted) (length told) then told else noted
 
 -- an eye as it is made
 abbrev pub new_eye : Book → Watching

@@ -3,7 +3,7 @@ ghost use mathlib.Core.List.{IsPrefix};
 ghost use Rattle.left_right.specs.Sides.{view};
 ghost use Rattle.gr_peek.specs.Publications.{present_after};
 ghost use Rattle.gr_peek.specs.Rule.{IsShown};
-ghost use Rattle.gr_peek.specs.Entering.{IsEntered, Follows};
+ghost use Rattle.gr_peek.specs.Entering.{IsEntered, Follows, longer};
 
 use super::{Eye, PeekEnd, Seen, StoreReader};
 use crate::rule::{See, Shows};
@@ -41,7 +41,7 @@ impl Eye {
     /// Keeps a note. What the eye knows stays as it is, until it enters again.
     pub fn learn(&mut self, told: &Told)
         requires { told.now.copy ≡ self.old.copy }
-        ensures rest { self.new ≡ record self.old { told = self.new.told } }
+        ensures rest { self.new ≡ record self.old { told = longer self.old.told told.now.publications } }
         ensures before { IsPrefix self.old.told self.new.told }
         ensures learnt { IsPrefix told.now.publications self.new.told }
     {
