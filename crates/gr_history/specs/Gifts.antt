@@ -2,7 +2,7 @@
 use Rattle.std.specs.Prelude.{◌≡◌, ℕ, List, length, reverse}
 use Rattle.gr_stamp.specs.declared.change.Change.{Change}
 use Rattle.gr_vector.specs.declared.report.Report.{Report}
-use Rattle.gr_vector.specs.Ids.{top}
+use Rattle.gr_vector.specs.Ids.{Ids, top}
 use Rattle.gr_history.specs.declared.deed.Deed.{Deed}
 use Rattle.gr_history.specs.declared.image.Gift.{Gift}
 use Rattle.gr_history.specs.declared.image.Gift.TheVariants as gift
@@ -14,20 +14,38 @@ use Rattle.gr_history.specs.Made.{made}
 use Rattle.gr_history.specs.Floor.{floor}
 use Rattle.gr_history.specs.Regions.{all_standing}
 
--- a report tells the length of the history, the member's last region version, and all ids that are known
-pub record IsReportOf (me : ℕ) (past : List Deed) (report : Report) : Type 0 where
-  pub member_is : report.member ≡ me
-  pub at_is : report.at ≡ length past
-  pub own_is : report.own ≡ top me (ids past)
-  pub vector_is : report.vector.ids ≡ known past
+-- a vector of all that a history knows, with no room to spare, as copies have it
+abbrev pub vector_of : List Deed → Ids
+vector_of past = record { ids = known past; spare = 0 }
 
--- an image has what stands, all ids that are known, and the floor
+-- What a member reports of its history: its length, the member's last region version, and all ids that are known.
+abbrev pub report_of : ℕ → List Deed → Report
+report_of me past = record { member = me; at = length past; own = top me (ids past); vector = vector_of past }
+
+-- the same, but for room to spare
+pub record IsReportOf (me : ℕ) (past : List Deed) (report : Report) : Type 0 where
+  pub member_is : report.member ≡ (report_of me past).member
+  pub at_is : report.at ≡ (report_of me past).at
+  pub own_is : report.own ≡ (report_of me past).own
+  pub vector_is : report.vector.ids ≡ (report_of me past).vector.ids
+
+-- The image that a member gives: what stands, all ids that are known, and the floor.
+abbrev pub image_of : ℕ → ℕ → List Deed → Image
+image_of giver opening past = record {
+  from = giver;
+  at = length past;
+  rows = all_standing past;
+  vector = vector_of past;
+  floor = floor opening past;
+}
+
+-- the same, but for room to spare
 pub record IsImageOf (giver opening : ℕ) (past : List Deed) (image : Image) : Type 0 where
-  pub giver_is : image.from ≡ giver
-  pub at_is : image.at ≡ length past
-  pub rows_are : image.rows ≡ all_standing past
-  pub vector_is : image.vector.ids ≡ known past
-  pub floor_is : image.floor ≡ floor opening past
+  pub giver_is : image.from ≡ (image_of giver opening past).from
+  pub at_is : image.at ≡ (image_of giver opening past).at
+  pub rows_are : image.rows ≡ (image_of giver opening past).rows
+  pub vector_is : image.vector.ids ≡ (image_of giver opening past).vector.ids
+  pub floor_is : image.floor ≡ (image_of giver opening past).floor
 
 -- a member's own changes, in the order in which it made them
 abbrev pub own_changes : List Deed → List Change

@@ -1,13 +1,17 @@
 -- What was made in a history.
-use Rattle.std.specs.Prelude.{List, [], ◌∷◌, ◌++◌}
+use Rattle.std.specs.Prelude.{List, [], ◌∷◌, ◌++◌, Option, None}
 use Rattle.std.specs.Option.{option_to_list}
 use Rattle.gr_stamp.specs.declared.change.Change.{Change}
 use Rattle.gr_history.specs.declared.deed.Deed.{Deed}
 use Rattle.gr_history.specs.declared.deed.Deed.TheVariants.{Call}
 
+-- what a deed made
+abbrev pub made_in : Deed → Option Change
+made_in (Call client to seq ask reply made) = made
+made_in _ = None
+
 abbrev pub made_at : Deed → List Change
-made_at (Call client to seq ask reply made) = option_to_list made
-made_at _ = []
+made_at deed = option_to_list (made_in deed)
 
 -- the changes that the history's own calls made, the newest first
 abbrev pub made : List Deed → List Change

@@ -1,36 +1,29 @@
 -- Which members are ready, and whom a change goes to.
-use Rattle.std.specs.Prelude.{ℕ, zero, suc, ◌+◌, ◌^◌, ◌≤◌, ◌<◌, List, [], ◌∷◌, Bool, true, false, ◌&&◌, ◌||◌, ◌==◌, not, nat_le, if◌then◌else◌}
+use Rattle.std.specs.Prelude.{ℕ, zero, suc, ◌+◌, ◌^◌, ◌≤◌, ◌<◌, List, Bool, true, false, ◌&&◌, ◌||◌, ◌==◌, not, nat_le, if◌then◌else◌}
+use Rattle.std.specs.List.{list_any}
 use Rattle.gr_history.specs.declared.identity.Identity.{Identity}
 use Rattle.gr_history.specs.declared.deed.Deed.{Deed}
 use Rattle.gr_history.specs.declared.deed.Deed.TheVariants.{Call, Asked, Taken, Gave, Imaged, Reported, Heard, Swept}
 
+abbrev pub is_image : Deed → Bool
+is_image (Imaged image) = true
+is_image _ = false
+
 -- whether an image was merged
 abbrev pub has_image : List Deed → Bool
-has_image [] = false
-has_image (Call client to seq ask reply made ∷ past) = has_image past
-has_image (Asked client seq ask reply ∷ past) = has_image past
-has_image (Taken change verdict ∷ past) = has_image past
-has_image (Gave to what ∷ past) = has_image past
-has_image (Imaged image ∷ past) = true
-has_image (Reported report ∷ past) = has_image past
-has_image (Heard report ∷ past) = has_image past
-has_image (Swept moment expired ∷ past) = has_image past
+has_image past = list_any is_image past
 
 -- Founders are ready from the start, others once they have merged an image.
 abbrev pub is_ready : Identity → List Deed → Bool
 is_ready id past = nat_le id.member id.founders || has_image past
 
+abbrev pub is_gift_to : ℕ → Deed → Bool
+is_gift_to member (Gave to what) = to == member
+is_gift_to member _ = false
+
 -- whether the member was given something
 abbrev pub gave_to : ℕ → List Deed → Bool
-gave_to member [] = false
-gave_to member (Call client to seq ask reply made ∷ past) = gave_to member past
-gave_to member (Asked client seq ask reply ∷ past) = gave_to member past
-gave_to member (Taken change verdict ∷ past) = gave_to member past
-gave_to member (Gave to what ∷ past) = to == member || gave_to member past
-gave_to member (Imaged image ∷ past) = gave_to member past
-gave_to member (Reported report ∷ past) = gave_to member past
-gave_to member (Heard report ∷ past) = gave_to member past
-gave_to member (Swept moment expired ∷ past) = gave_to member past
+gave_to member past = list_any (is_gift_to member) past
 
 -- A change goes to the founders and to the members that were given something, but not to its maker.
 abbrev pub is_recipient : Identity → List Deed → ℕ → Bool

@@ -2,6 +2,7 @@
 use Rattle.std.specs.Prelude.{ℕ, zero, suc, ◌-◌, List, [], ◌∷◌, Bool, true, false, ◌&&◌, ◌||◌, ◌==◌, nat_le, nat_lt, max, filter, Option}
 use Rattle.std.specs.Prelude.{Some, None, if◌then◌else◌}
 use Rattle.gr_stamp.specs.declared.change.Change.{Change}
+use Rattle.gr_stamp.specs.Expiry.{timeout}
 use Rattle.gr_vector.specs.declared.report.Report.{Report}
 use Rattle.gr_vector.specs.Ids.{Id, has_id, covers}
 use Rattle.gr_history.specs.declared.identity.Identity.{Identity}
@@ -44,10 +45,6 @@ is_stable_upto me (suc n) tombstone past =
 
 abbrev pub is_stable : Identity → Id → List Deed → Bool
 is_stable id tombstone past = is_stable_upto id.member id.members tombstone past
-
--- how many seconds after it came in a tombstone has timed out
-abbrev pub timeout : ℕ
-timeout = 600
 
 -- whether what stands, which came in at a time, is a tombstone that has timed out and is stable
 abbrev pub is_due_from : Identity → ℕ → Option Change → ℕ → List Deed → Bool

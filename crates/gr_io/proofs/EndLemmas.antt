@@ -8,7 +8,7 @@ use Rattle.std.proofs.lemmas.List.{length-append}
 use Rattle.gr_io.specs.declared.end.ReadEnd.{ReadEnd}
 use Rattle.gr_io.specs.declared.end.ReadEnd.TheVariants.{Fault, TooLarge, Memory}
 use Rattle.gr_io.specs.Ends.{AppendsPart, EndsFor, StopsFor}
-use Rattle.gr_io.specs.Faults.{Rose}
+use Rattle.gr_value.specs.Counts.{Rose}
 
 -- a count that rose in a later part of a call rose in the call
 pub Rose-since : (had mid has : ℕ) → had ≤ mid → Rose mid has → Rose had has

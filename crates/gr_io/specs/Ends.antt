@@ -1,9 +1,9 @@
 -- How reading and writing of a whole end.
 use Rattle.std.specs.Prelude.{◌≡◌, ◌+◌, ◌≤◌, ◌<◌, ℕ, Option, List, length, take, vec_len}
 use Rattle.std.specs.Io.KnownBytes.{Appends, Consumes}
-use Rattle.gr_io.specs.Faults.{Rose}
 use Rattle.gr_io.specs.declared.end.ReadEnd.{ReadEnd}
 use Rattle.gr_io.specs.declared.end.ReadEnd.TheVariants.{Fault, TooLarge, Memory}
+use Rattle.gr_value.specs.Counts.{Rose}
 
 -- of the bytes that were left, the first so many at most were taken
 abbrev pub TakesAtMost : ℕ → Option (List ℕ) → Option (List ℕ) → Type 0

@@ -1,6 +1,6 @@
 -- A sink in memory.
 use Rattle.std.specs.Prelude.{◌⊎◌, ◌≤◌, ◌<◌, ℕ, List, Contains, length}
-use Rattle.gr_io.specs.Faults.{next_of}
+use Rattle.gr_value.specs.Counts.{next_of}
 
 pub record Output : Type 0 where
   -- the bytes that it took

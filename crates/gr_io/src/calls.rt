@@ -1,5 +1,5 @@
 ghost use Rattle.std.specs.Prelude.{◌≡◌, ◌↔◌, ℕ, IsTrue, Contains};
-ghost use Rattle.gr_io.specs.Faults.{next_of};
+ghost use Rattle.gr_value.specs.Counts.{next_of};
 
 use std::marker::Model;
 

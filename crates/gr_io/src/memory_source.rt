@@ -1,7 +1,8 @@
 ghost use Rattle.std.specs.Prelude.{◌≡◌, ◌≤◌, ◌↔◌, ℕ, min, length, IsErr, IfOk, OnErr, Contains, Some};
 ghost use Rattle.std.specs.Io.{ReadsAtMost};
 ghost use Rattle.std.specs.Io.KnownBytes.{ReadConsumes};
-ghost use Rattle.gr_io.specs.Faults.{Rose, next_of, faults_after};
+ghost use Rattle.gr_io.specs.Faults.{faults_after};
+ghost use Rattle.gr_value.specs.Counts.{Rose, next_of};
 
 use crate::calls::Calls;
 use crate::{Failed, Source};

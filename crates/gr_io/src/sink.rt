@@ -1,7 +1,7 @@
 ghost use Rattle.std.specs.Prelude.{◌≤◌, ◌<◌, ℕ, List, Option, OnErr, IfOk, length};
 ghost use Rattle.std.specs.Io.{WritesAtMost};
 ghost use Rattle.std.specs.Io.KnownBytes.{WriteAppends};
-ghost use Rattle.gr_io.specs.Faults.{Rose};
+ghost use Rattle.gr_value.specs.Counts.{Rose};
 
 use crate::Failed;
 

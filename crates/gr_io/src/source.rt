@@ -1,7 +1,7 @@
 ghost use Rattle.std.specs.Prelude.{◌≤◌, ℕ, List, Option, OnErr};
 ghost use Rattle.std.specs.Io.{ReadsAtMost};
 ghost use Rattle.std.specs.Io.KnownBytes.{ReadConsumes};
-ghost use Rattle.gr_io.specs.Faults.{Rose};
+ghost use Rattle.gr_value.specs.Counts.{Rose};
 
 use crate::Failed;
 

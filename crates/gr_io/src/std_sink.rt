@@ -1,7 +1,8 @@
 ghost use Rattle.std.specs.Prelude.{◌≡◌, ◌<◌, OnErr, ◌≤◌, IfOk, length};
 ghost use Rattle.std.specs.Io.{WritesAtMost};
 ghost use Rattle.std.specs.Io.KnownBytes.{WriteAppends};
-ghost use Rattle.gr_io.specs.Faults.{Rose, faults_after};
+ghost use Rattle.gr_io.specs.Faults.{faults_after};
+ghost use Rattle.gr_value.specs.Counts.{Rose};
 
 use crate::{Failed, Sink};
 use std::io::Write;

@@ -1,7 +1,8 @@
 ghost use Rattle.std.specs.Prelude.{◌≡◌, OnErr, ◌≤◌};
 ghost use Rattle.std.specs.Io.{ReadsAtMost};
 ghost use Rattle.std.specs.Io.KnownBytes.{ReadConsumes};
-ghost use Rattle.gr_io.specs.Faults.{Rose, faults_after};
+ghost use Rattle.gr_io.specs.Faults.{faults_after};
+ghost use Rattle.gr_value.specs.Counts.{Rose};
 
 use crate::{Failed, Source};
 use std::io::Read;

@@ -1,7 +1,7 @@
 ghost use Rattle.std.specs.Prelude.{◌≤◌, OnOk, OnErr, flat_map};
 ghost use Rattle.std.specs.Io.KnownBytes.{Appends};
 ghost use Rattle.gr_io.specs.Ends.{AppendsPart};
-ghost use Rattle.gr_io.specs.Faults.{Rose};
+ghost use Rattle.gr_value.specs.Counts.{Rose};
 
 use crate::{Sink, WriteFault};
 

@@ -1,17 +1,16 @@
 -- Which of the changes of a key wins.
 use Rattle.std.specs.Prelude.{◌≡◌, ℕ, List, [], ◌∷◌, Bool, true, false, ◌&&◌, IsTrue, Contains, bytes_eq, if◌then◌else◌, Option, Some}
-use Rattle.std.specs.Prelude.{None, option_and_then}
+use Rattle.std.specs.Prelude.{None, option_and_then, option_map}
 use Rattle.std.specs.List.{AllByRecursion}
 use Rattle.gr_value.specs.declared.value.Field.{Field}
 use Rattle.gr_stamp.specs.declared.change.Change.{Change}
 use Rattle.gr_stamp.specs.declared.change.Kind.{Kind}
 use Rattle.gr_stamp.specs.declared.change.Kind.TheVariants.{Put, Remove}
-use Rattle.gr_stamp.specs.Version.{beats}
+use Rattle.gr_stamp.specs.Version.{beats, decides}
 
 -- whether a change replaces what won before it
 abbrev pub wins : Change → Option Change → Bool
-wins change None = true
-wins change (Some before) = beats change.stamp before.stamp
+wins change before = decides (option_map (λ held. held.stamp) before) change.stamp
 
 -- The change of the key that no other change of it beats, of changes that are listed the newest first.
 -- Of several with one stamp it is the oldest.

@@ -9,7 +9,8 @@ use lib.ListN.{get_elem?}
 use Rattle.std.specs.Int.Bits.{bit_or, or_block, or_zero_r}
 use Rattle.std.proofs.Math.Dec.{leb}
 use Rattle.std.proofs.lemmas.Bool.{leb-true, leb-false}
-use Rattle.gr_turn.specs.Views.{StartsWith, times, total, count_from, longer, shorter}
+use Rattle.gr_turn.specs.Views.{times, total, count_from, longer, shorter}
+use Rattle.gr_value.specs.Lists.{StartsWith}
 
 some_of : {X : Type 0} (a b : X) → Some a ≡ Some b → a ≡ b
 some_of a b e = cc

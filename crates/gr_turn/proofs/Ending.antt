@@ -8,10 +8,11 @@ use native.Mathlib.Decide.{ℕ_discrete}
 use Rattle.atomic_table.specs.Table.{State, Me, keeps, Allows, Final, Seen}
 use Rattle.atomic_table.proofs.Lists.{set_again}
 use Rattle.gr_turn.specs.declared.view.View.{View}
-use Rattle.gr_turn.specs.Views.{StartsWith, times, bit, HasAll, MadeAll, IsAccounted}
+use Rattle.gr_turn.specs.Views.{times, bit, HasAll, MadeAll, IsAccounted}
 use Rattle.gr_turn.specs.Rule.{Opened, Holds, Looked}
 use Rattle.gr_turn.proofs.Counts.{starts_long, total_at, total_only, total_two, count_once, count_has, count_first, count_below}
 use Rattle.gr_turn.proofs.Opened.{none_some, some_same, opened_by}
+use Rattle.gr_value.specs.Lists.{StartsWith}
 
 module _ {T E B : Type 0} (entries : T → List E) (base_of : T → B) where
   -- of a view with all numbers, each other one has none

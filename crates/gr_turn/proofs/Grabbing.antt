@@ -6,10 +6,11 @@ use mathlib.Core.Option.{some}
 use lib.ListN.{get_elem?}
 use Rattle.atomic_table.specs.Table.{State, Me, Act, keeps, takes, Valid, carried_after, Allows, stepped}
 use Rattle.gr_turn.specs.declared.view.View.{View}
-use Rattle.gr_turn.specs.Views.{StartsWith, IsIdle, times, bit, won_by, lost_by}
+use Rattle.gr_turn.specs.Views.{IsIdle, times, bit, won_by, lost_by}
 use Rattle.gr_turn.specs.Rule.{Opened, Holds, Grabbed}
 use Rattle.gr_turn.proofs.Counts.{total_same, even_or, odd_or}
 use Rattle.gr_turn.proofs.Opened.{refit_near, some_same, each_set, sound_set, mine_sound, set_at, refit, opened_by, keeps_taken, gone_on}
+use Rattle.gr_value.specs.Lists.{StartsWith}
 
 module _ {T E B : Type 0} (entries : T → List E) (base_of : T → B) where
   abbrev CanGrab : ℕ → View E B → State (Option T) (View E B) → Type 0

@@ -7,8 +7,9 @@ use lib.ListN.{get_elem?}
 use Rattle.atomic_table.specs.Table.{State}
 use Rattle.atomic_table.proofs.Lists.{at_set, set_else}
 use Rattle.gr_turn.specs.declared.view.View.{View}
-use Rattle.gr_turn.specs.Views.{StartsWith, times, total, count_from, bit}
+use Rattle.gr_turn.specs.Views.{times, total, count_from, bit}
 use Rattle.gr_turn.specs.Rule.{Fits, IsSound, IsHome, Opened, Shut, Holds}
+use Rattle.gr_value.specs.Lists.{StartsWith}
 
 pub none_some : {X : Type 0} (x : X) → None ≡ Some x → ⊥
 none_some x e = cc

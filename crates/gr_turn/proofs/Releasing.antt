@@ -5,10 +5,11 @@ use mathlib.Core.Option.{some}
 use Rattle.atomic_table.specs.Table.{gives, Allows}
 use Rattle.atomic_table.proofs.Lists.{set_here}
 use Rattle.gr_turn.specs.declared.view.View.{View}
-use Rattle.gr_turn.specs.Views.{StartsWith, times, count_from, left_by, found, is_out, list_in}
+use Rattle.gr_turn.specs.Views.{times, count_from, left_by, found, is_out, list_in}
 use Rattle.gr_turn.specs.Rule.{Holds, Released}
 use Rattle.gr_turn.proofs.Counts.{total_set, total_same, times-append, starts_long, starts_trans, starts_self, places_split, below_both}
 use Rattle.gr_turn.proofs.Opened.{none_some, some_same, each_set, sound_set, mine_sound, refit, opened_by, gone_on}
+use Rattle.gr_value.specs.Lists.{StartsWith}
 
 module _ {T E B : Type 0} (entries : T → List E) (base_of : T → B) where
   abbrev slot : T → List (ℕ × Option T)

@@ -4,7 +4,8 @@ use mathlib.Core.Option.{some}
 use lib.ListN.{get_elem?}
 use Rattle.atomic_table.specs.Table.{State, Me}
 use Rattle.gr_turn.specs.declared.view.View.{View}
-use Rattle.gr_turn.specs.Views.{StartsWith, times, total, count_from, bit, won_by, lost_by, left_by, claimed, root_view, IsAccounted}
+use Rattle.gr_turn.specs.Views.{times, total, count_from, bit, won_by, lost_by, left_by, claimed, root_view, IsAccounted}
+use Rattle.gr_value.specs.Lists.{StartsWith}
 
 module _ {E B : Type 0} where
   -- what holds of the view v of the seat by

@@ -5,10 +5,7 @@ use Rattle.std.specs.Prelude.{◌≡◌, ◌≢◌, ℕ, suc, zero, ◌+◌, ◌
 use Rattle.std.specs.Prelude.{Some, None, cond}
 use Rattle.std.proofs.Math.Dec.{leb}
 use Rattle.gr_turn.specs.declared.view.View.{View}
-
--- ys begins with xs
-abbrev pub StartsWith : {E : Type 0} → List E → List E → Type 0
-StartsWith {E} ys xs = (rest : List E) × (ys ≡ xs ++ rest)
+use Rattle.gr_value.specs.Lists.{StartsWith}
 
 -- how often p stands in the list
 abbrev pub times : ℕ → List ℕ → ℕ

@@ -1,5 +1,6 @@
 ghost use Rattle.std.specs.Prelude.{◌≡◌, ◌≢◌, ℕ, ◌+◌, ◌*◌, ◌%◌, ◌≤◌, [], ◌∷◌, ◌++◌, length, Some, IfOk, IfErr};
-ghost use Rattle.gr_turn.specs.Views.{StartsWith, IsIdle, IsAccounted, won_by, lost_by, with_lost, left_by, found, both};
+ghost use Rattle.gr_turn.specs.Views.{IsIdle, IsAccounted, won_by, lost_by, with_lost, left_by, found, both};
+ghost use Rattle.gr_value.specs.Lists.{StartsWith};
 
 use crate::kept::Kept;
 use crate::rule::{Grab, Look, Meet, Release, Turns};

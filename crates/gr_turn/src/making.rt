@@ -1,6 +1,7 @@
 ghost use Rattle.std.specs.Prelude.{◌≡◌, ◌<◌, ◌≤◌, ℕ, [], ◌∷◌, ◌++◌, length, slice_get, Some, IfOk, IfErr, IfNone, IsOk, option_copied};
 ghost use Rattle.std.specs.Option.{option_to_list};
-ghost use Rattle.gr_turn.specs.Views.{StartsWith, HasAll, MadeAll, IsRoot, fresh, root_view, seat_view, deal_left, deal_right};
+ghost use Rattle.gr_turn.specs.Views.{HasAll, MadeAll, IsRoot, fresh, root_view, seat_view, deal_left, deal_right};
+ghost use Rattle.gr_value.specs.Lists.{StartsWith};
 
 use crate::kept::Kept;
 use crate::lock::{Seat, TurnLock};

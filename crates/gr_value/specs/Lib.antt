@@ -1,9 +1,13 @@
+pub mod Counts
+pub mod Drawing
+pub mod FaultTexts
 pub mod Fields
 pub mod Held
-pub mod OneOrMany
 pub mod KeyBytes
 pub mod KeyFront
 pub mod KeyHash
+pub mod Lists
+pub mod OneOrMany
 pub mod Sameness
 pub mod Scalars
 pub mod Shard

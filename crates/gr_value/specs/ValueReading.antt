@@ -11,6 +11,7 @@ use Rattle.gr_value.specs.declared.fault.ValueFault.TheVariants.{TooLong, NotJso
 use Rattle.gr_value.specs.declared.scalar.Scalar.{Scalar}
 use Rattle.gr_value.specs.declared.scalar.Scalar.TheVariants.{Null, Bool as Truth, Int, Text}
 use Rattle.gr_value.specs.declared.value.Field.{Field}
+use Rattle.gr_value.specs.Values.{most_value_bytes}
 
 -- the scalar that the member at this place holds
 abbrev pub scalar_at : ℕ → Data → Result Scalar ValueFault
@@ -47,7 +48,7 @@ abbrev pub json_of : List ℕ → Option Data
 json_of bytes = if is_utf8 bytes then read bytes else None
 
 unfoldable pub read_value : List ℕ → Result (List Field) ValueFault
-read_value bytes = if nat_lt 1024 (length bytes) then Err TooLong else value_of (json_of bytes)
+read_value bytes = if nat_lt most_value_bytes (length bytes) then Err TooLong else value_of (json_of bytes)
 
 -- What was answered is the fault, or memory was refused.
 abbrev pub RefusedAs : ValueFault → Result (List Field) ValueFault → Type 0

@@ -1,5 +1,5 @@
 -- What every value keeps.
-use Rattle.std.specs.Prelude.{◌≤◌, List, length, map, FitsSigned, IsTrue, ⊤}
+use Rattle.std.specs.Prelude.{◌≤◌, ℕ, List, length, map, FitsSigned, IsTrue, ⊤}
 use Rattle.std.specs.Cmp.Lexicographic.{slice_cmp}
 use Rattle.std.specs.Int.{w64}
 use Rattle.std.specs.List.{AllByRecursion}
@@ -25,8 +25,11 @@ IsField field = IsTrue (is_utf8 field.name) × IsScalar field.scalar
 abbrev pub HasAscendingNames : List Field → Type 0
 HasAscendingNames fields = IsStrictlySortedBy (slice_cmp nat_cmp) (map (λ field. field.name) fields)
 
--- The text of a value has at most 1,024 bytes.
+abbrev pub most_value_bytes : ℕ
+most_value_bytes = 1024
+
+-- The text of a value has at most so many bytes.
 pub record IsValue (fields : List Field) : Type 0 where
   pub ascending : HasAscendingNames fields
   pub readable : AllByRecursion IsField fields
-  pub short : length (value_text fields) ≤ 1024
+  pub short : length (value_text fields) ≤ most_value_bytes

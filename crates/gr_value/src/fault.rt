@@ -1,6 +1,7 @@
-ghost use Rattle.std.specs.Prelude.{◌≡◌};
+ghost use Rattle.std.specs.Prelude.{◌≡◌, Some};
 ghost use Rattle.gr_value.specs.declared.fault.KeyFault.TheVariants.{Memory as OutOfMemory};
 ghost use Rattle.gr_value.specs.declared.fault.ValueFault.TheVariants.{Memory as NoMemory};
+ghost use Rattle.gr_value.specs.FaultTexts.{text_of_key_fault, text_of_value_fault};
 
 use crate::Memory;
 use std::error::Error;
@@ -26,6 +27,8 @@ impl From<Memory> for KeyFault {
 }
 
 impl fmt::Display for KeyFault {
+    ghost output = { λ fault. Some (text_of_key_fault fault) };
+
     fn fmt<W: fmt::Write>(&self, f: &mut fmt::Formatter<W>) -> fmt::Result {
         match self {
             KeyFault::Empty => write!(f, "a key has at least one byte"),
@@ -62,6 +65,8 @@ impl From<Memory> for ValueFault {
 }
 
 impl fmt::Display for ValueFault {
+    ghost output = { λ fault. Some (text_of_value_fault fault) };
+
     fn fmt<W: fmt::Write>(&self, f: &mut fmt::Formatter<W>) -> fmt::Result {
         match self {
             ValueFault::TooLong => write!(f, "a value has at most 1024 bytes"),

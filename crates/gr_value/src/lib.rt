@@ -2,6 +2,7 @@
 #![tactic(auto)]
 
 mod copied;
+mod drawing;
 mod escapes;
 mod fault;
 mod fields;
@@ -20,6 +21,7 @@ mod text;
 mod value;
 
 pub use copied::Copied;
+pub use drawing::drawn;
 pub use fault::{KeyFault, ValueFault};
 pub use key::{Key, KeyList};
 pub use list::ItemList;

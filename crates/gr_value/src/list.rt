@@ -38,7 +38,15 @@ impl<T> ItemList<T> {
         })
     }
 
-    pub(crate) fn into_vec(self) -> Vec<T>
+    /// The items of a vector. A caller that must put so many items behind calls that can't be undone
+    /// makes a vector with room for them first, where `push_reserved` takes no memory.
+    pub fn from_vec(entries: Vec<T>) -> ItemList<T>
+        ensures { result ≡ entries.items }
+    {
+        ItemList { entries }
+    }
+
+    pub fn into_vec(self) -> Vec<T>
         ensures { result.items ≡ self }
     {
         self.entries

@@ -1,7 +1,7 @@
 use Rattle.std.proofs.Common.{rules, ◌≡◌}
-use Rattle.gr_io.specs.Faults.{next_of}
 use Rattle.gr_io.proofs.CallLemmas.{is_ok-searched}
 use Rattle.gr_io.proofs.calls.Calls.next_fails.Goals as goal
+use Rattle.gr_value.specs.Counts.{next_of}
 
 pub returns-clause-failed : goal.returns-clause-failed
 returns-clause-failed c =

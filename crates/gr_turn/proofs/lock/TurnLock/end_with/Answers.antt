@@ -1,9 +1,10 @@
 use Rattle.std.proofs.Common.{◌≡◌, Some, sym, ◌∙◌, ap, subst, length}
 use mathlib.Core.Option.{some}
 use Rattle.gr_turn.specs.declared.view.View.{View}
-use Rattle.gr_turn.specs.Views.{StartsWith, HasAll, MadeAll}
+use Rattle.gr_turn.specs.Views.{HasAll, MadeAll}
 use Rattle.gr_turn.proofs.Ending.{ended, all_home}
 use Rattle.gr_turn.proofs.lock.TurnLock.end_with.Goals as goal
+use Rattle.gr_value.specs.Lists.{StartsWith}
 
 facts : (g : _) (c : goal.In-Some g) → (c.args.seat.view.base ≡ Some (g.T.Kept.base c.in-Some.value))
     × StartsWith (g.T.Kept.entries c.in-Some.value) c.args.seat.view.seen

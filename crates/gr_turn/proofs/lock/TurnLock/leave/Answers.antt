@@ -1,10 +1,11 @@
 use Rattle.std.proofs.Common.{rules, ◌≡◌, ◌*◌, [], ◌∷◌, List, ℕ, Option, Some, ap, sym, ◌∙◌, subst, arith}
 use Rattle.atomic_table.specs.Table.{Allows, Me, rest}
 use Rattle.gr_turn.specs.declared.view.View.{View}
-use Rattle.gr_turn.specs.Views.{left_by, Turned, StartsWith, found}
+use Rattle.gr_turn.specs.Views.{left_by, Turned, found}
 use Rattle.gr_turn.specs.Rule.{Holds, Released}
 use Rattle.gr_turn.proofs.Releasing.{releases}
 use Rattle.gr_turn.proofs.lock.TurnLock.leave.Goals as goal
+use Rattle.gr_value.specs.Lists.{StartsWith}
 
 pub swap-requires : goal.swap-requires
 swap-requires g c =
