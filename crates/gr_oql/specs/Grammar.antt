@@ -111,9 +111,13 @@ most_depth = 64
 abbrev pub IsCondition : ℕ → Option (List ℕ) → Tree → List Terminal → Type 0
 IsCondition depth alias c ts = IsAny (IsPart alias depth) c ts
 
--- the region, as a name of at most 254 bytes behind a slash
+-- how many bytes the name of a region has at most
+abbrev pub most_region_bytes : ℕ
+most_region_bytes = 254
+
+-- the region, as a name behind a slash
 abbrev pub IsRegion : List ℕ → List Terminal → Type 0
-IsRegion region ts = (w : List ℕ) × (length w ≤ 254) × (region ≡ 0x2F ∷ w) × Is as_name w ts
+IsRegion region ts = (w : List ℕ) × (length w ≤ most_region_bytes) × (region ≡ 0x2F ∷ w) × Is as_name w ts
 
 abbrev pub IsAlias : Option (List ℕ) → List Terminal → Type 0
 IsAlias None ts = ts ≡ []

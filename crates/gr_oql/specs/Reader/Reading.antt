@@ -19,7 +19,7 @@ use Rattle.gr_oql.specs.declared.halt.Wrong.{Wrong}
 use Rattle.gr_oql.specs.declared.halt.Wrong.TheVariants.{Expected, NotACq, TooDeep}
 use Rattle.gr_lex.specs.declared.token.Symbol.{Symbol}
 use Rattle.gr_lex.specs.Bytes.{greatest_number}
-use Rattle.gr_oql.specs.Grammar.{is_alias, has_backslash, most_depth}
+use Rattle.gr_oql.specs.Grammar.{is_alias, has_backslash, most_depth, most_region_bytes}
 use Rattle.gr_oql.specs.Question.{Asked}
 use Rattle.gr_oql.specs.Tree.{Tree, any, all, negation, test}
 use Rattle.gr_oql.specs.View.{in_order}
@@ -198,7 +198,7 @@ star_at (t ∷ ts) =
     else stop (NotACq part.Projection) (t ∷ ts))
 
 abbrev pub region_by : Option (List ℕ) → List Terminal → Reading (List ℕ)
-region_by (Some w) ts = if nat_le (length w) 254 then Ok (0x2F ∷ w, rest ts) else stop Expected ts
+region_by (Some w) ts = if nat_le (length w) most_region_bytes then Ok (0x2F ∷ w, rest ts) else stop Expected ts
 region_by None ts = stop Expected ts
 
 abbrev pub region_at : List Terminal → Reading (List ℕ)
