@@ -17,7 +17,7 @@ use Rattle.gr_history.specs.Standing.{names, standing}
 use Rattle.gr_history.specs.Calls.{reach}
 use Rattle.gr_stamp.specs.Winner.{is_removal}
 use Rattle.gr_history.specs.Floor.{removal_of, expired_at, expired}
-use Rattle.gr_history.specs.Stable.{timeout, last_heard, is_later, is_covered, is_stable_upto, is_due_from}
+use Rattle.gr_history.specs.Stable.{last_heard, is_later, is_covered, is_stable_upto, is_due_from}
 use Rattle.gr_history.specs.Clock.{since, clock}
 use Rattle.gr_law.specs.Grids.{identity, Among, Older, Grid}
 use Rattle.gr_law.specs.Integrity.{IsMade, IsGenuine, IsSound, IsWhole, IsHeardDeed, AreHeard}
@@ -31,6 +31,7 @@ use Rattle.gr_law.proofs.Made.{older_past, older_trans, older_itself, older_lawf
 use Rattle.gr_law.proofs.Made.{made_member, made_below}
 use Rattle.gr_law.proofs.Steps.{true_isnt_false, came_sound, came_fresh, standing_sound, standing_best, named_due, IsDue}
 use Rattle.gr_law.proofs.Reached.{law_0-holds, all_carried}
+use Rattle.gr_stamp.specs.Expiry.{timeout}
 
 -- What was made behind a place at which a change of its key was known has a greater version.
 pub made_behind : (grid : Grid) → IsSound grid → (i : ℕ) (h q : List Deed) → Older h (grid.history i) → Older q h
