@@ -10,12 +10,13 @@ use Rattle.gr_script.specs.declared.items.Item.TheVariants as item
 use Rattle.gr_script.specs.declared.items.Setting.{Setting}
 use Rattle.gr_script.specs.declared.reason.Reason.TheVariants as reason
 use Rattle.gr_script.specs.Fields.{piece, left}
-use Rattle.gr_script.specs.Items.{most_clients, within, number_at, number_in, stated_client, dotted_numbers, is_own, text_at, query_from}
+use Rattle.gr_script.specs.Items.{within, number_at, number_in, stated_client, dotted_numbers, is_own, text_at, query_from}
 use Rattle.gr_oql.specs.Questions.{question_of}
 use Rattle.gr_script.specs.Items.{own_query, query_at, region_at, key_at, value_at, item_at, items_at}
 use Rattle.gr_script.specs.Rules.{is_region, IsWithin}
 use Rattle.gr_script.specs.Texts.{cut}
 use Rattle.gr_script.proofs.Passes.{done_is, bind_ok, unless_ok, within_ok}
+use Rattle.gr_script.specs.Limits.{most_clients}
 
 -- a number from the one to the other, and one of a client that is stated
 abbrev pub Within : ℕ → ℕ → Type 0

@@ -13,12 +13,13 @@ use Rattle.gr_script.specs.declared.line.Act.{Act}
 use Rattle.gr_script.specs.declared.line.Act.TheVariants.{Call, Query}
 use Rattle.gr_script.specs.declared.line.Line.{Line}
 use Rattle.gr_script.specs.declared.line.Line.TheVariants.{Step, Report, Sweep}
-use Rattle.gr_script.specs.Drill.{drawn, drill_client, drill_seq, drill_ask, drill_heading, drill_homes, drill_region, drill_query}
+use Rattle.gr_script.specs.Drill.{drill_client, drill_seq, drill_ask, drill_heading, drill_homes, drill_region, drill_query}
 use Rattle.gr_script.specs.Drill.{query_name, asked_before}
 use Rattle.gr_script.specs.Drill.{steps_made, at_members, step_lines, drill_steps, asks_at, drill_lines, IsDrill}
 use Rattle.gr_script.specs.Rests.{IsRest}
 use Rattle.gr_script.specs.Rules.{Heading, heading, IsHeading, AreWithin, IsWithin, AllStand, IsScript}
 use Rattle.gr_script.specs.Steps.{step_of, step_count, opens, queries, reports, sweeps, is_report, is_sweep, is_query}
+use Rattle.gr_value.specs.Drawing.{drawn}
 
 -- ---- the heading
 

@@ -13,8 +13,9 @@ use Rattle.gr_value.specs.ValueReading.{read_value}
 use Rattle.gr_value.specs.ValueText.{value_text, escaped}
 use Rattle.gr_value.specs.Values.{IsValue}
 use Rattle.gr_script.proofs.PrintedTexts.{plain_stands}
-use Rattle.gr_script.specs.Drill.{drawn, drill_value, step_lines, drill_steps}
+use Rattle.gr_script.specs.Drill.{drill_value, step_lines, drill_steps}
 use Rattle.gr_script.specs.declared.line.Line.{Line}
+use Rattle.gr_value.specs.Drawing.{drawn}
 
 drill_text : (first : ℕ) → value_text (drill_value first) ≡ codes "{\"n\":" ++ (decimal (first % 1000) ++ codes "}")
 unfolding value_text escaped

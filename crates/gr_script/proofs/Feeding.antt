@@ -13,7 +13,6 @@ use Rattle.gr_script.specs.declared.reason.Reason.{Reason}
 use Rattle.gr_script.specs.declared.saying.Saying.{Saying}
 use Rattle.gr_script.specs.Cuts.{line_count}
 use Rattle.gr_script.specs.Halts.{Halts}
-use Rattle.gr_script.specs.Index.{most_lines}
 use Rattle.gr_script.specs.Past.{stage}
 use Rattle.gr_script.specs.Refusals.{past_with}
 use Rattle.gr_script.specs.Rules.{AllStand, IsScript}
@@ -26,6 +25,7 @@ use Rattle.gr_script.proofs.Headed.{is_heading}
 use Rattle.gr_script.proofs.LineCounts.{lines_counted}
 use Rattle.gr_script.proofs.Standing.{all_stand, no_lines_yet, same_heading}
 use Rattle.gr_script.proofs.Taking.{one_more, taken_follow}
+use Rattle.gr_script.specs.Limits.{most_lines}
 
 -- ---- one line of the text more
 

@@ -18,7 +18,6 @@ use Rattle.gr_script.specs.Cuts.{text_said, is_skipped, line_count}
 use Rattle.gr_script.specs.Fields.{first, second, fits, form_of}
 use Rattle.gr_script.specs.Forms.{word, fields, rank, step_kinds, other_kinds, kind_of}
 use Rattle.gr_script.specs.Halts.{◌>>=◌}
-use Rattle.gr_script.specs.Index.{most_lines}
 use Rattle.gr_script.specs.Items.{text_at, items_at}
 use Rattle.gr_script.specs.Past.{setting, stage}
 use Rattle.gr_script.specs.Refusals.{lacks, is_replayed, tests, refusal, unless_refused, form_at, saying_at, past_with}
@@ -30,6 +29,7 @@ use Rattle.gr_script.proofs.Contents.{Contents, items_of, items_held}
 use Rattle.gr_script.proofs.LineCounts.{lines_counted}
 use Rattle.gr_script.proofs.RestsRead.{rests_read, said_rest, lines_are_lines}
 use Rattle.gr_script.proofs.Passes.{done_is, bind_ok, unless_ok, some_ok}
+use Rattle.gr_script.specs.Limits.{most_lines}
 
 -- what the fields of a line of this form hold, behind earlier lines
 abbrev pub Held : List Saying → LineKind → Type 0

@@ -17,7 +17,6 @@ use Rattle.gr_script.specs.declared.saying.Saying.{Saying}
 use Rattle.gr_script.specs.Cuts.{line_count}
 use Rattle.gr_script.specs.Fields.{first}
 use Rattle.gr_script.specs.Forms.{word}
-use Rattle.gr_script.specs.Index.{most_lines}
 use Rattle.gr_script.specs.Past.{region, members, homes, stage}
 use Rattle.gr_script.specs.Printed.{other_saying, saying_in, client_sayings, sayings_in, script_text, IsLineKept}
 use Rattle.gr_script.specs.Printing.{spaced, saying_text}
@@ -31,6 +30,7 @@ use Rattle.gr_script.proofs.Follows.{AllFollow}
 use Rattle.gr_script.proofs.PrintedFields.{word_plain}
 use Rattle.gr_script.proofs.PrintedLines.{front_is}
 use Rattle.gr_script.proofs.ScriptBack.{Reads, Ready, one_more, follow_more, lines_back, lines_again}
+use Rattle.gr_script.specs.Limits.{most_lines}
 
 -- ---- the clients
 

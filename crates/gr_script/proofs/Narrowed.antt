@@ -9,7 +9,6 @@ use Rattle.gr_script.specs.declared.items.Item.{Item}
 use Rattle.gr_script.specs.declared.items.Setting.{Setting}
 use Rattle.gr_script.specs.declared.saying.Saying.{Saying}
 use Rattle.gr_script.specs.Forms.{fields, rank, is_step, is_kind}
-use Rattle.gr_script.specs.Index.{most_lines}
 use Rattle.gr_script.specs.Kept.{CanBeKept}
 use Rattle.gr_script.specs.Narrow.{IsNarrowStep, IsNarrow}
 use Rattle.gr_script.specs.Past.{number, setting, members, steps, reports}
@@ -22,6 +21,7 @@ use Rattle.gr_script.proofs.Follows.{Held, held_items, AllFollow}
 use Rattle.gr_script.proofs.Fronts.{step_fields}
 use Rattle.gr_script.proofs.Headed.{headed, whole}
 use Rattle.gr_script.proofs.Standing.{passed, not_missing}
+use Rattle.gr_script.specs.Limits.{most_lines}
 
 narrow_client : (setting : Setting) (kinds more : List FieldKind) → kinds ≡ field.Client ∷ more → (c : Contents setting kinds)
     → IsNarrowStep (items_of setting kinds c)

@@ -10,10 +10,11 @@ use Rattle.gr_script.specs.declared.past.Counted.{Counted}
 use Rattle.gr_script.specs.declared.past.Sizes.{Sizes}
 use Rattle.gr_script.specs.declared.saying.Saying.{Saying}
 use Rattle.gr_script.specs.Forms.{rank, is_step, is_kind}
-use Rattle.gr_script.specs.Index.{IsIndex, counted, most_lines}
+use Rattle.gr_script.specs.Index.{IsIndex, counted}
 use Rattle.gr_script.specs.Past.{count_at, number, key_in, stated, setting, sizes, region, inbox, homes}
 use Rattle.gr_script.specs.Tallies.{Counts, CountsOne, count_in}
 use Rattle.gr_script.proofs.KindsApart.{states_none}
+use Rattle.gr_script.specs.Limits.{most_lines}
 
 -- one more line is counted at its first number
 pub counted_more : (test : LineKind → Bool) (past : List Saying) (line : Saying) (holds : Bool) (first : ℕ) (old new : ℕ → ℕ)

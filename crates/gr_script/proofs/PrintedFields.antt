@@ -33,7 +33,7 @@ use Rattle.gr_script.specs.Cuts.{is_space, ends_with, field_len}
 use Rattle.gr_script.specs.Fields.{len_of, is_filled}
 use Rattle.gr_script.specs.Forms.{word}
 use Rattle.gr_script.specs.Halts.{◌>>=◌, unless}
-use Rattle.gr_script.specs.Items.{number_at, within, number_in, stated_client, dotted_numbers, most_clients, item_at}
+use Rattle.gr_script.specs.Items.{number_at, within, number_in, stated_client, dotted_numbers, item_at}
 use Rattle.gr_oql.specs.Questions.{question_of}
 use Rattle.gr_script.specs.Items.{key_from, value_from, query_from, own_query, query_at}
 use Rattle.gr_script.specs.Pieces.{piece_len}
@@ -49,6 +49,7 @@ use Rattle.gr_script.proofs.Marks.{other_byte, unmarked, cut_at, all_turn, regio
 use Rattle.gr_script.proofs.PrintedNumbers.{decimal_spells, number_back}
 use Rattle.gr_script.proofs.PrintedTexts.{Stands, plain_stands, ends_append}
 use Rattle.gr_script.proofs.PrintedValues.{value_piece, inner, braced}
+use Rattle.gr_script.specs.Limits.{most_clients}
 
 -- ---- the bytes of such texts
 

@@ -10,7 +10,6 @@ use Rattle.gr_script.specs.declared.reason.Reason.{Reason}
 use Rattle.gr_script.specs.declared.saying.Saying.{Saying}
 use Rattle.gr_script.specs.Cuts.{is_skipped, text_said}
 use Rattle.gr_script.specs.Halts.{◌>>=◌}
-use Rattle.gr_script.specs.Index.{most_lines}
 use Rattle.gr_script.specs.Items.{text_at}
 use Rattle.gr_script.specs.Kept.{CanBeKept}
 use Rattle.gr_script.specs.Past.{setting, stage}
@@ -28,6 +27,7 @@ use Rattle.gr_script.proofs.LineAccepted.{plain_accepts}
 use Rattle.gr_script.proofs.Narrowed.{can_be_kept}
 use Rattle.gr_script.proofs.Plainly.{quiet}
 use Rattle.gr_script.proofs.RestsRead.{lines_are_lines}
+use Rattle.gr_script.specs.Limits.{most_lines}
 
 -- ---- the first lines, and one more
 

@@ -4,6 +4,7 @@ use Rattle.std.specs.Fmt.{decimal}
 use Rattle.std.specs.Prelude.{pos}
 use Rattle.gr_value.specs.declared.scalar.Scalar.TheVariants.{Int}
 use Rattle.gr_value.specs.declared.value.Field.{Field}
+use Rattle.gr_value.specs.Drawing.{drawn}
 use Rattle.gr_oql.specs.Grammar.{Spells}
 use Rattle.gr_oql.specs.Question.{Question}
 use Rattle.gr_history.specs.declared.ask.Ask.{Ask}
@@ -14,12 +15,6 @@ use Rattle.gr_script.specs.declared.line.Act.TheVariants.{Call, Query}
 use Rattle.gr_script.specs.declared.line.Line.{Line}
 use Rattle.gr_script.specs.declared.line.Line.TheVariants.{Step, Report, Sweep}
 use Rattle.gr_script.specs.Rules.{Heading, heading}
-
--- ---- numbers
-
--- the number that is drawn behind this one
-abbrev pub drawn : ℕ → ℕ
-drawn x = x * 48271 % 2147483647
 
 -- the client of a step of the drill, of which the first is 1
 abbrev pub drill_client : ℕ → ℕ

@@ -7,6 +7,8 @@ use Rattle.gr_script.specs.declared.forms.LineKind.TheVariants.{PutIfAbsent, Rep
 use Rattle.gr_script.specs.declared.forms.LineKind.TheVariants.{Fetch, Deliver, Report, Hear, Sweep, Join}
 use Rattle.gr_script.specs.declared.forms.FieldKind.{FieldKind}
 use Rattle.gr_script.specs.declared.forms.FieldKind.TheVariants as field
+use Rattle.gr_script.specs.Limits.{most_members, most_shards, most_inbox, most_trouble, most_clients, most_moment}
+use Rattle.gr_stamp.specs.declared.stamp.TheConstants.{LIMIT}
 
 abbrev pub word : LineKind → List ℕ
 word Georep = codes "georep"
@@ -39,12 +41,12 @@ word Join = codes "join"
 abbrev pub fields : LineKind → List FieldKind
 fields Georep = field.Word ∷ field.Version ∷ []
 fields Region = field.Word ∷ field.Region ∷ []
-fields Members = field.Word ∷ (field.Number 1 8) ∷ (field.Number 1 8) ∷ []
-fields Shards = field.Word ∷ (field.Number 1 32) ∷ []
-fields Inbox = field.Word ∷ (field.Number 1 4096) ∷ []
-fields Trouble = field.Word ∷ (field.Number 0 2147483646) ∷ []
-fields Floor = field.Word ∷ (field.Number 0 281474976710655) ∷ []
-fields Client = field.Word ∷ (field.Number 1 64) ∷ field.At ∷ field.Member ∷ []
+fields Members = field.Word ∷ (field.Number 1 most_members) ∷ (field.Number 1 most_members) ∷ []
+fields Shards = field.Word ∷ (field.Number 1 most_shards) ∷ []
+fields Inbox = field.Word ∷ (field.Number 1 most_inbox) ∷ []
+fields Trouble = field.Word ∷ (field.Number 0 most_trouble) ∷ []
+fields Floor = field.Word ∷ (field.Number 0 LIMIT) ∷ []
+fields Client = field.Word ∷ (field.Number 1 most_clients) ∷ field.At ∷ field.Member ∷ []
 fields Get = field.Client ∷ field.Word ∷ field.Key ∷ []
 fields Put = field.Client ∷ field.Word ∷ field.Key ∷ field.Value ∷ []
 fields PutIfAbsent = field.Client ∷ field.Word ∷ field.Key ∷ field.Value ∷ []
@@ -60,7 +62,7 @@ fields Fetch = field.Client ∷ field.Word ∷ field.Key ∷ []
 fields Deliver = field.Word ∷ field.Member ∷ field.Step ∷ []
 fields Report = field.Word ∷ field.Member ∷ []
 fields Hear = field.Word ∷ field.Member ∷ field.Member ∷ field.Ordinal ∷ []
-fields Sweep = field.Word ∷ field.Member ∷ (field.Number 0 4294967295) ∷ []
+fields Sweep = field.Word ∷ field.Member ∷ (field.Number 0 most_moment) ∷ []
 fields Join = field.Word ∷ field.Member ∷ field.Member ∷ []
 
 -- which of the kinds it is, counted from 0

@@ -5,12 +5,9 @@ use Rattle.gr_script.specs.declared.items.Setting.{Setting}
 use Rattle.gr_script.specs.declared.past.Counted.{Counted}
 use Rattle.gr_script.specs.declared.past.Sizes.{Sizes}
 use Rattle.gr_script.specs.declared.saying.Saying.{Saying}
+use Rattle.gr_script.specs.Limits.{most_lines}
 use Rattle.gr_script.specs.Past.{setting, founders, sizes, homes, stage, count_of, queries, steps, reports, joins}
 use Rattle.gr_script.specs.Tallies.{count_in, Counts}
-
--- the most lines of a script
-abbrev pub most_lines : ℕ
-most_lines = 200000
 
 -- how many lines of some kinds there are
 abbrev pub counted : List Saying → Counted

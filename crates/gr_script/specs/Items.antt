@@ -18,6 +18,7 @@ use Rattle.gr_script.specs.declared.items.Setting.{Setting}
 use Rattle.gr_script.specs.declared.reason.Reason.{Reason}
 use Rattle.gr_script.specs.declared.reason.Reason.TheVariants as reason
 use Rattle.gr_script.specs.Fields.{piece, left}
+use Rattle.gr_script.specs.Limits.{most_clients}
 use Rattle.gr_script.specs.Halts.{key_reason, value_reason, query_reason, ◌>>=◌, unless}
 use Rattle.gr_script.specs.Numerals.{number_of}
 use Rattle.gr_script.specs.Rules.{is_region}
@@ -34,10 +35,6 @@ within least most number = unless (nat_lt number least || nat_lt most number) re
 
 abbrev pub number_in : ℕ → ℕ → List ℕ → Result ℕ Reason
 number_in least most text = number_at text >>= within least most
-
--- the greatest number of a client
-abbrev pub most_clients : ℕ
-most_clients = 64
 
 -- a client's number, where the client is stated
 abbrev pub stated_client : Setting → ℕ → Result ℕ Reason

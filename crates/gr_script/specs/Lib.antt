@@ -7,6 +7,7 @@ pub mod Halts
 pub mod Index
 pub mod Items
 pub mod Kept
+pub mod Limits
 pub mod LineNumbers
 pub mod Narrow
 pub mod Numerals

@@ -12,6 +12,7 @@ use Rattle.gr_script.specs.Cuts.{text_said, is_skipped}
 use Rattle.gr_script.specs.Fields.{first, fits, form_of}
 use Rattle.gr_script.specs.Forms.{word, fields, rank, is_kind}
 use Rattle.gr_script.specs.Halts.{◌>>=◌, unless}
+use Rattle.gr_script.specs.Limits.{most_reports, most_hears, most_sweeps, most_opens, most_queries}
 use Rattle.gr_script.specs.Items.{text_at, items_at}
 use Rattle.gr_script.specs.Past.{number, founders, home, clients, setting, count_of, queries, steps, reports, joins, stage}
 
@@ -54,15 +55,15 @@ tests past kind.Deliver items =
 tests past kind.Hear items =
     (is_missing (number 2 items) (reports (number 1 items) past), Later)
     ∷ (number 0 items == number 1 items, Itself)
-    ∷ (is_full 1400 (count_of kind.Hear past), Count)
+    ∷ (is_full most_hears (count_of kind.Hear past), Count)
     ∷ []
 tests past kind.Join items = (is_no_join (number 0 items) (number 1 items) past, Join) ∷ []
-tests past kind.Report items = (is_full 200 (count_of kind.Report past), Count) ∷ []
-tests past kind.Sweep items = (is_full 10000 (count_of kind.Sweep past), Count) ∷ []
-tests past kind.Open items = (is_full 16 (count_of kind.Open past) || is_full 10000 (queries past), Count) ∷ []
-tests past kind.Stop items = (is_full 10000 (queries past), Count) ∷ []
-tests past kind.Close items = (is_full 10000 (queries past), Count) ∷ []
-tests past kind.Fetch items = (is_full 10000 (queries past), Count) ∷ []
+tests past kind.Report items = (is_full most_reports (count_of kind.Report past), Count) ∷ []
+tests past kind.Sweep items = (is_full most_sweeps (count_of kind.Sweep past), Count) ∷ []
+tests past kind.Open items = (is_full most_opens (count_of kind.Open past) || is_full most_queries (queries past), Count) ∷ []
+tests past kind.Stop items = (is_full most_queries (queries past), Count) ∷ []
+tests past kind.Close items = (is_full most_queries (queries past), Count) ∷ []
+tests past kind.Fetch items = (is_full most_queries (queries past), Count) ∷ []
 tests past _ items = []
 
 -- the reason of the first test that holds

@@ -4,12 +4,16 @@ use Rattle.std.specs.Prelude.{nat_le, IsTrue}
 use Rattle.std.specs.List.{list_all}
 use Rattle.std.specs.Coded.{le_prop, Coded-set, codes}
 use Rattle.std.specs.Char.{is_ascii_digit, is_ascii_alphanumeric}
+use Rattle.gr_oql.specs.Grammar.{most_region_bytes}
+use Rattle.gr_stamp.specs.declared.stamp.TheConstants.{LIMIT}
 use Rattle.gr_history.specs.declared.query_ask.QueryAsk.{QueryAsk}
 use Rattle.gr_history.specs.declared.query_ask.QueryAsk.TheVariants as query
 use Rattle.gr_script.specs.declared.line.Act.{Act}
 use Rattle.gr_script.specs.declared.line.Act.TheVariants.{Call, Query, Peek}
 use Rattle.gr_script.specs.declared.line.Line.{Line}
 use Rattle.gr_script.specs.declared.line.Line.TheVariants.{Step, Deliver, Report, Hear, Sweep, Join}
+use Rattle.gr_script.specs.Limits.{most_members, most_shards, most_inbox, most_trouble, most_clients, most_reports, most_hears}
+use Rattle.gr_script.specs.Limits.{most_sweeps, most_moment, most_opens, most_queries}
 use Rattle.gr_script.specs.Rests.{IsRest, IsRest-prop}
 use Rattle.gr_script.specs.Steps.{step_count, reports_of, joins_of, opens, queries, reports, hears, sweeps}
 
@@ -45,9 +49,9 @@ abbrev pub begins_word : List ℕ → Bool
 begins_word [] = false
 begins_word (first ∷ _) = not (is_ascii_digit first)
 
--- A word has at most 254 bytes, and doesn't begin with a digit.
+-- A word is no longer than the name of a region, and doesn't begin with a digit.
 abbrev pub is_word : List ℕ → Bool
-is_word bytes = begins_word bytes && nat_le (length bytes) 254 && list_all is_word_byte bytes
+is_word bytes = begins_word bytes && nat_le (length bytes) most_region_bytes && list_all is_word_byte bytes
 
 -- A region is a slash and a word.
 abbrev pub is_region : List ℕ → Bool
@@ -64,13 +68,13 @@ AreWithin least most (number ∷ numbers) = IsWithin least most number × AreWit
 
 pub record IsHeading (h : Heading) : Type 0 where
   pub named : IsTrue (is_region h.region)
-  pub members : IsWithin 1 8 h.members
+  pub members : IsWithin 1 most_members h.members
   pub founders : IsWithin 1 h.members h.founders
-  pub shards : IsWithin 1 32 h.shards
-  pub inbox : IsWithin 1 4096 h.inbox
-  pub trouble : h.trouble ≤ 2147483646
-  pub floor : h.floor ≤ 281474976710655
-  pub few_clients : length h.clients ≤ 64
+  pub shards : IsWithin 1 most_shards h.shards
+  pub inbox : IsWithin 1 most_inbox h.inbox
+  pub trouble : h.trouble ≤ most_trouble
+  pub floor : h.floor ≤ LIMIT
+  pub few_clients : length h.clients ≤ most_clients
   pub at_members : AreWithin 1 h.members h.clients
 
 abbrev pub IsMember : Heading → ℕ → Type 0
@@ -90,11 +94,11 @@ Differ one other = IsTrue (not (one == other))
 
 -- Whether a client may ask this of a query, behind the earlier lines. The query's text is the rest of its line.
 abbrev pub QuerySuits : Heading → List Line → QueryAsk → Type 0
-QuerySuits h past (query.Enrol name query) = (query.asked.region ≡ h.region) × (opens past < 16) × (queries past < 10000)
+QuerySuits h past (query.Enrol name query) = (query.asked.region ≡ h.region) × (opens past < most_opens) × (queries past < most_queries)
     × IsRest query.text
-QuerySuits h past (query.Stop name) = queries past < 10000
-QuerySuits h past (query.Close name) = queries past < 10000
-QuerySuits h past (query.Fetch name) = queries past < 10000
+QuerySuits h past (query.Stop name) = queries past < most_queries
+QuerySuits h past (query.Close name) = queries past < most_queries
+QuerySuits h past (query.Fetch name) = queries past < most_queries
 
 abbrev pub ActSuits : Heading → List Line → Act → Type 0
 ActSuits h past (Call ask) = Unit {0}
@@ -106,10 +110,10 @@ abbrev pub StandsAfter : Heading → List Line → Line → Type 0
 StandsAfter h past (Step client seq act) = IsStated client h × (seq ≡ step_count client past + 1) × ActSuits h past act
 StandsAfter h past (Deliver to client seq) =
     IsMember h to × IsStated client h × IsWithin 1 (step_count client past) seq × Differ to (home_of h client)
-StandsAfter h past (Report member) = IsMember h member × (reports past < 200)
+StandsAfter h past (Report member) = IsMember h member × (reports past < most_reports)
 StandsAfter h past (Hear by of number) =
-    IsMember h by × IsMember h of × IsWithin 1 (reports_of of past) number × Differ by of × (hears past < 1400)
-StandsAfter h past (Sweep member moment) = IsMember h member × (moment ≤ 4294967295) × (sweeps past < 10000)
+    IsMember h by × IsMember h of × IsWithin 1 (reports_of of past) number × Differ by of × (hears past < most_hears)
+StandsAfter h past (Sweep member moment) = IsMember h member × (moment ≤ most_moment) × (sweeps past < most_sweeps)
 StandsAfter h past (Join member from) =
     (h.founders < member) × (member ≤ h.members) × IsWithin 1 h.founders from × (joins_of member past ≡ 0)
 

@@ -9,10 +9,10 @@ use Rattle.gr_script.specs.declared.reason.Reason.{Reason}
 use Rattle.gr_script.specs.declared.reason.Reason.TheVariants.{Header}
 use Rattle.gr_script.specs.declared.saying.Saying.{Saying}
 use Rattle.gr_script.specs.Cuts.{line_count}
-use Rattle.gr_script.specs.Index.{most_lines}
 use Rattle.gr_script.specs.Past.{stage}
 use Rattle.gr_script.specs.Refusals.{past_with}
 use Rattle.gr_script.specs.Texts.{lines_of}
+use Rattle.gr_script.specs.Limits.{most_lines}
 
 -- the lines that the heading cannot lack
 abbrev pub required_lines : ℕ

@@ -10,9 +10,10 @@ use Rattle.gr_script.specs.declared.forms.FieldKind.TheVariants as field
 use Rattle.gr_script.specs.declared.items.Item.{Item}
 use Rattle.gr_script.specs.declared.items.Item.TheVariants.{Word, Number, Member, Client, Ordinal, Step, Key, Value, Query}
 use Rattle.gr_script.specs.declared.items.Setting.{Setting}
-use Rattle.gr_script.specs.Items.{most_clients, is_own}
+use Rattle.gr_script.specs.Items.{is_own}
 use Rattle.gr_script.specs.Rules.{is_region, IsWithin}
 use Rattle.gr_script.specs.Rests.{IsRest}
+use Rattle.gr_script.specs.Limits.{most_clients}
 
 -- A number has at most 20 digits.
 abbrev pub IsShort : ℕ → Type 0

@@ -1,15 +1,16 @@
 -- A text of which the first lines were taken in: what they say, and what is ahead.
-use Rattle.std.specs.Prelude.{◌≡◌, ℕ, ◌+◌, ◌≤◌, ◌<◌, List, [], ◌∷◌, length, take, drop, reverse, Bool, Option, IfSome, IfNone, Result, Ok, Err}
+use Rattle.std.specs.Prelude.{◌≡◌, ℕ, ◌+◌, ◌≤◌, ◌<◌, List, [], ◌∷◌, length, take, drop, reverse, Bool, Option, IfSome, IfNone}
+use Rattle.std.specs.Prelude.{Result, Ok, Err}
 use Rattle.std.specs.List.{cons_option}
 use Rattle.gr_script.specs.declared.line.Line.{Line}
 use Rattle.gr_script.specs.declared.reason.Reason.{Reason}
 use Rattle.gr_script.specs.declared.saying.Saying.{Saying}
-use Rattle.gr_script.specs.Index.{most_lines}
 use Rattle.gr_script.specs.Refusals.{past_with}
 use Rattle.gr_script.specs.Rules.{Heading, IsScript}
 use Rattle.gr_script.specs.Said.{heading_said, lines_said, script_of}
 use Rattle.gr_script.specs.Sayings.{sayings_from}
 use Rattle.gr_script.specs.Texts.{lines_of}
+use Rattle.gr_script.specs.Limits.{most_lines}
 
 pub record Taken : Type 0 where
   pub runs : Bool

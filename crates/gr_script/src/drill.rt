@@ -1,21 +1,11 @@
 ghost use Rattle.std.specs.Prelude.{◌≡◌, ◌≤◌, ◌%◌, ◌/◌, ◌<◌, ◌++◌, codes, IfOk, OnOk};
 ghost use Rattle.std.specs.Fmt.{decimal};
-ghost use Rattle.gr_script.specs.Drill.{drawn, drill_client, drill_key, drill_value, drill_ask, ask_by};
+ghost use Rattle.gr_script.specs.Drill.{drill_client, drill_key, drill_value, drill_ask, ask_by};
 
 use crate::print_line::put_number;
 use gr_history::Ask;
 use gr_value::{Key, Memory, Value};
 use std::alloc::Global;
-
-/// The modulus of the numbers that are drawn.
-const MODULUS: u64 = 2147483647;
-
-/// The number that is drawn behind this one.
-pub(crate) fn drawn(x: u32) -> u32
-    ensures { result ≡ drawn x }
-{
-    (u64::from(x) * 48271 % MODULUS) as u32
-}
 
 /// The client of a step of the drill.
 pub(crate) fn client_of(step: u32) -> u8

@@ -2,9 +2,8 @@ ghost use Rattle.std.specs.Prelude.{◌≡◌, ◌≤◌, ◌++◌, OnOk};
 ghost use Rattle.gr_script.specs.Drill.{drill_steps};
 
 use crate::LineList;
-use crate::drill::drawn;
 use crate::drill_step::push_step;
-use gr_value::Memory;
+use gr_value::{Memory, drawn};
 use std::alloc::Global;
 
 /// The lines of so many steps of the drill.

@@ -3,7 +3,7 @@ ghost use Rattle.std.specs.List.{cons_option};
 ghost use Rattle.gr_script.specs.Tallies.{count_in, CountsOne};
 ghost use Rattle.gr_script.specs.declared.forms.LineKind.TheVariants as kind;
 ghost use Rattle.gr_script.specs.Forms.{is_kind, is_step, rank};
-ghost use Rattle.gr_script.specs.Index.{most_lines, counted};
+ghost use Rattle.gr_script.specs.Index.{counted};
 ghost use Rattle.gr_script.specs.Plain.{IsPlain};
 ghost use Rattle.gr_script.specs.Printed.{act_saying, saying_in};
 ghost use Rattle.gr_script.specs.Said.{line_of as line_said};
@@ -12,6 +12,7 @@ ghost use Rattle.gr_script.specs.Past.{stage, region, members, founders, clients
 ghost use Rattle.gr_script.specs.Past.{homes as homes_of, home, number as number_in, setting, sizes};
 ghost use Rattle.gr_script.specs.Taken.{IsNext, IsTaken, advanced, ahead, lines_taken, said};
 ghost use Rattle.gr_script.specs.Texts.{lines_of};
+ghost use Rattle.gr_script.specs.Limits.{most_lines};
 
 use crate::Line;
 use crate::forms::{LineKind, is_kind, is_step, rank};

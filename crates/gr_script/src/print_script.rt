@@ -3,12 +3,12 @@ ghost use Rattle.std.specs.Fmt.{decimal};
 ghost use Rattle.gr_script.specs.declared.line.Line.{Line as ALine};
 ghost use Rattle.gr_script.specs.Cuts.{line_count};
 ghost use Rattle.gr_script.specs.Forms.{word};
-ghost use Rattle.gr_script.specs.Index.{most_lines};
 ghost use Rattle.gr_script.specs.Printed.{stated_sayings, client_sayings, script_text, IsLineKept};
 ghost use Rattle.gr_script.specs.Printing.{text_of_sayings};
 ghost use Rattle.gr_script.specs.Rules.{Heading as AHeading, IsScript};
 ghost use Rattle.gr_script.specs.Said.{script_of};
 ghost use Rattle.gr_script.specs.Scripts.{heading_of};
+ghost use Rattle.gr_script.specs.Limits.{most_lines};
 
 use crate::Script;
 use crate::forms::LineKind;

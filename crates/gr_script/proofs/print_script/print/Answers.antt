@@ -1,12 +1,12 @@
 use Rattle.std.proofs.Common.{◌≡◌, ◌≤◌, ℕ, List, Ok, All, false, sym, subst}
 use Rattle.gr_script.specs.Cuts.{line_count}
-use Rattle.gr_script.specs.Index.{most_lines}
 use Rattle.gr_script.specs.Printed.{script_text, IsLineKept}
 use Rattle.gr_script.specs.Said.{script_of}
 use Rattle.gr_script.specs.Scripts.{heading_of}
 use Rattle.gr_script.proofs.HeadingBack.{text_back, each_kept}
 use Rattle.gr_script.proofs.PrintLemmas.{whole_printed}
 use Rattle.gr_script.proofs.print_script.print.Goals as goal
+use Rattle.gr_script.specs.Limits.{most_lines}
 
 pub returns : goal.returns
 returns c =
