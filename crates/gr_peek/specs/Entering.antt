@@ -4,7 +4,8 @@ use mathlib.Core.List.{IsPrefix}
 use Rattle.logbook.specs.Pages.{Book}
 use Rattle.gr_peek.specs.declared.eye.PeekEnd.{PeekEnd}
 use Rattle.gr_peek.specs.declared.eye.PeekEnd.TheVariants as end
-use Rattle.gr_peek.specs.Views.{Watching, next_of}
+use Rattle.gr_peek.specs.Views.{Watching}
+use Rattle.gr_value.specs.Counts.{next_of}
 
 -- It knows a list of publications that begins with all that it knew, and with all notes that it had learnt.
 pub record HasEntered (old new : Watching) : Type 0 where

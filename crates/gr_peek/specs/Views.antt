@@ -1,5 +1,5 @@
 -- What contracts see of a copy, its eyes and its notes.
-use Rattle.std.specs.Prelude.{ℕ, ◌+◌, ◌-◌, ◌^◌, Bool, List, min}
+use Rattle.std.specs.Prelude.{ℕ, Bool, List}
 use Rattle.logbook.specs.Pages.{Book}
 use Rattle.gr_oql.specs.declared.event.Turned.{Turned}
 
@@ -20,7 +20,3 @@ pub record Watching : Type 0 where
   pub known : List (List Turned)
   pub told : List (List Turned)
   pub denied : ℕ
-
--- one more, up to the greatest u64, where a count stops
-abbrev pub next_of : ℕ → ℕ
-next_of n = min (n + 1) (2 ^ 64 - 1)
