@@ -42,8 +42,8 @@ use Rattle.gr_post.specs.declared.fate.Fate.{Fate}
 use Rattle.gr_post.specs.declared.fate.Fate.TheVariants.{Last}
 use Rattle.gr_post.specs.declared.stage.Stage.{Stage}
 use Rattle.gr_post.specs.declared.stage.Stage.TheVariants.{Open, Ended, Stopped}
-use Rattle.gr_post.specs.Passes.{Ring, Sending, Rose}
-use Rattle.gr_post.specs.Plan.{Draw, drawn, is_named, number_before, number_after, draws, fate, released_by, held_by, held, released}
+use Rattle.gr_post.specs.Passes.{Ring, Sending}
+use Rattle.gr_post.specs.Plan.{Draw, is_named, number_before, number_after, draws, fate, released_by, held_by, held, released}
 use Rattle.gr_post.specs.Lanes.{
   Way,
   new_way,
@@ -76,6 +76,8 @@ use Rattle.gr_post.specs.Couriers.{
   stopped_line,
   begun,
 }
+use Rattle.gr_value.specs.Counts.{Rose}
+use Rattle.gr_value.specs.Drawing.{drawn}
 
 pub way_of : Line → Way
 way_of d = record { pass = d.pass; waiting = d.waiting; held = []; ready = None }

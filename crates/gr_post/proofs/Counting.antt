@@ -8,24 +8,9 @@ use Rattle.gr_post.specs.declared.fate.Held.{Held}
 use Rattle.gr_post.specs.declared.fate.Fate.{Fate}
 use Rattle.gr_post.specs.declared.fate.Fate.TheVariants.{Once, Twice, Hold, Last}
 use Rattle.gr_post.specs.Mails.{is_end, has_end, IsClosed}
-use Rattle.gr_post.specs.Plan.{
-  Draw,
-  drawn,
-  is_named,
-  number_before,
-  number_after,
-  draws,
-  fate,
-  mails,
-  due,
-  kept,
-  released_by,
-  held_by,
-  held,
-  released,
-  delivered,
-}
+use Rattle.gr_post.specs.Plan.{Draw, is_named, number_before, number_after, draws, fate, mails, due, kept, released_by, held_by, held, released, delivered}
 use Rattle.gr_post.specs.Laws.{times, owed, DeliversEach}
+use Rattle.gr_value.specs.Drawing.{drawn}
 
 abbrev count : (Mail → Bool) → List Mail → ℕ
 count test xs = length (filter test xs)

@@ -8,9 +8,10 @@ use Rattle.gr_post.specs.declared.mail.Mail.TheVariants.{End}
 use Rattle.gr_post.specs.declared.mail.Posted.{Posted}
 use Rattle.gr_post.specs.declared.view.View.{View}
 use Rattle.gr_post.specs.declared.view.Met.{Met}
-use Rattle.gr_post.specs.Mails.{of, is_end, has_end, IsClosed, StartsWith}
+use Rattle.gr_post.specs.Mails.{of, is_end, has_end, IsClosed}
 use Rattle.gr_post.specs.Views.{meeting, met_of, Balances, IsMetInOrder}
 use Rattle.gr_post.proofs.Lists.{nil_right}
+use Rattle.gr_value.specs.Lists.{StartsWith}
 
 -- what was taken of the sender that was met last begins what it sent
 pub met_last : (v u : View) (number : ℕ) (w w' : View) → u.from ≡ number → w ≡ meeting v u → w' ≡ w → (items : List Posted)

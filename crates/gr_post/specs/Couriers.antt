@@ -8,9 +8,10 @@ use Rattle.gr_post.specs.declared.mail.Mail.TheVariants.{End}
 use Rattle.gr_post.specs.declared.mail.Posting.{Posting}
 use Rattle.gr_post.specs.declared.stage.Stage.{Stage}
 use Rattle.gr_post.specs.declared.stage.Stage.TheVariants.{Open, Ended, Stopped}
-use Rattle.gr_post.specs.Passes.{Ring, Sending, Rose}
+use Rattle.gr_post.specs.Passes.{Ring, Sending}
 use Rattle.gr_post.specs.Plan.{Draw, draws, number_after, held, released, delivered}
 use Rattle.gr_post.specs.Lanes.{Way}
+use Rattle.gr_value.specs.Counts.{Rose}
 
 -- the line to one inbox: its pass, and what waits
 pub record Line : Type 0 where

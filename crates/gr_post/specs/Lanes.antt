@@ -26,8 +26,10 @@ use Rattle.gr_post.specs.declared.mail.Mail.TheVariants.{End}
 use Rattle.gr_post.specs.declared.fate.Held.{Held}
 use Rattle.gr_post.specs.declared.fate.Fate.{Fate}
 use Rattle.gr_post.specs.declared.fate.Fate.TheVariants.{Once, Twice, Hold, Last}
-use Rattle.gr_post.specs.Passes.{Ring, Sending, Rose}
-use Rattle.gr_post.specs.Plan.{drawn, is_named, number_before, fate, released_by, held_by}
+use Rattle.gr_post.specs.Passes.{Ring, Sending}
+use Rattle.gr_post.specs.Plan.{is_named, number_before, fate, released_by, held_by}
+use Rattle.gr_value.specs.Counts.{Rose}
+use Rattle.gr_value.specs.Drawing.{drawn}
 
 -- the way to one inbox: its pass, what waits, what is held back, and what was made ready
 pub record Way : Type 0 where

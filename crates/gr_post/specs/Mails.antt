@@ -9,10 +9,6 @@ abbrev pub of : ℕ → List Posted → List Mail
 of p [] = []
 of p (m ∷ ms) = cond (m.from == p) (m.mail ∷ of p ms) (of p ms)
 
--- all begins with first
-abbrev pub StartsWith : {E : Type 0} → List E → List E → Type 0
-StartsWith {E} all first = (rest : List E) × (all ≡ first ++ rest)
-
 -- all ends with last
 abbrev pub EndsWith : {E : Type 0} → List E → List E → Type 0
 EndsWith {E} all last = (first : List E) × (all ≡ first ++ last)

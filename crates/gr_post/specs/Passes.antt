@@ -1,5 +1,5 @@
 -- An inbox and its passes, as their callers see them.
-use Rattle.std.specs.Prelude.{◌≡◌, ℕ, true, ◌+◌, ◌-◌, ◌^◌, ◌<◌, ◌⊎◌, List, [], ◌∷◌, ◌++◌, min}
+use Rattle.std.specs.Prelude.{◌≡◌, ℕ, true, List, [], ◌∷◌, ◌++◌}
 use mathlib.Core.Option.{some}
 use lib.ListN.{get_elem?}
 use Rattle.atomic_table.specs.Seated.{TableId}
@@ -10,6 +10,7 @@ use Rattle.gr_post.specs.declared.view.View.{View}
 use Rattle.gr_post.specs.declared.view.Met.{Met}
 use Rattle.gr_post.specs.Mails.{of}
 use Rattle.gr_post.specs.Views.{IsMetInOrder}
+use Rattle.gr_value.specs.Counts.{next_of}
 
 -- an inbox: which one it is, and how many mails its ring holds
 pub record Ring : Type 0 where
@@ -47,10 +48,6 @@ IsSender token number = (token.me.1 ≡ []) × ((view token).sends ≡ true) × 
 abbrev pub IsTaker : Pass Posted View → Type 0
 IsTaker token = (token.me.1 ≡ []) × ((view token).takes ≡ true)
 
--- a count rose in a call: it is greater afterwards, or stands at the greatest u64, where it stops
-abbrev pub Rose : ℕ → ℕ → Type 0
-Rose old new = (old < new) ⊎ (new ≡ 2 ^ 64 - 1)
-
 -- the passes when they are made
 abbrev pub sender_of : TableId → ℕ → Sending
 sender_of table number = record { table = table; number = number; sent = []; refused = 0 }
@@ -64,7 +61,7 @@ sent_by pass mail = record pass { sent = pass.sent ++ mail ∷ [] }
 
 -- after the inbox was full
 abbrev pub refused_by : Sending → Sending
-refused_by pass = record pass { refused = min (pass.refused + 1) (2 ^ 64 - 1) }
+refused_by pass = record pass { refused = next_of pass.refused }
 
 -- after a mail of the sender was taken
 abbrev pub taken_by : Taking → ℕ → Mail → Taking

@@ -1,5 +1,6 @@
 -- The trouble plan: what a courier does with each mail, by numbers that are drawn.
 use Rattle.std.specs.Prelude.{ℕ, zero, suc, Bool, ◌+◌, ◌-◌, ◌*◌, ◌/◌, ◌%◌, ◌^◌, ◌==◌, if◌then◌else◌, List, [], ◌∷◌, ◌++◌}
+use Rattle.gr_value.specs.Drawing.{drawn}
 use Rattle.gr_post.specs.declared.mail.Mail.{Mail}
 use Rattle.gr_post.specs.declared.mail.Mail.TheVariants.{End}
 use Rattle.gr_post.specs.declared.mail.Posting.{Posting}
@@ -8,10 +9,6 @@ use Rattle.gr_post.specs.declared.fate.Fate.{Fate}
 use Rattle.gr_post.specs.declared.fate.Fate.TheVariants.{Once, Twice, Hold, Last}
 
 -- ---- numbers
-
--- the number that is drawn behind this one
-abbrev pub drawn : ℕ → ℕ
-drawn x = x * 48271 % 2147483647
 
 -- the number with which a courier begins; without trouble every number is 0
 abbrev pub first_number : ℕ → ℕ → ℕ

@@ -5,7 +5,8 @@ use lib.ListN.{get_elem?}
 use Rattle.gr_post.specs.declared.mail.Posted.{Posted}
 use Rattle.gr_post.specs.declared.view.View.{View}
 use Rattle.gr_post.specs.declared.view.Met.{Met}
-use Rattle.gr_post.specs.Mails.{of, StartsWith, EndsWith}
+use Rattle.gr_post.specs.Mails.{of, EndsWith}
+use Rattle.gr_value.specs.Lists.{StartsWith}
 
 -- a pass that was met by the taker
 abbrev pub spent : View

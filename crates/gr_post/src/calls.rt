@@ -1,7 +1,9 @@
 ghost use Rattle.std.specs.Prelude.{◌≡◌, ◌≤◌, ◌<◌, ℕ, [], length, slice_index_or, true, IfNone, IfSome, IfOk, IfErr};
 ghost use Rattle.crossbeam_queue.specs.Fifo.{Held};
-ghost use Rattle.gr_post.specs.Mails.{StartsWith, EndsWith, of, has_end, IsClosed};
-ghost use Rattle.gr_post.specs.Passes.{Sending, Rose, sender_of, taker_of, sent_by, refused_by, taken_by, met_by, IsInOrder, HasAll};
+ghost use Rattle.gr_post.specs.Mails.{EndsWith, of, has_end, IsClosed};
+ghost use Rattle.gr_post.specs.Passes.{Sending, sender_of, taker_of, sent_by, refused_by, taken_by, met_by, IsInOrder, HasAll};
+ghost use Rattle.gr_value.specs.Counts.{Rose};
+ghost use Rattle.gr_value.specs.Lists.{StartsWith};
 
 use crate::inbox::{Full, Inbox};
 use crate::mail::{Mail, Posted};

@@ -1,12 +1,9 @@
 ghost use Rattle.std.specs.Prelude.{◌≡◌, ◌≤◌, IfOk};
-ghost use Rattle.gr_post.specs.Plan.{drawn, first_number, fate};
+ghost use Rattle.gr_post.specs.Plan.{first_number, fate};
 
 use crate::mail::Mail;
 use gr_value::{Copied, Memory};
 use std::alloc::Global;
-
-// The modulus of the numbers that are drawn.
-const MODULUS: u64 = 2147483647;
 
 /// A mail that is held back: it is released with so many mails more, and with 0 only at the end.
 #[derive(Drop)]
@@ -22,13 +19,6 @@ pub enum Fate {
     Twice(Mail, Mail),
     Hold(Held),
     Last,
-}
-
-// The number that is drawn behind this one.
-pub(crate) fn drawn(number: u32) -> u32
-    ensures { result ≡ drawn number }
-{
-    (u64::from(number) * 48271 % MODULUS) as u32
 }
 
 // The number with which a courier begins. Without trouble every number is 0.

@@ -3,9 +3,9 @@ ghost use Rattle.std.specs.Option.{option_to_list};
 ghost use Rattle.std.specs.VecDeque.{deque_len, deque_capacity};
 ghost use Rattle.gr_post.specs.declared.mail.Mail.TheVariants.{End};
 ghost use Rattle.gr_post.specs.declared.fate.Fate.TheVariants.{Last};
-ghost use Rattle.gr_post.specs.Passes.{Rose};
 ghost use Rattle.gr_post.specs.Plan.{fate, due, kept, mails};
 ghost use Rattle.gr_post.specs.Lanes.{settled, at_once, later, Moves, is_none};
+ghost use Rattle.gr_value.specs.Counts.{Rose};
 
 use crate::fate::{Fate, Held};
 use crate::inbox::Inbox;

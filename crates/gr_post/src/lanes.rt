@@ -1,14 +1,14 @@
 ghost use Rattle.std.specs.Prelude.{◌≡◌, ◌≤◌, ◌<◌, ℕ, true, false, Bool, [], Some, IfOk, IfErr, length, slice_index_or, map, vec_capacity, if◌then◌else◌};
 ghost use Rattle.gr_post.specs.declared.fate.Fate.TheVariants.{Last};
-ghost use Rattle.gr_post.specs.Plan.{drawn, number_before};
+ghost use Rattle.gr_post.specs.Plan.{number_before};
 ghost use Rattle.gr_post.specs.Lanes.{Way, new_way, pass_of, Moves, settled, stopped, ready_with, ready_by, ready_for, AreTheirs, AreTried, NoneWaits, WasRefused};
+ghost use Rattle.gr_value.specs.Drawing.{drawn};
 
-use crate::fate::drawn;
 use crate::inbox::Inbox;
 use crate::lane::Lane;
 use crate::mail::Mail;
 use crate::passes::SendPass;
-use gr_value::Memory;
+use gr_value::{Memory, drawn};
 use std::alloc::Global;
 use std::sync::Wait;
 

@@ -1,7 +1,7 @@
 use Rattle.std.proofs.Common.{◌≡◌, ◌≤◌, ◌<◌, ℕ, true, false, [], length, get_or}
-use Rattle.gr_post.specs.Passes.{Rose}
 use Rattle.gr_post.specs.Lanes.{Way, Moves, is_none}
 use Rattle.gr_post.proofs.lanes.send_each.Given as goal
+use Rattle.gr_value.specs.Counts.{Rose}
 
 abbrev pub invariant-loop-place : goal.invariant-loop-place
 invariant-loop-place g l = record {

@@ -1,11 +1,12 @@
 use Rattle.std.proofs.Common.{ap, ◌∙◌, subst}
 use Rattle.crossbeam_queue.specs.Passes.{view}
 use Rattle.gr_post.specs.declared.view.View.{View}
-use Rattle.gr_post.specs.Mails.{of, StartsWith}
+use Rattle.gr_post.specs.Mails.{of}
 use Rattle.gr_post.specs.Passes.{Sending}
 use Rattle.gr_post.proofs.Steps.{merges, balances}
 use Rattle.gr_post.proofs.Ends.{met_last, in_order, closes}
 use Rattle.gr_post.proofs.inbox.Inbox.meet.Goals as goal
+use Rattle.gr_value.specs.Lists.{StartsWith}
 
 pub absorb-requires-clause-rule : goal.absorb-requires-clause-rule
 absorb-requires-clause-rule c = merges _ _ _ _ c.into.invariant.1 c.from.invariant.1
