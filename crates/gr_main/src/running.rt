@@ -1,6 +1,7 @@
 ghost use Rattle.std.specs.Prelude.{◌≡◌};
 ghost use Rattle.std.specs.Process.{exit_status};
-ghost use Rattle.gr_top.specs.Outcomes.{IsRun, stream};
+ghost use Rattle.gr_top.specs.Outcomes.{IsRun};
+ghost use Rattle.gr_io.specs.Streams.{stream};
 
 use gr_io::{Sink, Source};
 use gr_top::{Arguments, Cause, conclude, given_words, program};

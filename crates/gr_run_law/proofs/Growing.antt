@@ -6,7 +6,7 @@ use Rattle.std.specs.List.{filter_map, cons_option}
 use Rattle.std.proofs.lemmas.Grind.{flat_map-append}
 use Rattle.gr_value.specs.declared.value.Field.{Field}
 use Rattle.gr_value.specs.Shard.{shard_of}
-use Rattle.gr_turn.specs.Views.{times, StartsWith}
+use Rattle.gr_turn.specs.Views.{times}
 use Rattle.gr_history.specs.Asks.{key_of}
 use Rattle.gr_history.specs.declared.deed.Deed.{Deed}
 use Rattle.gr_history.specs.declared.deed.Deed.TheVariants.{Call, Asked, Taken, Gave, Imaged, Reported, Heard, Swept}
@@ -18,6 +18,7 @@ use Rattle.gr_run_law.specs.Shares.{Stands, Owner, Client, Thread, Giver, AreSha
 use Rattle.gr_run_law.specs.Duties.{gift_in, given_to, own_where}
 use Rattle.gr_run_law.specs.Threads.{LooksFit, behind_first, rest_if, seen_if}
 use Rattle.gr_run_law.proofs.Lists.{get_front, get_last, same_number}
+use Rattle.gr_value.specs.Lists.{StartsWith}
 
 -- ---- what stands
 

@@ -2,7 +2,7 @@ ghost use Rattle.std.specs.Prelude.{◌≡◌, ℕ, suc, ◌≤◌, ◌<◌, Lis
 ghost use Rattle.std.specs.List.{filter_map};
 ghost use Rattle.gr_value.specs.declared.value.Field.{Field};
 ghost use Rattle.gr_value.specs.Shard.{shard_of};
-ghost use Rattle.gr_turn.specs.Views.{StartsWith, times};
+ghost use Rattle.gr_turn.specs.Views.{times};
 ghost use Rattle.gr_history.specs.declared.deed.Deed.{Deed};
 ghost use Rattle.gr_history.specs.declared.deed.Deed.TheVariants.{Gave};
 ghost use Rattle.gr_history.specs.declared.image.What.{What};
@@ -25,6 +25,7 @@ ghost use Rattle.gr_run_law.specs.Runs.{AreRounds, DoesDuties, GivesGifts, Hears
 ghost use Rattle.gr_world.specs.Served.{Looked, Served, all_deeds_of, client_of};
 ghost use Rattle.gr_run_law.specs.Shares.{AreShared, AreSharedSoFar, Owner, Stands, with_owner};
 ghost use Rattle.gr_run_law.specs.Small.{small_histories, small_lines, small_served, three};
+ghost use Rattle.gr_value.specs.Lists.{StartsWith};
 
 /// What the threads of a run leave is a run: lawful histories with integrity, clients that were served,
 /// and as many reports, sweeps, images, gifts, taken changes and heard reports as the lines and the

@@ -8,7 +8,8 @@ use Rattle.gr_top.specs.declared.cause.Cause.TheVariants.{Finished, Usage, ReadF
 use Rattle.gr_history.specs.declared.record.Record.{Record}
 use Rattle.gr_top.specs.declared.words.Mode.{Mode}
 use Rattle.gr_top.specs.declared.words.Mode.TheVariants.{Check, Replay}
-use Rattle.gr_top.specs.Outcomes.{Stream, Keeps, Prints, IsWritten, Explains, IsWhole, IsWithin}
+use Rattle.gr_top.specs.Outcomes.{Keeps, Prints, IsWritten, Explains, IsWhole, IsWithin}
+use Rattle.gr_io.specs.Streams.{Stream}
 
 -- seven texts, joined from either end
 in_turn : (a b c d e f g : List ℕ) → a ++ b ++ c ++ d ++ e ++ f ++ g ≡ a ++ (b ++ (c ++ (d ++ (e ++ (f ++ g)))))

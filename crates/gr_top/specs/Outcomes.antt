@@ -1,9 +1,9 @@
 -- What each cause says of the words, the source, the sink and the record.
-use Rattle.std.specs.Prelude.{◌≡◌, ◌⊎◌, ℕ, ◌+◌, ◌≤◌, List, length, Option, None, Result, Ok, Err, false, IfSome, IsSomeAnd}
-use Rattle.std.specs.Io.KnownBytes.{IsAtEnd, Appends, Consumes}
+use Rattle.std.specs.Prelude.{◌≡◌, ◌⊎◌, ℕ, ◌+◌, List, length, Option, None, Result, Ok, Err, false, IfSome, IsSomeAnd}
+use Rattle.std.specs.Io.KnownBytes.{Appends, Consumes}
 use Rattle.gr_history.specs.declared.record.Record.{Record}
-use Rattle.gr_io.specs.Faults.{Rose}
-use Rattle.gr_io.specs.Ends.{AppendsPart, TakesAtMost}
+use Rattle.gr_io.specs.Ends.{AppendsPart}
+use Rattle.gr_io.specs.Streams.{Stream, IsUntouched, Counted, IsAllOf, TookAtMost, IsPut}
 use Rattle.gr_report.specs.Report.{record_text}
 use Rattle.gr_script.specs.declared.ending.ScriptEnd.TheVariants as end
 use Rattle.gr_script.specs.declared.ending.ScriptFault.{ScriptFault}
@@ -26,26 +26,9 @@ use Rattle.gr_top.specs.Arguments.{AreWords}
 abbrev pub most_bytes : ℕ
 most_bytes = 8388608
 
--- A source or a sink, before and after a call: its bytes, where it tells them, and its count of faults.
-pub record Stream : Type 0 where
-  pub bytes_before : Option (List ℕ)
-  pub bytes_after : Option (List ℕ)
-  pub faults_before : ℕ
-  pub faults_after : ℕ
-
-abbrev pub stream : Option (List ℕ) → Option (List ℕ) → ℕ → ℕ → Stream
-stream before after had has = record { bytes_before = before; bytes_after = after; faults_before = had; faults_after = has }
-
--- Nothing happened to it.
-pub record IsUntouched (stream : Stream) : Type 0 where
-  pub bytes : stream.bytes_after ≡ stream.bytes_before
-  pub faults : stream.faults_after ≡ stream.faults_before
-
 -- The text is all that the source had, and no longer than a script may be.
-pub record IsWhole (source : Stream) (text : List ℕ) : Type 0 where
-  pub taken : Consumes source.bytes_before source.bytes_after text
-  pub ended : IsAtEnd source.bytes_after
-  pub fits : length text ≤ most_bytes
+abbrev pub IsWhole : Stream → List ℕ → Type 0
+IsWhole source text = IsAllOf most_bytes source text
 
 -- The text is this script.
 abbrev pub IsRead : List ℕ → TheScript → Type 0
@@ -86,10 +69,7 @@ pub record HasTooManyLines (source : Stream) (bytes lines : ℕ) : Type 0 where
 
 -- No more was taken of the source than a script may have.
 abbrev pub IsWithin : Stream → Type 0
-IsWithin source = TakesAtMost most_bytes source.bytes_before source.bytes_after
-
-abbrev pub Counted : Stream → Type 0
-Counted stream = Rose stream.faults_before stream.faults_after
+IsWithin source = TookAtMost most_bytes source
 
 -- the record that is kept, if one is: none by a check
 abbrev pub Keeps : Mode → Stream → Option Record → Type 0
@@ -139,8 +119,7 @@ IsWritten sink text _ = ⊥
 
 -- The cause's line was written, or a part of it where the sink's count rose.
 abbrev pub IsTold : Stream → Cause → Type 0
-IsTold errors cause = Appends errors.bytes_before errors.bytes_after (text_of_cause cause)
-    ⊎ (AppendsPart errors.bytes_before errors.bytes_after (text_of_cause cause) × Counted errors)
+IsTold errors cause = IsPut errors (text_of_cause cause)
 
 -- How the program answered its words: for one cause, which its status, its line and all that it read, wrote and kept agree with.
 pub record IsAnswered (words : List (List ℕ)) (source sink errors : Stream) (status : ℕ) : Type 0 where

@@ -1,8 +1,9 @@
 ghost use Rattle.std.specs.Prelude.{◌≡◌, map, string_bytes, Some, None, MatchResult, Bool};
 ghost use Rattle.gr_top.specs.Causes.{status_of};
-ghost use Rattle.gr_top.specs.Outcomes.{Answers, Explains, IsPrinted, IsReplayOf, IsWritten, Prints, Stops, Stream, stream};
+ghost use Rattle.gr_top.specs.Outcomes.{Answers, Explains, IsPrinted, IsReplayOf, IsWritten, Prints, Stops};
 ghost use Rattle.gr_top.specs.Words.{mode_of};
 ghost use Rattle.gr_top.specs.declared.words.Mode.TheVariants as mode;
+ghost use Rattle.gr_io.specs.Streams.{stream, Stream};
 
 use crate::giving::{cause_of, script_from, text_from};
 use crate::words::{Mode, mode_of};

@@ -1,6 +1,7 @@
 ghost use Rattle.std.specs.Prelude.{◌≡◌, map, string_bytes};
 ghost use Rattle.gr_top.specs.Causes.{status_of};
-ghost use Rattle.gr_top.specs.Outcomes.{IsAnswered, IsTold, stream};
+ghost use Rattle.gr_top.specs.Outcomes.{IsAnswered, IsTold};
+ghost use Rattle.gr_io.specs.Streams.{stream};
 
 use crate::answering::replay_words;
 use crate::cause_texts::tell;

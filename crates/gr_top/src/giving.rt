@@ -1,8 +1,9 @@
 ghost use Rattle.std.specs.Prelude.{ℕ, List, false, MatchResult};
 ghost use Rattle.gr_script.specs.Said.{script_of};
 ghost use Rattle.gr_script.specs.Sayings.{Ends};
-ghost use Rattle.gr_top.specs.Outcomes.{IsGiven, IsWhole, Stops, Stream, stream};
+ghost use Rattle.gr_top.specs.Outcomes.{IsGiven, IsWhole, Stops};
 ghost use Rattle.gr_top.specs.declared.words.Mode.{Mode as AMode};
+ghost use Rattle.gr_io.specs.Streams.{stream, Stream};
 
 use crate::Cause;
 use gr_io::{ReadEnd, Source, read_all};
