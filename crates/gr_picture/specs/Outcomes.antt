@@ -1,8 +1,8 @@
 -- What each cause says of the source and the sink, and what a run of the program of pictures leaves.
-use Rattle.std.specs.Prelude.{◌≡◌, ◌⊎◌, ℕ, ◌+◌, ◌≤◌, List, ◌++◌, length, codes, Option}
-use Rattle.std.specs.Io.KnownBytes.{IsAtEnd, Appends, Consumes}
-use Rattle.gr_io.specs.Faults.{Rose}
-use Rattle.gr_io.specs.Ends.{AppendsPart, TakesAtMost}
+use Rattle.std.specs.Prelude.{◌≡◌, ℕ, ◌+◌, List, ◌++◌, length, codes}
+use Rattle.std.specs.Io.KnownBytes.{Appends, Consumes}
+use Rattle.gr_io.specs.Ends.{AppendsPart}
+use Rattle.gr_io.specs.Streams.{Stream, IsUntouched, Counted, IsAllOf, TookAtMost, IsPut}
 use Rattle.gr_picture.specs.CauseTexts.{text_of_cause}
 use Rattle.gr_picture.specs.Statuses.{status_of}
 use Rattle.gr_picture.specs.declared.cause.Cause.{Cause}
@@ -12,33 +12,13 @@ use Rattle.gr_picture.specs.declared.cause.Cause.TheVariants.{Finished, ReadFaul
 abbrev pub most_bytes : ℕ
 most_bytes = 67108864
 
--- A source or a sink, before and after a call: its bytes, where it tells them, and its count of faults.
-pub record Stream : Type 0 where
-  pub bytes_before : Option (List ℕ)
-  pub bytes_after : Option (List ℕ)
-  pub faults_before : ℕ
-  pub faults_after : ℕ
-
-abbrev pub stream : Option (List ℕ) → Option (List ℕ) → ℕ → ℕ → Stream
-stream before after had has = record { bytes_before = before; bytes_after = after; faults_before = had; faults_after = has }
-
--- Nothing happened to it.
-pub record IsUntouched (stream : Stream) : Type 0 where
-  pub bytes : stream.bytes_after ≡ stream.bytes_before
-  pub faults : stream.faults_after ≡ stream.faults_before
-
-abbrev pub Counted : Stream → Type 0
-Counted stream = Rose stream.faults_before stream.faults_after
-
 -- The report is all that the source had, and no longer than a report may be.
-pub record IsWhole (source : Stream) (report : List ℕ) : Type 0 where
-  pub taken : Consumes source.bytes_before source.bytes_after report
-  pub ended : IsAtEnd source.bytes_after
-  pub fits : length report ≤ most_bytes
+abbrev pub IsWhole : Stream → List ℕ → Type 0
+IsWhole source report = IsAllOf most_bytes source report
 
 -- No more was taken of the source than a report may have.
 abbrev pub IsWithin : Stream → Type 0
-IsWithin source = TakesAtMost most_bytes source.bytes_before source.bytes_after
+IsWithin source = TookAtMost most_bytes source
 
 -- The source had more bytes than a report may have, and one more than these was taken.
 pub record HasTooMany (source : Stream) : Type 0 where
@@ -84,8 +64,7 @@ Stops source cause = (sink : Stream) → IsUntouched sink → Explains source si
 
 -- The cause's line was written, or a part of it where the sink's count rose.
 abbrev pub IsTold : Stream → Cause → Type 0
-IsTold errors cause = Appends errors.bytes_before errors.bytes_after (text_of_cause cause)
-    ⊎ (AppendsPart errors.bytes_before errors.bytes_after (text_of_cause cause) × Counted errors)
+IsTold errors cause = IsPut errors (text_of_cause cause)
 
 -- How a run of the program ended: for one cause, which its status, its line and all that it read and wrote agree with.
 pub record IsRun (source sink errors : Stream) (status : ℕ) : Type 0 where

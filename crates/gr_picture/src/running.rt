@@ -1,6 +1,7 @@
 ghost use Rattle.std.specs.Prelude.{◌≡◌, MatchResult, string_bytes};
 ghost use Rattle.gr_picture.specs.Statuses.{status_of};
-ghost use Rattle.gr_picture.specs.Outcomes.{Explains, IsDrawn, IsRun, IsTold, IsWhole, Stops, stream};
+ghost use Rattle.gr_picture.specs.Outcomes.{Explains, IsDrawn, IsRun, IsTold, IsWhole, Stops};
+ghost use Rattle.gr_io.specs.Streams.{stream};
 
 use crate::cause::Cause;
 use crate::drawing::drawn;

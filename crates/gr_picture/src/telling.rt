@@ -1,8 +1,8 @@
 ghost use Rattle.std.specs.Prelude.{◌≤◌, OnOk, OnErr};
 ghost use Rattle.std.specs.Io.KnownBytes.{Appends};
 ghost use Rattle.gr_io.specs.Ends.{AppendsPart};
-ghost use Rattle.gr_io.specs.Faults.{Rose};
 ghost use Rattle.gr_picture.specs.CauseTexts.{text_of_cause};
+ghost use Rattle.gr_value.specs.Counts.{Rose};
 
 use crate::cause::Cause;
 use gr_io::{Sink, WriteFault, write_each};
