@@ -1,12 +1,12 @@
 -- What each query is told, step by step.
-use Rattle.std.proofs.Common.{◌≡◌, ℕ, zero, suc, ◌+◌, ◌≤◌, ◌<◌, List, [], ◌∷◌, ◌++◌, length, take, drop, get_or, Vec}
+use Rattle.std.proofs.Common.{◌≡◌, ℕ, zero, suc, ◌+◌, ◌≤◌, ◌<◌, List, [], ◌∷◌, ◌++◌, length, take, drop, max, get_or, Vec}
 use Rattle.std.proofs.Common.{Global, refl, sym, ap, ◌∙◌, subst, arith, add-one}
 use Rattle.std.specs.List.{AllByRecursion}
 use Rattle.gr_oql.specs.declared.event.Event.{Event}
 use Rattle.gr_oql.specs.declared.event.Turned.{Turned}
 use Rattle.gr_cq.specs.declared.open.Open.{Open}
 use Rattle.gr_cq.specs.Entries.{Entry, with_kept, kept_with, coming_to, noted}
-use Rattle.gr_cq.specs.Foresight.{told_each, coming_to_each}
+use Rattle.gr_cq.specs.Foresight.{told_each, coming_to_each, longest}
 use Rattle.gr_cq.specs.View.{entry_of, entries_of, events_in, HaveRoom, Fit}
 
 abbrev Lists : Type 0
@@ -28,6 +28,18 @@ pub longest_more : (most before : ℕ) (lists : Lists) (i : ℕ) (d : Vec Event 
     lists))
 longest_more most before lists i d more lt this all =
     subst (λ n. AreWithin most (events_in (take n lists))) (sym (add-one i)) (longest_next most before lists i d more lt this all)
+
+longest_next_is : (lists : Lists) (i : ℕ) (d : Vec Event Global) → i < length lists
+    → longest (events_in (take (suc i) lists)) ≡ max (longest (events_in (take i lists))) (length (get_or lists i d).items)
+longest_next_is [] i d lt = absurd (omega (arith, lt))
+longest_next_is (events ∷ lists) zero d lt = omega arith
+longest_next_is (events ∷ lists) (suc i) d lt =
+    let next = longest_next_is lists i d (omega (arith, lt)) in omega (arith, next)
+
+pub longest_more_is : (lists : Lists) (i : ℕ) (d : Vec Event Global) → i < length lists
+    → longest (events_in (take (i + 1) lists)) ≡ max (longest (events_in (take i lists))) (length (get_or lists i d).items)
+longest_more_is lists i d lt =
+    ap (λ n. longest (events_in (take n lists))) (add-one i) ∙ longest_next_is lists i d lt
 
 abbrev no_queries : List Open
 no_queries = []

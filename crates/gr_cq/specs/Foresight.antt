@@ -1,5 +1,5 @@
 -- A call that was foreseen.
-use Rattle.std.specs.Prelude.{◌≡◌, ◌≤◌, ℕ, List, [], ◌∷◌, ◌++◌, length, map, Some, None}
+use Rattle.std.specs.Prelude.{◌≡◌, ◌≤◌, ℕ, List, [], ◌∷◌, ◌++◌, length, map, max, Some, None}
 use Rattle.std.specs.List.{AllByRecursion}
 use Rattle.gr_oql.specs.declared.event.Event.{Event}
 use Rattle.gr_oql.specs.declared.event.Turned.{Turned}
@@ -41,6 +41,17 @@ abbrev pub IsWithin : ℕ → Change → Type 0
 IsWithin spare (Enrolling entry) = Unit {0}
 IsWithin spare (Taking client name) = Unit {0}
 IsWithin spare (Telling lists) = AllByRecursion (λ (events : List Event). length events ≤ spare) lists
+
+-- the length of the longest list, and at least 1
+abbrev pub longest : List (List Event) → ℕ
+longest [] = 1
+longest (events ∷ lists) = max (length events) (longest lists)
+
+-- for how many events it wants room at each query
+abbrev pub room_of : Change → ℕ
+room_of (Enrolling entry) = 1
+room_of (Taking client name) = 1
+room_of (Telling lists) = longest lists
 
 -- It was made for this registry as it is, and there is room for it.
 pub record IsMadeFor (queries : Queries) (foreseen : Foresight) : Type 0 where

@@ -1,6 +1,6 @@
 ghost use Rattle.std.specs.Prelude.{◌≡◌, ◌≤◌, [], IfOk};
 ghost use Rattle.gr_cq.specs.Entries.{entry_opened};
-ghost use Rattle.gr_cq.specs.Foresight.{Enrolling, Taking, Telling, IsWithin, coming_to_each};
+ghost use Rattle.gr_cq.specs.Foresight.{Enrolling, Taking, Telling, IsWithin, coming_to_each, room_of};
 ghost use Rattle.gr_cq.specs.View.{entries_of};
 
 use crate::Turned;
@@ -88,7 +88,8 @@ impl Foreseen {
     }
 
     /// For how many events there must be room at each query, and at least 1.
-    pub(crate) fn room(&self) -> usize
+    pub fn room(&self) -> usize
+        ensures room { result ≡ room_of self.now.change }
         ensures some { 1 ≤ result }
         ensures within { IsWithin result self.now.change }
     {

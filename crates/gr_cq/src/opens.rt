@@ -2,7 +2,7 @@ ghost use Rattle.std.specs.Prelude.{◌≡◌, ◌≤◌, ◌<◌, ℕ, List, le
 ghost use Rattle.std.specs.List.{AllByRecursion};
 ghost use Rattle.gr_oql.specs.declared.event.Event.{Event};
 ghost use Rattle.gr_cq.specs.Entries.{is_at, find, changed_at, kept_stopped, kept_taken};
-ghost use Rattle.gr_cq.specs.Foresight.{changed, coming_to_each, told_each};
+ghost use Rattle.gr_cq.specs.Foresight.{changed, coming_to_each, longest, told_each};
 ghost use Rattle.gr_cq.specs.View.{kept_of, entry_of, entries_of, events_in, change_of, HaveRoom, Fit, FitsIn};
 
 use crate::Turned;
@@ -64,8 +64,9 @@ pub fn coming_to_each(
 
 /// The length of the longest list, and at least 1.
 pub fn longest(lists: &[Vec<Event>]) -> usize
+    ensures longest { result ≡ longest (events_in lists.now) }
     ensures some { 1 ≤ result }
-    ensures longest { AllByRecursion (λ (events : List Event). length events ≤ result) (events_in lists.now) }
+    ensures within { AllByRecursion (λ (events : List Event). length events ≤ result) (events_in lists.now) }
 {
     let mut most = 1;
     for events in lists {

@@ -1,7 +1,7 @@
-ghost use Rattle.std.specs.Prelude.{◌≡◌, ◌≤◌, ◌==◌, [], length, IfOk, OnOk, OnErr};
+ghost use Rattle.std.specs.Prelude.{◌≡◌, ◌≤◌, ◌==◌, [], length, IfOk, OnOk, OnErr, option_map};
 ghost use Rattle.gr_cq.specs.Entries.{find, changed_at, kept_stopped, kept_taken, enrolled, closed, noted, entry_opened};
 ghost use Rattle.gr_cq.specs.Ends.{enrol_end, stop_end, known_end, ended, EndsBy, waiting_of};
-ghost use Rattle.gr_cq.specs.Foresight.{changed, IsMadeFor, IsWithin, Enrolling, Taking, Telling, coming_to_each};
+ghost use Rattle.gr_cq.specs.Foresight.{changed, IsMadeFor, IsWithin, Enrolling, Taking, Telling, coming_to_each, room_of};
 ghost use Rattle.gr_cq.specs.Coming.{coming_end, given, entries_after};
 
 use crate::foreseen::Foreseen;
@@ -53,6 +53,20 @@ impl Registry {
         ensures { result ≡ length self.now.entries == 0 }
     {
         self.all.is_empty()
+    }
+
+    /// For how many events there is room at each query.
+    pub fn spare(&self) -> usize
+        ensures { result ≡ self.now.spare }
+    {
+        self.spare
+    }
+
+    /// Whether the query of that client and name runs, where it is open.
+    pub fn runs(&self, client: u8, name: &Key) -> Option<bool>
+        ensures { result ≡ option_map (λ kept. kept.runs) (find client name.now self.now.entries) }
+    {
+        Some(find_open(&self.all, client, name)?.runs())
     }
 
     /// Opens a query, which runs from now on.
@@ -128,7 +142,9 @@ impl Registry {
     pub fn foresee(&mut self, alloc: Global, coming: &Coming) -> Result<Foreseen, QueryEnd>
         ensures refused { EndsBy (coming_end coming.now self.old.entries) result }
         ensures entries { self.new.entries ≡ self.old.entries }
+        ensures keeps { self.old.spare ≤ self.new.spare }
         ensures made { IfOk result (IsMadeFor self.new) }
+        ensures room { IfOk result (λ foreseen. room_of foreseen.change ≤ self.new.spare) }
         ensures leaves { IfOk result (λ foreseen. changed foreseen.change self.old.entries ≡ entries_after coming.now self.old.entries) }
         ensures gives { IfOk result (λ foreseen. foreseen.given ≡ given coming.now self.old.entries) }
         ensures err { OnErr result (self.new ≡ self.old) }
@@ -159,6 +175,7 @@ impl Registry {
     // Makes room for one query more, and for so many events at each query.
     fn make_room(&mut self, room: usize) -> Result<(), Memory>
         ensures entries { self.new.entries ≡ self.old.entries }
+        ensures keeps { self.old.spare ≤ self.new.spare }
         ensures ok { OnOk result (room ≤ self.new.spare) }
         ensures err { OnErr result (self.new ≡ self.old) }
     {
@@ -174,7 +191,8 @@ impl Registry {
     // Makes room for what was foreseen.
     fn ready(&mut self, foreseen: Foreseen) -> Result<Foreseen, Memory>
         ensures entries { self.new.entries ≡ self.old.entries }
-        ensures room { OnOk result ((1 ≤ self.new.spare) × IsWithin self.new.spare foreseen.change) }
+        ensures keeps { self.old.spare ≤ self.new.spare }
+        ensures room { OnOk result ((1 ≤ self.new.spare) × IsWithin self.new.spare foreseen.change × (room_of foreseen.change ≤ self.new.spare)) }
         ensures same { IfOk result (λ same. same ≡ foreseen) }
         ensures err { OnErr result (self.new ≡ self.old) }
     {
@@ -191,7 +209,9 @@ impl Registry {
     ) -> Result<Foreseen, QueryEnd>
         ensures refused { EndsBy (enrol_end (find client name.now self.old.entries)) result }
         ensures entries { self.new.entries ≡ self.old.entries }
+        ensures keeps { self.old.spare ≤ self.new.spare }
         ensures made { IfOk result (IsMadeFor self.new) }
+        ensures room { IfOk result (λ foreseen. room_of foreseen.change ≤ self.new.spare) }
         ensures tells { IfOk result (λ foreseen. foreseen ≡ record { change = Enrolling (entry_opened client name.now query.now); given = [] }) }
         ensures err { OnErr result (self.new ≡ self.old) }
     {
@@ -205,7 +225,9 @@ impl Registry {
     fn foresee_take(&mut self, alloc: Global, client: u8, name: &Key) -> Result<Foreseen, QueryEnd>
         ensures refused { EndsBy (known_end (find client name.now self.old.entries)) result }
         ensures entries { self.new.entries ≡ self.old.entries }
+        ensures keeps { self.old.spare ≤ self.new.spare }
         ensures made { IfOk result (IsMadeFor self.new) }
+        ensures room { IfOk result (λ foreseen. room_of foreseen.change ≤ self.new.spare) }
         ensures tells { IfOk result (λ foreseen. foreseen ≡ record { change = Taking client name.now; given = waiting_of (find client name.now self.old.entries) }) }
         ensures err { OnErr result (self.new ≡ self.old) }
     {
@@ -218,7 +240,9 @@ impl Registry {
 
     fn foresee_note(&mut self, alloc: Global, turned: &[Turned]) -> Result<Foreseen, Memory>
         ensures entries { self.new.entries ≡ self.old.entries }
+        ensures keeps { self.old.spare ≤ self.new.spare }
         ensures made { IfOk result (IsMadeFor self.new) }
+        ensures room { IfOk result (λ foreseen. room_of foreseen.change ≤ self.new.spare) }
         ensures tells { IfOk result (λ foreseen. foreseen ≡ record { change = Telling (coming_to_each turned.now self.old.entries); given = [] }) }
         ensures err { OnErr result (self.new ≡ self.old) }
     {
