@@ -187,7 +187,7 @@ late_passes clock (Some slot) = at_kind (is_removal slot.kind)
 
 -- The keys that were found by the moments are those of the slots that have timed out.
 pub due_is : (clock : ℕ) (slots : Entries) (removals : Moments) (moments : List ℕ) (found : BTreeSet (List ℕ))
-    → AreIndexed slots removals → moments ≡ filter (is_late clock) (keys removals)
+    → AreIndexed None slots removals → moments ≡ filter (is_late clock) (keys removals)
     → ((q : List ℕ) → contains (slice_cmp nat_cmp) found q ≡ is_removed_among moments (slot_at q slots))
     → IsOrdered (slice_cmp nat_cmp) found → found.keys ≡ timed_out clock slots
 due_is clock slots removals moments found are late finds ordered =

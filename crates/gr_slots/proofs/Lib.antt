@@ -4,7 +4,9 @@ pub mod Found
 pub mod Links
 pub mod Listed
 pub mod Lists
+pub mod Merged
 pub mod Ordered
 pub mod Sifted
 pub mod Tied
 pub mod Timed
+pub mod Waiting

@@ -1,5 +1,5 @@
 -- The keys whose removals came in at each moment, and how they are tied to the slots.
-use Rattle.std.specs.Prelude.{◌≡◌, ℕ, List, [], Bool, true, false, ◌==◌, Option, Some, None}
+use Rattle.std.specs.Prelude.{◌≡◌, ℕ, List, [], Bool, true, false, ◌==◌, ◌||◌, Option, Some, None}
 use Rattle.std.specs.Global.{Vec}
 use Rattle.std.specs.Ordering.{nat_cmp}
 use Rattle.std.specs.Cmp.Lexicographic.{slice_cmp}
@@ -39,8 +39,14 @@ is_removed_at at slot = is_moment at (removed_at slot)
 abbrev pub is_removed_among : List ℕ → Option Slot → Bool
 is_removed_among moments slot = list_any (λ at. is_removed_at at slot) moments
 
--- Each removal that stands is listed at its moment. What else is listed is stale.
-pub record AreIndexed (slots : Entries) (removals : Moments) : Type 0 where
+-- whether it is this key, if there is one
+abbrev pub is_one : Option (List ℕ) → List ℕ → Bool
+is_one None key = false
+is_one (Some one) key = is_at (slice_cmp nat_cmp one) key
+
+-- Each removal that stands is listed at its moment, if it isn't that of the one key that may be unlisted. What else is listed is stale.
+pub record AreIndexed (unlisted : Option (List ℕ)) (slots : Entries) (removals : Moments) : Type 0 where
   pub ordered : IsStrictlySortedBy (slice_cmp nat_cmp) (keys_of slots)
   pub in_time : IsOrdered nat_cmp removals
-  pub listed : (key : List ℕ) (at : ℕ) → is_removed_at at (slot_at key slots) ≡ true → is_listed key (keys_at removals at) ≡ true
+  pub listed : (key : List ℕ) (at : ℕ) → is_removed_at at (slot_at key slots) ≡ true
+      → (is_one unlisted key || is_listed key (keys_at removals at)) ≡ true

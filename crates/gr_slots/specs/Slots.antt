@@ -10,6 +10,11 @@ use Rattle.gr_slots.specs.declared.slot.Slot.{Slot}
 abbrev pub Entries : Type 0
 Entries = List (List ℕ × Slot)
 
+-- the slots by their keys, in order, and the moment, if any, at which one slot more may come in without memory
+pub record HeldSlots : Type 0 where
+  pub entries : Entries
+  pub room : Option ℕ
+
 abbrev is_key : List ℕ → List ℕ → Bool
 is_key key = is_at (slice_cmp nat_cmp key)
 

@@ -1,4 +1,4 @@
-ghost use Rattle.std.specs.Prelude.{◌≡◌, [], OnOk, OnErr, IfOk, map, option_copied, option_map, IfSome, None};
+ghost use Rattle.std.specs.Prelude.{◌≡◌, [], OnOk, OnErr, IfOk, IfErr, map, option_copied, option_map, IfSome, None};
 ghost use Rattle.std.specs.Ordering.{nat_cmp};
 ghost use Rattle.std.specs.Cmp.Lexicographic.{slice_cmp};
 ghost use Rattle.std.specs.List.Sorted.{IsStrictlySortedBy};
@@ -19,8 +19,7 @@ use std::marker::Model;
 // key is entered, or where the chain of the key's seat can't tell. Where a cell has left, the last cell
 // moves to its place and chains may be broken: a cell that is met is still right, since its key tells, but
 // a chain's end tells nothing. A place beyond 32 bits is refused as memory is. std's map can't promise
-// room for keys that aren't named yet, so `set` may be refused memory, and each deed sets its slot before
-// it changes anything else.
+// room for keys that aren't named yet, so a key is entered only where memory may be refused.
 /// Slots in cells, one for each key. The chain of a key's seat leads to its cell, or tells that it has
 /// none, without a search for the key.
 #[derive(Drop)]
@@ -68,9 +67,9 @@ impl Cells {
         rows_in(alloc, &self.places, self.cells.as_slice())
     }
 
-    // Sets what stands at a key that has no slot. A place beyond 32 bits is refused as memory is.
+    /// Sets what stands at a key that has no slot. A place beyond 32 bits is refused as memory is.
     #[inline(never)]
-    fn enter(&mut self, alloc: Global, key: &Key, slot: Slot) -> Result<(), Memory>
+    pub fn enter(&mut self, alloc: Global, key: &Key, slot: Slot) -> Result<(), Memory>
         requires { slot_at key.now self.old ≡ None }
         ensures ok { OnOk result (self.new ≡ with_slot key.now slot self.old) }
         ensures err { OnErr result (self.new ≡ self.old) }
@@ -83,16 +82,20 @@ impl Cells {
         Ok(())
     }
 
-    /// Sets what stands at the key, and tells when what stood there came in, where it was a removal.
-    pub fn set(&mut self, alloc: Global, key: &Key, slot: Slot) -> (Option<u64>, Result<(), Memory>)
-        ensures before { result.0 ≡ removed_at (slot_at key.now self.old) }
-        ensures ok { OnOk result.1 (self.new ≡ with_slot key.now slot self.old) }
-        ensures err { OnErr result.1 (self.new ≡ self.old) }
+    /// Sets what stands at a key that has a slot, and tells when what stood there came in, where it was a
+    /// removal. Where the key has none, the slot is given back. This takes no memory.
+    #[inline(always)]
+    pub fn put(&mut self, key: &Key, slot: Slot) -> Result<Option<u64>, Slot>
+        ensures before { IfOk result (λ before. before ≡ removed_at (slot_at key.now self.old)) }
+        ensures ok { OnOk result (self.new ≡ with_slot key.now slot self.old) }
+        ensures same { OnErr result (self.new ≡ self.old) }
+        ensures absent { OnErr result (slot_at key.now self.old ≡ None) }
+        ensures back { IfErr result (λ back. back ≡ slot) }
         ensures ordered { IsStrictlySortedBy (slice_cmp nat_cmp) (keys_of self.new) }
     {
         match place_of(&self.places, self.cells.as_slice(), &self.seats, key) {
-            Some(place) => (put_in(&mut self.cells, place, slot), Ok(())),
-            None => (None, self.enter(alloc, key, slot)),
+            Some(place) => Ok(put_in(&mut self.cells, place, slot)),
+            None => Err(slot),
         }
     }
 

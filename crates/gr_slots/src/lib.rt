@@ -3,6 +3,8 @@
 
 mod cell;
 mod cells;
+mod late;
+mod merging;
 mod places;
 mod removals;
 mod seats;

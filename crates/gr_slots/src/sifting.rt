@@ -1,4 +1,4 @@
-ghost use Rattle.std.specs.Prelude.{◌≡◌, ℕ, List, ◌&&◌, ◌||◌, OnOk, IfOk};
+ghost use Rattle.std.specs.Prelude.{◌≡◌, ℕ, List, ◌&&◌, ◌||◌, None, OnOk, IfOk};
 ghost use Rattle.std.specs.Ordering.{nat_cmp};
 ghost use Rattle.std.specs.Cmp.Lexicographic.{slice_cmp};
 ghost use Rattle.std.specs.List.Sorted.{IsStrictlySortedBy};
@@ -32,8 +32,8 @@ fn sift(cells: &Cells, at: u64, keys: &mut Vec<Key>)
 
 // The same of the list of a moment, which goes where no key is left.
 fn sift_at(cells: &Cells, removals: &mut BTreeMap<u64, Vec<Key>>, at: u64)
-    requires { AreIndexed cells.now removals.old }
-    ensures indexed { AreIndexed cells.now removals.new }
+    requires { AreIndexed None cells.now removals.old }
+    ensures indexed { AreIndexed None cells.now removals.new }
     ensures sifted { (key : List ℕ) → is_listed key (keys_at removals.new at) ≡ is_removed_at at (slot_at key cells.now) }
 {
     if let Some(keys) = removals.get_mut(&at) {
@@ -74,8 +74,8 @@ pub fn sift_all(
     removals: &mut BTreeMap<u64, Vec<Key>>,
     moments: &[u64],
 ) -> Result<BTreeSet<Key>, Memory>
-    requires { AreIndexed cells.now removals.old }
-    ensures indexed { AreIndexed cells.now removals.new }
+    requires { AreIndexed None cells.now removals.old }
+    ensures indexed { AreIndexed None cells.now removals.new }
     ensures found { IfOk result (λ found. (q : List ℕ) → contains (slice_cmp nat_cmp) found q
         ≡ is_removed_among moments.now (slot_at q cells.now)) }
     ensures ordered { IfOk result (λ found. IsOrdered (slice_cmp nat_cmp) found) }

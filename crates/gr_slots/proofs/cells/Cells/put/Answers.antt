@@ -4,19 +4,13 @@ use Rattle.std.specs.List.Sorted.{IsStrictlySortedBy}
 use Rattle.std.specs.Map.{keys_of}
 use Rattle.std.specs.Ordering.{nat_cmp}
 use Rattle.gr_slots.specs.Slots.{removed_at, slot_at, with_slot}
-use Rattle.gr_slots.proofs.Found.{sorted_either}
 use Rattle.gr_slots.proofs.Links.{kept_same}
 use Rattle.gr_slots.proofs.Tied.{found_at, within, put_tied, put_rows, rows_ordered}
-use Rattle.gr_slots.proofs.cells.Cells.set.Goals as goal
+use Rattle.gr_slots.proofs.cells.Cells.put.Goals as goal
 
 pub put_in-requires : goal.put_in-requires
 put_in-requires c =
     within c.self.inside.places c.self.inside.cells.items c.self.invariant.0 c.args.key.now c.in-Some.place (sym c.in-Some.ensures)
-
-pub enter-requires : goal.enter-requires
-enter-requires c =
-    ap (slot_at c.args.key.now) (sym c.self.view_is)
-    ∙ found_at c.self.inside.places c.self.inside.cells.items c.self.invariant.0 c.args.key.now None c.in-None.ensures
 
 pub invariant_of-self : goal.invariant_of-self
 invariant_of-self c = (
@@ -46,13 +40,12 @@ returns-in-Some-clause-ordered c =
     c.args.slot (sym c.in-Some.ensures)
     c.put_in.ensures.keys c.put_in.ensures.slots)
 
-pub returns-in-None-clause-before : goal.returns-in-None-clause-before
-returns-in-None-clause-before c =
-    ap removed_at (sym (found_at c.self.inside.places c.self.inside.cells.items c.self.invariant.0 c.args.key.now None c.in-None.ensures)
-    ∙ ap (slot_at c.args.key.now) c.self.view_is)
+pub returns-in-None-clause-absent : goal.returns-in-None-clause-absent
+returns-in-None-clause-absent c =
+    ap (slot_at c.args.key.now) (sym c.self.view_is)
+    ∙ found_at c.self.inside.places c.self.inside.cells.items c.self.invariant.0 c.args.key.now None c.in-None.ensures
 
 pub returns-in-None-clause-ordered : goal.returns-in-None-clause-ordered
 returns-in-None-clause-ordered c =
-    sorted_either c.enter.result c.args.key.now c.args.slot c.args.self.now c.enter.new.self c.enter.ensures.ok c.enter.ensures.err
-    (subst (λ es. IsStrictlySortedBy (slice_cmp nat_cmp) (keys_of es)) c.self.view_is
-    (rows_ordered c.self.inside.places c.self.inside.cells.items c.self.invariant.0))
+    subst (λ es. IsStrictlySortedBy (slice_cmp nat_cmp) (keys_of es)) c.self.view_is
+    (rows_ordered c.self.inside.places c.self.inside.cells.items c.self.invariant.0)
