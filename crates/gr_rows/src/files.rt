@@ -1,3 +1,4 @@
+use crate::row::Row;
 use std::rt::Files;
 use std::{fs, io};
 
@@ -22,4 +23,11 @@ pub fn row_names<R: Files + AllocGlobal + Clone + Drop>(rt: &R) -> io::Result<Ve
     }
     names.sort()?;
     Ok(names)
+}
+
+/// The row of this name.
+pub fn row_of<R: Files + AllocGlobal>(rt: &R, name: &str) -> io::Result<Row> {
+    let path = format!(in rt.alloc(); "{name}.row")?;
+    let text = fs::read_to_string(rt, path)?;
+    Row::read(rt.alloc(), text.as_str())
 }

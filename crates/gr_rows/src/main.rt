@@ -1,32 +1,28 @@
 //! Runs whole scripts through the program, over sources and sinks in memory, and says of each whether
 //! what comes out is what its row says. Then compares the lines of the causes, the answers to queries,
-//! the reading of scripts, values and keys, drills and the summaries of records with tables.
+//! the reading of scripts, values and keys, drills and the summaries of records with tables. It has each call of the
+//! streams fail in turn, and plays each prefix of a script.
 #![tactic(auto)]
 
 mod causes;
 mod drills;
+mod ending;
 mod files;
 mod queries;
 mod row;
 mod running;
 mod scripts;
 mod summaries;
+mod sweeps;
 mod values;
 
 use causes::are_causes_so;
-use files::row_names;
+use files::{row_names, row_of};
 use queries::{Table, compare};
-use row::Row;
 use running::{compare_row, too_large};
-use std::rt::Files;
-use std::{fs, io};
+use std::io;
 use summaries::compare_summaries;
-
-fn row_of<R: Files + AllocGlobal>(rt: &R, name: &str) -> io::Result<Row> {
-    let path = format!(in rt.alloc(); "{name}.row")?;
-    let text = fs::read_to_string(rt, path)?;
-    Row::read(rt.alloc(), text.as_str())
-}
+use sweeps::{fail_calls, play_prefixes};
 
 fn main(rt: HostRuntime) -> io::Result<()> {
     for name in row_names(&rt)? {
@@ -40,6 +36,8 @@ fn main(rt: HostRuntime) -> io::Result<()> {
         "differ"
     };
     println!(rt; "causes: {causes}")?;
+    fail_calls(&rt)?;
+    play_prefixes(&rt)?;
     compare(&rt, Table::Queries)?;
     compare(&rt, Table::Matches)?;
     compare(&rt, Table::Scripts)?;

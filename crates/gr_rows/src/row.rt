@@ -17,6 +17,12 @@ impl Moves {
         }
     }
 
+    /// At most so many bytes a call, and one call that fails.
+    pub fn failing(alloc: Global, piece: usize, call: u64) -> io::Result<Moves> {
+        let fails = vec![in alloc; call]?;
+        Ok(Moves { piece, fails })
+    }
+
     // Two numbers: the most bytes of a call, and the call that fails, if one does.
     fn read(alloc: Global, text: &str) -> io::Result<Moves> {
         let mut moves = Moves::whole(alloc);
@@ -72,6 +78,16 @@ impl Row {
             message: String::new(alloc),
             report: String::new(alloc),
         }
+    }
+
+    /// Words and a script, over streams that move all bytes in one call. Nothing is wanted of it.
+    pub fn given(alloc: Global, words: &[&str], script: &[u8]) -> io::Result<Row> {
+        let mut row = Row::new(alloc);
+        for word in words {
+            row.words.push(String::from_str(alloc, word)?)?;
+        }
+        row.script.extend_from_slice(script)?;
+        Ok(row)
     }
 
     /// Reads a row. The first word of a line is the kind of what follows it.

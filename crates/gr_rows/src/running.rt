@@ -24,14 +24,14 @@ pub fn sink_in_memory(alloc: Global, piece: usize, fails: Vec<u64>) -> io::Resul
 
 /// What a run of the program left: its status in digits, its message, and its output.
 #[derive(Drop)]
-struct Left {
-    status: String,
-    message: MemorySink,
-    output: MemorySink,
+pub struct Left {
+    pub status: String,
+    pub message: MemorySink,
+    pub output: MemorySink,
 }
 
-// Runs the program over the row's words, source and sink.
-fn run(alloc: Global, row: Row) -> io::Result<Left> {
+/// Runs the program over the row's words, source and sink.
+pub fn run(alloc: Global, row: Row) -> io::Result<Left> {
     let mut source = MemorySource::new(row.script, row.source.piece.max(1), row.source.fails);
     let mut output = sink_in_memory(alloc, row.sink.piece, row.sink.fails)?;
     let mut message = sink_in_memory(alloc, MESSAGE_PIECE, Vec::new(alloc))?;
