@@ -6,8 +6,10 @@
 
 mod causes;
 mod drills;
+mod edits;
 mod ending;
 mod files;
+mod fuzz;
 mod queries;
 mod row;
 mod running;
@@ -43,5 +45,6 @@ fn main(rt: HostRuntime) -> io::Result<()> {
     compare(&rt, Table::Scripts)?;
     compare(&rt, Table::Values)?;
     compare(&rt, Table::Drills)?;
+    compare(&rt, Table::Fuzz)?;
     compare_summaries(&rt)
 }

@@ -1,5 +1,6 @@
 use crate::drills::drill_answer;
 use crate::files::lines_of;
+use crate::fuzz::fuzz_answer;
 use crate::running::no_memory;
 use crate::scripts::script_answer;
 use crate::values::value_answer;
@@ -72,6 +73,7 @@ pub enum Table {
     Scripts,
     Values,
     Drills,
+    Fuzz,
 }
 
 impl Table {
@@ -82,16 +84,19 @@ impl Table {
             Table::Scripts => "scripts",
             Table::Values => "values",
             Table::Drills => "drills",
+            Table::Fuzz => "fuzz",
         }
     }
 
-    fn answer(self, alloc: Global, case: &str) -> io::Result<String> {
+    fn answer<R: Files + AllocGlobal>(self, rt: &R, case: &str) -> io::Result<String> {
+        let alloc = rt.alloc();
         match self {
             Table::Queries => reading(alloc, case),
             Table::Matches => truth(alloc, case),
             Table::Scripts => script_answer(alloc, case),
             Table::Values => value_answer(alloc, case),
             Table::Drills => drill_answer(alloc, case),
+            Table::Fuzz => fuzz_answer(rt, case),
         }
     }
 }
@@ -104,7 +109,7 @@ pub fn compare<R: Files + Print + AllocGlobal>(rt: &R, table: Table) -> io::Resu
     let (mut same, mut differ) = (0usize, 0usize);
     for (index, line) in lines_of(rt, path.as_str())?.iter().enumerate() {
         let (wanted, case) = line.split_once('\t').unwrap_or((line.as_str(), ""));
-        let given = table.answer(rt.alloc(), case)?;
+        let given = table.answer(rt, case)?;
         if given.as_str() == wanted {
             same += 1;
         } else {
