@@ -1,9 +1,10 @@
 -- What each cause says of the source and the sink, and what a run of the program of pictures leaves.
-use Rattle.std.specs.Prelude.{◌≡◌, ℕ, ◌+◌, List, ◌++◌, length, codes}
+use Rattle.std.specs.Prelude.{◌≡◌, ℕ, ◌+◌, List, length}
 use Rattle.std.specs.Io.KnownBytes.{Appends, Consumes}
 use Rattle.gr_io.specs.Ends.{AppendsPart}
 use Rattle.gr_io.specs.Streams.{Stream, IsUntouched, Counted, IsAllOf, TookAtMost, IsPut}
 use Rattle.gr_picture.specs.CauseTexts.{text_of_cause}
+use Rattle.gr_picture.specs.Elements.{IsPicture}
 use Rattle.gr_picture.specs.Statuses.{status_of}
 use Rattle.gr_picture.specs.declared.cause.Cause.{Cause}
 use Rattle.gr_picture.specs.declared.cause.Cause.TheVariants.{Finished, ReadFault, TooLarge, Line, WriteFault, Memory}
@@ -25,18 +26,6 @@ pub record HasTooMany (source : Stream) : Type 0 where
   pub taken : List ℕ
   pub consumed : Consumes source.bytes_before source.bytes_after taken
   pub one_more : length taken ≡ most_bytes + 1
-
--- How the tag of an SVG begins.
-abbrev pub opening : List ℕ
-opening = codes "<svg xmlns=\"http://www.w3.org/2000/svg\""
-
--- The text begins with the tag of an SVG.
-abbrev pub IsOpened : List ℕ → Type 0
-IsOpened text = (rest : List ℕ) × (text ≡ opening ++ rest)
-
--- The text is an element `svg`, by its first and its last tag.
-abbrev pub IsPicture : List ℕ → Type 0
-IsPicture text = (inside : List ℕ) × IsOpened inside × (text ≡ inside ++ codes "</svg>\n")
 
 -- The text is a picture, and what it was drawn of is all that the source had.
 pub record IsDrawn (source : Stream) (text : List ℕ) : Type 0 where

@@ -1,5 +1,5 @@
 ghost use Rattle.std.specs.Prelude.{IfOk, string_bytes};
-ghost use Rattle.gr_picture.specs.Outcomes.{IsPicture};
+ghost use Rattle.gr_picture.specs.Elements.{IsPicture};
 
 use crate::halt::Halt;
 use crate::layout::lay_out;

@@ -3,6 +3,7 @@ use crate::halt::Halt;
 use crate::measures::{LINE, MARGIN, Point};
 use crate::pen::Pen;
 use crate::reading::Standing;
+use crate::style::Style;
 use std::alloc::Global;
 
 // A colour with its words, from one to the next.
@@ -53,7 +54,12 @@ impl Signs {
         };
         let at = corner.moved(place.saturating_mul(SIGN), line.saturating_mul(LINE + 4));
         pen.rectangle(at, SWATCH, SWATCH, look)?;
-        pen.text(at.moved(SWATCH + 6, SWATCH - 2), "", words, SIGN_LETTERS)?;
+        pen.text(
+            at.moved(SWATCH + 6, SWATCH - 2),
+            Style::Plain,
+            words,
+            SIGN_LETTERS,
+        )?;
         self.count = self.count.saturating_add(1);
         Ok(())
     }
@@ -70,6 +76,29 @@ impl Signs {
     }
 }
 
+// Draws what each colour of a change is.
+fn put_members(
+    signs: &mut Signs,
+    pen: &mut Pen,
+    alloc: Global,
+    members: &[Standing],
+) -> Result<(), Halt> {
+    for standing in members.iter() {
+        let member = standing.member;
+        let words = format!(in alloc; "change of member {member}")?;
+        signs.put(pen, Look::Applied { member }, words.as_str())?;
+    }
+    Ok(())
+}
+
+// Draws what the other colours are.
+fn put_others(signs: &mut Signs, pen: &mut Pen) -> Result<(), Halt> {
+    for (look, words) in OTHERS.iter() {
+        signs.put(pen, *look, words)?;
+    }
+    Ok(())
+}
+
 /// Draws what the colours are and how to read the picture, and gives the height below it.
 pub fn put_legend(
     pen: &mut Pen,
@@ -79,21 +108,15 @@ pub fn put_legend(
     members: &[Standing],
 ) -> Result<usize, Halt> {
     let mut signs = Signs::below(top, width);
-    for standing in members.iter() {
-        let member = standing.member;
-        let words = format!(in alloc; "change of member {member}")?;
-        signs.put(pen, Look::Applied { member }, words.as_str())?;
-    }
-    for (look, words) in OTHERS.iter() {
-        signs.put(pen, *look, words)?;
-    }
+    put_members(&mut signs, pen, alloc, members)?;
+    put_others(&mut signs, pen)?;
     let mut at = Point {
         x: MARGIN,
         y: signs.end(),
     };
     for words in WORDS.iter() {
         at = at.moved(0, LINE);
-        pen.text(at, " fill=\"#333\"", words, WORDS_LETTERS)?;
+        pen.text(at, Style::Dark, words, WORDS_LETTERS)?;
     }
     Ok(at.y)
 }

@@ -5,6 +5,8 @@
 mod cause;
 mod deed;
 mod drawing;
+mod elements;
+mod frame;
 mod halt;
 mod layout;
 mod legend;
@@ -15,7 +17,9 @@ mod picture;
 mod reading;
 mod rows;
 mod running;
+mod shapes;
 mod standing;
+mod style;
 mod telling;
 
 pub use cause::Cause;

@@ -1,27 +1,36 @@
 ghost use Rattle.std.specs.Prelude.{IfOk, string_bytes};
-ghost use Rattle.gr_picture.specs.Outcomes.{IsOpened, IsPicture};
+ghost use Rattle.gr_picture.specs.Elements.{IsPicture};
 
+use crate::elements::{close, feed};
+use crate::frame::{opened, put_definitions, put_ground};
 use crate::halt::Halt;
 use crate::legend::put_legend;
 use crate::measures::{MARGIN, width_of};
 use crate::pen::Pen;
 use crate::reading::Report;
 use crate::rows::Rows;
+use crate::shapes::put_title;
 use crate::standing::put_standing;
 use std::alloc::Global;
 
-const HEAD: &str =
-    r##"<defs><marker id="tip" viewBox="0 0 10 10" refX="9" refY="5" markerWidth="7" markerHeight="7" orient="auto"><path d="M0 0 L10 5 L0 10 z" fill="#555"/></marker></defs>
-<rect width="100%" height="100%" fill="#fff"/>
-"##;
-
-// The first tag.
-fn opened(alloc: Global, width: usize, height: usize) -> Result<String, Halt>
-    ensures { IfOk result (λ tag. IsOpened (string_bytes tag)) }
+// A picture of this size with this title, in which is what the pen drew.
+fn framed(
+    alloc: Global,
+    width: usize,
+    height: usize,
+    title: &str,
+    pen: &Pen,
+) -> Result<String, Halt>
+    ensures { IfOk result (λ picture. IsPicture (string_bytes picture)) }
 {
-    Ok(format!(in alloc;
-        "<svg xmlns=\"http://www.w3.org/2000/svg\" width=\"{width}\" height=\"{height}\" viewBox=\"0 0 {width} {height}\" role=\"img\" font-family=\"DejaVu Sans Mono, Menlo, Consolas, monospace\" font-size=\"11\">\n"
-    )?)
+    let mut out = opened(alloc, width, height)?;
+    put_title(&mut out, title)?;
+    put_definitions(&mut out)?;
+    put_ground(&mut out)?;
+    out.push_str(pen.drawn()?)?;
+    close(&mut out, "svg")?;
+    feed(&mut out)?;
+    Ok(out)
 }
 
 /// The picture of a report whose deeds have their columns.
@@ -38,12 +47,8 @@ pub fn picture_of(alloc: Global, report: &Report) -> Result<String, Halt>
     let legend = put_legend(&mut pen, alloc, end, width, members)?;
     let height = legend.saturating_add(MARGIN);
     let count = members.len();
-    let mut out = opened(alloc, width, height)?;
-    out.push_str(format!(in alloc;
-        "<title>What happened at {count} members, and what stands there at the end</title>\n"
-    )?.as_str())?;
-    out.push_str(HEAD)?;
-    out.push_str(pen.as_str())?;
-    out.push_str("</svg>\n")?;
-    Ok(out)
+    let title = format!(in alloc;
+        "What happened at {count} members, and what stands there at the end"
+    )?;
+    framed(alloc, width, height, title.as_str(), &pen)
 }

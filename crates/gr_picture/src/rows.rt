@@ -1,4 +1,4 @@
-use crate::deed::{Deed, Note};
+use crate::deed::Deed;
 use crate::halt::Halt;
 use crate::layout::Place;
 use crate::measures::{
@@ -6,6 +6,7 @@ use crate::measures::{
 };
 use crate::pen::Pen;
 use crate::reading::History;
+use crate::style::Style;
 use std::alloc::Global;
 
 // How far from a box's side an arrow turns.
@@ -128,32 +129,12 @@ fn put_name(
     let History { member, shard, .. } = history;
     pen.band(at, width, height_of(history))?;
     let name = format!(in alloc; "member {member} shard {shard}")?;
-    pen.text(
-        at.moved(MARGIN, 15),
-        " font-weight=\"bold\"",
-        name.as_str(),
-        LETTERS,
-    )
+    pen.text(at.moved(MARGIN, 15), Style::Bold, name.as_str(), LETTERS)
 }
 
 fn put_boxes(pen: &mut Pen, top: usize, history: &History) -> Result<(), Halt> {
     for deed in history.deeds.iter() {
-        put_box(pen, corner_of(top, deed), deed)?;
+        pen.deed(corner_of(top, deed), deed)?;
     }
     Ok(())
-}
-
-fn put_box(pen: &mut Pen, corner: Point, deed: &Deed) -> Result<(), Halt> {
-    let title = Note {
-        before: "",
-        words: deed.title,
-        behind: "",
-    };
-    pen.put("<g><title>")?;
-    pen.put_text(deed.text)?;
-    pen.put("</title>\n")?;
-    pen.rectangle(corner, BOX_WIDTH, BOX_HEIGHT, deed.look)?;
-    pen.note(corner.moved(BOX_WIDTH / 2, 14), title, LETTERS)?;
-    pen.note(corner.moved(BOX_WIDTH / 2, 28), deed.note, LETTERS)?;
-    pen.put("</g>\n")
 }

@@ -2,6 +2,7 @@ use crate::halt::Halt;
 use crate::measures::{LINE, MARGIN, Point};
 use crate::pen::Pen;
 use crate::reading::{Entry, Standing};
+use crate::style::Style;
 use std::alloc::Global;
 
 // A member's part, from one to the next, and its most entries.
@@ -26,19 +27,14 @@ fn height_of(member: &Standing) -> usize {
 }
 
 fn put_entry(pen: &mut Pen, at: Point, entry: &Entry) -> Result<(), Halt> {
-    pen.text(at, "", entry.pair, PAIR_LETTERS)?;
-    pen.text(
-        at.moved(PART, 0),
-        " text-anchor=\"end\"",
-        entry.stamp,
-        PAIR_LETTERS,
-    )
+    pen.text(at, Style::Plain, entry.pair, PAIR_LETTERS)?;
+    pen.text(at.moved(PART, 0), Style::AtEnd, entry.stamp, PAIR_LETTERS)
 }
 
 fn put_part(pen: &mut Pen, alloc: Global, corner: Point, member: &Standing) -> Result<(), Halt> {
     let name = format!(in alloc; "at the end at member {}", member.member)?;
     let mut at = corner.moved(0, LINE);
-    pen.text(at, " font-weight=\"bold\"", name.as_str(), PAIR_LETTERS)?;
+    pen.text(at, Style::Bold, name.as_str(), PAIR_LETTERS)?;
     for entry in member.entries.iter().take(ENTRIES) {
         at = at.moved(0, LINE);
         put_entry(pen, at, entry)?;
@@ -47,14 +43,9 @@ fn put_part(pen: &mut Pen, alloc: Global, corner: Point, member: &Standing) -> R
     if more > 0 {
         at = at.moved(0, LINE);
         let text = format!(in alloc; "and {more} more")?;
-        pen.text(at, "", text.as_str(), PAIR_LETTERS)?;
+        pen.text(at, Style::Plain, text.as_str(), PAIR_LETTERS)?;
     }
-    pen.text(
-        at.moved(0, LINE),
-        " fill=\"#555\"",
-        member.counts,
-        COUNT_LETTERS,
-    )
+    pen.text(at.moved(0, LINE), Style::Dim, member.counts, COUNT_LETTERS)
 }
 
 /// Draws what stands at each member at the end, side by side, and gives the height below it.

@@ -1,0 +1,14 @@
+use Rattle.std.proofs.Common.{[], ◌∷◌, ◌++◌, codes, string_bytes, refl}
+use Rattle.std.proofs.lemmas.Result.{on_ok_weaker}
+use Rattle.gr_picture.specs.Elements.{worded, sized}
+use Rattle.gr_picture.proofs.Putting.{begun_more, begun_alone, draws_more, draws_feed}
+use Rattle.gr_picture.proofs.shapes.put_rectangle.Goals as goal
+
+pub returns : goal.returns
+returns c =
+    let b0 = c.in_ok-begin_rectangle.ensures in
+    let b1 = begun_more (codes "rect") (string_bytes c.args.out.now) (string_bytes c.begin_rectangle.new.out) (string_bytes c.attribute.new.out) (sized c.args.at.x c.args.at.y c.args.width c.args.height) (worded (codes "rx") (codes "4")) b0 c.in_ok-attribute.ensures in
+    let b2 = begun_more (codes "rect") (string_bytes c.args.out.now) (string_bytes c.attribute.new.out) (string_bytes c.attribute-2.new.out) ((sized c.args.at.x c.args.at.y c.args.width c.args.height) ++ ((worded (codes "rx") (codes "4")) ∷ [])) (worded (codes "fill") c.colours.result.0.now) b1 c.in_ok-attribute-2.ensures in
+    let b3 = begun_more (codes "rect") (string_bytes c.args.out.now) (string_bytes c.attribute-2.new.out) (string_bytes c.attribute-3.new.out) ((sized c.args.at.x c.args.at.y c.args.width c.args.height) ++ ((worded (codes "rx") (codes "4")) ∷ (worded (codes "fill") c.colours.result.0.now) ∷ [])) (worded (codes "stroke") c.colours.result.1.now) b2 c.in_ok-attribute-3.ensures in
+    let drawn = begun_alone (codes "rect") (string_bytes c.args.out.now) (string_bytes c.attribute-3.new.out) (string_bytes c.alone.new.out) ((sized c.args.at.x c.args.at.y c.args.width c.args.height) ++ ((worded (codes "rx") (codes "4")) ∷ (worded (codes "fill") c.colours.result.0.now) ∷ (worded (codes "stroke") c.colours.result.1.now) ∷ [])) b3 refl c.in_ok-alone.ensures in
+    on_ok_weaker c.feed.result (λ is. draws_more _ _ _ drawn (draws_feed _ (string_bytes c.feed.new.out) is)) c.feed.ensures
