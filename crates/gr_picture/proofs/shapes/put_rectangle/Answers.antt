@@ -1,4 +1,4 @@
-use Rattle.std.proofs.Common.{[], ◌∷◌, ◌++◌, codes, string_bytes, refl}
+use Rattle.std.proofs.Common.{[], ◌∷◌, ◌++◌, codes, refl}
 use Rattle.std.proofs.lemmas.Result.{on_ok_weaker}
 use Rattle.gr_picture.specs.Elements.{worded, sized}
 use Rattle.gr_picture.proofs.Putting.{begun_more, begun_alone, draws_more, draws_feed}
@@ -6,9 +6,14 @@ use Rattle.gr_picture.proofs.shapes.put_rectangle.Goals as goal
 
 pub returns : goal.returns
 returns c =
+    let tag = codes "rect" in
+    let size = sized c.args.at.x c.args.at.y c.args.width c.args.height in
+    let rx = worded (codes "rx") (codes "4") in
+    let fill = worded (codes "fill") c.colours.result.0.now in
+    let stroke = worded (codes "stroke") c.colours.result.1.now in
     let b0 = c.in_ok-begin_rectangle.ensures in
-    let b1 = begun_more (codes "rect") (string_bytes c.args.out.now) (string_bytes c.begin_rectangle.new.out) (string_bytes c.attribute.new.out) (sized c.args.at.x c.args.at.y c.args.width c.args.height) (worded (codes "rx") (codes "4")) b0 c.in_ok-attribute.ensures in
-    let b2 = begun_more (codes "rect") (string_bytes c.args.out.now) (string_bytes c.attribute.new.out) (string_bytes c.attribute-2.new.out) ((sized c.args.at.x c.args.at.y c.args.width c.args.height) ++ ((worded (codes "rx") (codes "4")) ∷ [])) (worded (codes "fill") c.colours.result.0.now) b1 c.in_ok-attribute-2.ensures in
-    let b3 = begun_more (codes "rect") (string_bytes c.args.out.now) (string_bytes c.attribute-2.new.out) (string_bytes c.attribute-3.new.out) ((sized c.args.at.x c.args.at.y c.args.width c.args.height) ++ ((worded (codes "rx") (codes "4")) ∷ (worded (codes "fill") c.colours.result.0.now) ∷ [])) (worded (codes "stroke") c.colours.result.1.now) b2 c.in_ok-attribute-3.ensures in
-    let drawn = begun_alone (codes "rect") (string_bytes c.args.out.now) (string_bytes c.attribute-3.new.out) (string_bytes c.alone.new.out) ((sized c.args.at.x c.args.at.y c.args.width c.args.height) ++ ((worded (codes "rx") (codes "4")) ∷ (worded (codes "fill") c.colours.result.0.now) ∷ (worded (codes "stroke") c.colours.result.1.now) ∷ [])) b3 refl c.in_ok-alone.ensures in
-    on_ok_weaker c.feed.result (λ is. draws_more _ _ _ drawn (draws_feed _ (string_bytes c.feed.new.out) is)) c.feed.ensures
+    let b1 = begun_more tag _ _ _ size rx b0 c.in_ok-attribute.ensures in
+    let b2 = begun_more tag _ _ _ (size ++ (rx ∷ [])) fill b1 c.in_ok-attribute-2.ensures in
+    let b3 = begun_more tag _ _ _ (size ++ (rx ∷ fill ∷ [])) stroke b2 c.in_ok-attribute-3.ensures in
+    let drawn = begun_alone tag _ _ _ (size ++ (rx ∷ fill ∷ stroke ∷ [])) b3 refl c.in_ok-alone.ensures in
+    on_ok_weaker c.feed.result (λ is. draws_more _ _ _ drawn (draws_feed _ _ is)) c.feed.ensures
