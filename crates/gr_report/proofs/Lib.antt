@@ -4,3 +4,4 @@ pub mod Gathered
 pub mod Lines
 pub mod Sameness
 pub mod Ordered
+pub mod Asked

@@ -19,10 +19,7 @@ use Rattle.gr_history.specs.declared.verdict.Verdict.TheVariants.{Applied, Disca
 use Rattle.gr_report.specs.Answers.{reply_text}
 use Rattle.gr_report.specs.Queries.{query_step_text, shard_line}
 use Rattle.gr_report.specs.Regions.{stamp_text}
-
--- words with a space in front of each
-abbrev pub spaced : List (List ℕ) → List ℕ
-spaced words = flat_map (λ word. codes " " ++ word) words
+use Rattle.gr_report.specs.Texts.{spaced}
 
 -- what was asked, as a line of a script says it behind the client's number
 abbrev pub ask_text : Ask → List ℕ

@@ -1,12 +1,13 @@
 ghost use Rattle.std.specs.Prelude.{◌≡◌, ◌++◌, ◌∷◌, [], codes, OnOk, option_copied};
-ghost use Rattle.gr_report.specs.Deeds.{spaced, ask_text, made_text, kind_text, verdict_text, what_text};
+ghost use Rattle.gr_report.specs.Texts.{spaced};
+ghost use Rattle.gr_report.specs.Deeds.{ask_text, made_text, kind_text, verdict_text, what_text};
 ghost use Rattle.gr_report.specs.Deeds.{asked_text, told_text, taken_text, image_text, report_text, heard_text, swept_text, deed_text};
 ghost use Rattle.gr_report.specs.Deeds.{deed_line};
 ghost use Rattle.gr_value.specs.ValueText.{value_text};
 
 use crate::answers::put_reply;
 use crate::lists::{put_keys, put_list};
-use crate::put::{put_counted, put_number, put_text};
+use crate::put::{put_counted, put_number, put_text, put_word};
 use crate::queries::{put_query_step, put_shard_line};
 use crate::regions::put_stamp;
 use crate::written::Written;
@@ -15,16 +16,6 @@ use gr_stamp::{Change, Kind};
 use gr_value::{Key, KeyList, Memory, Value};
 use gr_vector::Report;
 use std::alloc::Global;
-
-// A word and a key behind it.
-fn put_word(out: &mut Vec<u8>, word: &str, key: &Key) -> Result<(), Memory>
-    ensures { OnOk result (out.new.items ≡ out.old.items ++ word.now ++ spaced (key.now ∷ [])) }
-{
-    put_text(out, word)?;
-    put_text(out, " ")?;
-    out.extend_from_slice(key.bytes())?;
-    Ok(())
-}
 
 // A value with a space in front.
 fn put_value(alloc: Global, out: &mut Vec<u8>, value: &Value) -> Result<(), Memory>

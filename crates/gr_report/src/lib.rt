@@ -6,6 +6,7 @@ mod counts;
 mod decimals;
 mod deeds;
 mod histories;
+mod laws;
 mod lists;
 mod own;
 mod put;
@@ -18,6 +19,7 @@ mod steps;
 mod summing;
 mod written;
 
+pub use laws::steps_read_as_their_lines;
 pub use put::{put_number, put_text};
 pub use reporting::{report, report_in};
 pub use summing::summary;

@@ -1,5 +1,6 @@
 ghost use Rattle.std.specs.Prelude.{◌≡◌, ◌≤◌, ◌++◌, decimal, OnOk};
-ghost use Rattle.gr_report.specs.Deeds.{has_bit, members_in, list_text, spaced};
+ghost use Rattle.gr_report.specs.Texts.{spaced};
+ghost use Rattle.gr_report.specs.Deeds.{has_bit, members_in, list_text};
 
 use crate::put::{put_number, put_text};
 use gr_value::{Key, Memory};

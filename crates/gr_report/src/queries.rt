@@ -7,7 +7,7 @@ ghost use Rattle.gr_report.specs.Rows.{with_row, by_key};
 ghost use Rattle.gr_report.specs.Shown.{shown};
 
 use crate::counts::sum;
-use crate::put::{put_counted, put_text};
+use crate::put::{put_counted, put_text, put_word};
 use crate::rows::{Keyed, gather, put_gathered};
 use crate::written::{Written, put_all};
 use gr_history::{QueryAsk, QueryReply, Row};
@@ -29,13 +29,13 @@ fn put_ask(out: &mut Vec<u8>, ask: &QueryAsk) -> Result<(), Memory>
 {
     match ask {
         QueryAsk::Enrol { name, query } => {
-            put_named(out, "open ", name)?;
+            put_word(out, "open", name)?;
             put_text(out, " ")?;
             put_text(out, query.text())
         }
-        QueryAsk::Stop { name } => put_named(out, "stop ", name),
-        QueryAsk::Close { name } => put_named(out, "close ", name),
-        QueryAsk::Fetch { name } => put_named(out, "fetch ", name),
+        QueryAsk::Stop { name } => put_word(out, "stop", name),
+        QueryAsk::Close { name } => put_word(out, "close", name),
+        QueryAsk::Fetch { name } => put_word(out, "fetch", name),
     }
 }
 

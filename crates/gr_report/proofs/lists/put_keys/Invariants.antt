@@ -1,5 +1,5 @@
 use Rattle.std.proofs.Common.{◌≡◌, ◌++◌, take}
-use Rattle.gr_report.specs.Deeds.{spaced}
+use Rattle.gr_report.specs.Texts.{spaced}
 use Rattle.gr_report.proofs.lists.put_keys.Given as goal
 
 abbrev pub invariant-loop-key : goal.invariant-loop-key
