@@ -119,12 +119,12 @@ slots_taken id opening now past change Repeat kept is =
     stands_unchanged now.slots (Taken change Repeat) past (λ key. refl) kept.stands
 
 -- What a change that came in turns, by the slots before.
-turned_change : (change : Change) (past : List Deed) (slots : Entries) → Hold slots past
+pub turned_change : (change : Change) (past : List Deed) (slots : Entries) → Hold slots past
     → turned_to change past ∷ [] ≡ turned_by_change slots (Some change)
 turned_change change past slots stands =
     ap (λ v. record { key = change.key; old = v; new = put_value change.kind } ∷ []) (sym (value-slot_at change.key slots past stands))
 
-turned_taken : (change : Change) (told : Verdict) (past : List Deed) (slots : Entries) → told ≡ verdict past change → Hold slots past
+pub turned_taken : (change : Change) (told : Verdict) (past : List Deed) (slots : Entries) → told ≡ verdict past change → Hold slots past
     → turned (Taken change told) past ≡ turned_by_change slots (applied told change)
 turned_taken change Applied past slots is stands = turned_applied change past is ∙ turned_change change past slots stands
 turned_taken change Discarded past slots is stands = turned_discarded change past is

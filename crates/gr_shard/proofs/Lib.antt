@@ -17,3 +17,4 @@ pub mod Following
 pub mod Turning
 pub mod Opened
 pub mod Asked
+pub mod Stocked

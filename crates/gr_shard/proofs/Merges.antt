@@ -418,7 +418,7 @@ module _ (q : List ℕ) (image : Image) (past : List Deed) where
               at_test true f = cc
               at_test false f = cc
 
-stands_merged : (image : Image) (past : List Deed) (slots : Entries) (known_ : List Id) (clock_ : ℕ) → AreInOrder image.rows
+pub stands_merged : (image : Image) (past : List Deed) (slots : Entries) (known_ : List Id) (clock_ : ℕ) → AreInOrder image.rows
     → IsStrictlySortedBy (slice_cmp nat_cmp) (keys_in slots) → known_ ≡ known past → clock_ ≡ clock past → Hold slots past
     → Hold (merged known_ clock_ image slots) (Imaged image ∷ past)
 stands_merged image past slots known_ clock_ in_order sorted known_is clock_is stands q =

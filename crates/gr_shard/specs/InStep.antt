@@ -1,13 +1,15 @@
 -- The open queries of a shard, and what keeps them in step with its history.
-use Rattle.std.specs.Prelude.{◌≡◌, ℕ, List, [], Bool, true, false, Option, Some, None, if◌then◌else◌}
+use Rattle.std.specs.Prelude.{◌≡◌, ℕ, List, [], ◌∷◌, Bool, true, false, Option, Some, None, if◌then◌else◌}
 use Rattle.gr_oql.specs.declared.event.Event.{Event}
-use Rattle.gr_cq.specs.Entries.{Kept, Entry, find, enrolled, changed_at, kept_stopped, kept_taken, closed}
+use Rattle.gr_cq.specs.Entries.{Kept, Entry, find, enrolled, changed_at, kept_stopped, kept_taken, closed, noted}
 use Rattle.gr_history.specs.declared.query_ask.QueryAsk.{QueryAsk}
 use Rattle.gr_history.specs.declared.query_ask.QueryAsk.TheVariants.{Enrol, Stop, Close, Fetch}
 use Rattle.gr_history.specs.declared.query_reply.QueryReply.{QueryReply}
 use Rattle.gr_history.specs.declared.query_reply.QueryReply.TheVariants as reply
 use Rattle.gr_history.specs.declared.query_reply.Row.{Row}
 use Rattle.gr_history.specs.declared.deed.Deed.{Deed}
+use Rattle.gr_history.specs.declared.deed.Deed.TheVariants as deeds
+use Rattle.gr_history.specs.Turned.{turned}
 use Rattle.gr_history.specs.Queries.{State, Neither, Running, Halted, state, asked_of, waiting, rows_of}
 
 -- what is kept of a query in this state, with these waiting events
@@ -71,3 +73,17 @@ served client (Stop name) entries =
     if is_running (find client name entries) then changed_at client name kept_stopped entries else entries
 served client (Close name) entries = where_found (find client name entries) (closed client name entries) entries
 served client (Fetch name) entries = where_found (find client name entries) (changed_at client name kept_taken entries) entries
+
+-- The open queries after a history, in their order: each deed that brings a change tells them what it turns.
+abbrev pub opened : List Deed → List Entry
+opened [] = []
+opened (deeds.Call client to seq ask reply None ∷ past) = opened past
+opened (deeds.Call client to seq ask reply (Some made) ∷ past) = noted (turned (deeds.Call client to seq ask reply (Some made)) past) (opened
+    past)
+opened (deeds.Taken change told ∷ past) = noted (turned (deeds.Taken change told) past) (opened past)
+opened (deeds.Asked client seq ask reply ∷ past) = served client ask (opened past)
+opened (deeds.Imaged image ∷ past) = noted (turned (deeds.Imaged image) past) (opened past)
+opened (deeds.Gave to what ∷ past) = opened past
+opened (deeds.Reported report ∷ past) = opened past
+opened (deeds.Heard report ∷ past) = opened past
+opened (deeds.Swept moment expired ∷ past) = opened past

@@ -1,5 +1,5 @@
 -- A shard as contracts see it, and how what it keeps is tied to its history.
-use Rattle.std.specs.Prelude.{◌≡◌, ℕ, ◌≤◌, ◌<◌, List, Bool, length}
+use Rattle.std.specs.Prelude.{◌≡◌, ℕ, ◌+◌, ◌≤◌, ◌<◌, List, [], ◌∷◌, ◌++◌, Bool, true, if◌then◌else◌, length}
 use Rattle.std.specs.List.{AllByRecursion}
 use Rattle.gr_stamp.specs.declared.stamp.TheConstants.{LIMIT}
 use Rattle.gr_history.specs.declared.identity.Identity.{Identity}
@@ -16,13 +16,23 @@ use Rattle.gr_slots.specs.Slots.{Entries, slot_at}
 use Rattle.gr_stable.specs.Heard.{Reports, heard}
 use Rattle.gr_shard.specs.Entries.{slot_of}
 use Rattle.gr_shard.specs.Gifts.{is_given}
-use Rattle.gr_shard.specs.InStep.{IsInStep}
+use Rattle.gr_shard.specs.InStep.{IsInStep, opened}
 
 -- whose shard it is, the floor that it began with, and its deeds, the oldest first
 pub record Account : Type 0 where
   pub id : Identity
   pub opening : ℕ
   pub deeds : List Deed
+  -- where this is at least 1 there is room for a deed that was prepared
+  pub spare : ℕ
+
+-- with one more deed; the room is used up
+abbrev pub after_deed : Account → Deed → Account
+after_deed account deed = record account { deeds = account.deeds ++ deed ∷ []; spare = 0 }
+
+-- the same deeds, with other room
+abbrev pub with_spare : ℕ → Account → Account
+with_spare spare account = record account { spare = spare }
 
 -- What an identity and an opening floor may be.
 pub record IsPlace (id : Identity) (opening : ℕ) : Type 0 where
@@ -81,3 +91,14 @@ pub record IsKept (id : Identity) (opening : ℕ) (now : Kept) (past : List Deed
   pub eight : length now.given ≡ 8
   pub gifts : (member : ℕ) → 1 ≤ member → member ≤ 8 → is_given now.given member ≡ gave_to member past
   pub in_step : IsInStep now.queries past
+
+-- the room that contracts see, by what a query has room for
+abbrev pub spare_of : Bool → ℕ → ℕ
+spare_of roomy events = if roomy then 1 + events else 0
+
+-- The open queries stand in the order that the history gives. Where there is room for a deed that was prepared, the history and the ids
+-- have it.
+pub record IsStocked (roomy : Bool) (history ids : ℕ) (queries : List Entry) (past : List Deed) : Type 0 where
+  pub open_are : queries ≡ opened past
+  pub a_deed : roomy ≡ true → 1 ≤ history
+  pub an_id : roomy ≡ true → 1 ≤ ids

@@ -21,7 +21,7 @@ ghost use Rattle.gr_history.specs.Stable.{due};
 ghost use Rattle.gr_shard.specs.Merges.{IsGiftFor, IsImageFor};
 ghost use Rattle.gr_shard.specs.Records.{IsRecordOf};
 ghost use Rattle.gr_shard.specs.Sweeps.{stands_stable};
-ghost use Rattle.gr_shard.specs.View.{IsPlace};
+ghost use Rattle.gr_shard.specs.View.{IsPlace, after_deed, with_spare};
 
 mod calls;
 
@@ -45,11 +45,13 @@ use gr_vector::{Report, SharedVector, Vector};
 use std::alloc::Global;
 use std::marker::Model;
 
-/// One shard of one member. Contracts see its identity, the floor that it began with, and its deeds.
+/// One shard of one member. Contracts see its identity, the floor that it began with, its deeds, and the
+/// number `spare`, which is at least 1 where there is room for a deed that was prepared.
 #[derive(Drop)]
 pub struct Shard {
     id: Identity,
     opening: u64,
+    roomy: bool,
     floor: u64,
     clock: u64,
     joined: bool,
@@ -66,27 +68,34 @@ impl Model for Shard {
     ghost use Rattle.std.specs.Prelude.{reverse};
     ghost use Rattle.std.specs.Coded.{codes};
     ghost use Rattle.gr_oql.specs.Question.{question_code};
-    ghost use Rattle.gr_shard.specs.View.{Account, IsKept, kept};
+    ghost use Rattle.gr_shard.specs.View.{Account, IsKept, IsStocked, kept, spare_of};
 
     ghost Value = { Account };
 
     ghost coded = { Prim.hlevel (codes, question_code) };
 
-    ghost view = { λ shard. record { id = shard.id; opening = shard.opening; deeds = shard.history.deeds } };
+    ghost view = { λ shard. record {
+      id = shard.id;
+      opening = shard.opening;
+      deeds = shard.history.deeds;
+      spare = spare_of shard.roomy shard.queries.spare;
+    } };
 
     ghost invariant = { λ shard. IsKept shard.id shard.opening (kept shard.slots shard.vector.ids shard.floor shard.clock shard.joined shard.to
-        shard.heard shard.given shard.queries.entries) (reverse shard.history.deeds) };
+        shard.heard shard.given shard.queries.entries) (reverse shard.history.deeds)
+        × IsStocked shard.roomy shard.history.spare shard.vector.spare shard.queries.entries (reverse shard.history.deeds) };
 }
 
 impl Shard {
     /// A shard with no deeds. The floor is the one that its versions begin with.
     pub fn new(alloc: Global, id: Identity, floor: u64) -> Result<Shard, Memory>
         requires { IsPlace id floor }
-        ensures { IfOk result (λ shard. shard ≡ record { id = id; opening = floor; deeds = [] }) }
+        ensures { IfOk result (λ shard. shard ≡ record { id = id; opening = floor; deeds = []; spare = 0 }) }
     {
         Ok(Shard {
             id,
             opening: floor,
+            roomy: false,
             floor,
             clock: 0,
             joined: false,
@@ -105,14 +114,15 @@ impl Shard {
     pub fn take_in(&mut self, alloc: Global, change: &Change) -> Result<Verdict, Memory>
         requires { shard_of change.now.key self.old.id.shards ≡ self.old.id.shard }
         ensures verdict { IfOk result (λ told. told ≡ verdict (reverse self.old.deeds) change.now) }
-        ensures added { IfOk result (λ told. self.new ≡ record self.old { deeds = self.old.deeds ++ deed.Taken change.now told ∷ [] }) }
-        ensures err { OnErr result (self.new ≡ self.old) }
+        ensures added { IfOk result (λ told. self.new ≡ after_deed self.old (deed.Taken change.now told)) }
+        ensures err { OnErr result (self.new ≡ with_spare self.new.spare self.old) }
     {
         let verdict = self.verdict(change);
         let deed = Deed::Taken {
             change: change.copy(alloc)?,
             verdict,
         };
+        self.roomy = false;
         self.history.reserve(1)?;
         self.vector.reserve()?;
         let came = applied(verdict, change);
@@ -134,10 +144,11 @@ impl Shard {
     ) -> Result<QueryReply, Memory>
         ensures reply { IfOk result (λ reply. reply ≡ query_gives client ask.now (reverse self.old.deeds)) }
         ensures added { IfOk result
-            (λ reply. self.new ≡ record self.old { deeds = self.old.deeds ++ deed.Asked client seq ask.now reply ∷ [] }) }
-        ensures err { OnErr result (self.new ≡ self.old) }
+            (λ reply. self.new ≡ after_deed self.old (deed.Asked client seq ask.now reply)) }
+        ensures err { OnErr result (self.new ≡ with_spare self.new.spare self.old) }
     {
         let asked = ask.copy(alloc)?;
+        self.roomy = false;
         self.history.reserve(1)?;
         let Replies { noted, told } = answer(alloc, &mut self.queries, &self.slots, client, ask)?;
         let _ = self.history.push(Deed::Asked {
@@ -153,18 +164,14 @@ impl Shard {
     pub fn report(&mut self, alloc: Global) -> Result<Report, Memory>
         ensures report { IfOk result (IsReportOf self.old.id.member (reverse self.old.deeds)) }
         ensures room { IfOk result (λ report. report.vector.spare ≡ 0) }
-        ensures added { IfOk result (λ report. self.new ≡ record self.old { deeds = self.old.deeds ++ deed.Reported report ∷ [] }) }
-        ensures err { OnErr result (self.new ≡ self.old) }
+        ensures added { IfOk result (λ report. self.new ≡ after_deed self.old (deed.Reported report)) }
+        ensures err { OnErr result (self.new ≡ with_spare self.new.spare self.old) }
     {
-        let report = Report {
-            member: self.id.member,
-            at: self.history.len(),
-            own: self.vector.top(self.id.member),
-            vector: SharedVector::new(alloc, self.vector.copy(alloc)?)?,
-        };
+        let report = self.reported(alloc)?;
         let deed = Deed::Reported {
             report: report.copy(alloc)?,
         };
+        self.roomy = false;
         self.history.reserve(1)?;
         let _ = self.history.push(deed);
         Ok(report)
@@ -172,12 +179,13 @@ impl Shard {
 
     /// Hears a report that another member made of this shard, and adds that to the history.
     pub fn hear(&mut self, alloc: Global, report: &Report) -> Result<(), Memory>
-        ensures added { OnOk result (self.new ≡ record self.old { deeds = self.old.deeds ++ deed.Heard report.now ∷ [] }) }
-        ensures err { OnErr result (self.new ≡ self.old) }
+        ensures added { OnOk result (self.new ≡ after_deed self.old (deed.Heard report.now)) }
+        ensures err { OnErr result (self.new ≡ with_spare self.new.spare self.old) }
     {
         let deed = Deed::Heard {
             report: report.copy(alloc)?,
         };
+        self.roomy = false;
         self.history.reserve(1)?;
         self.heard.hear(alloc, report)?;
         let _ = self.history.push(deed);
@@ -192,10 +200,11 @@ impl Shard {
         ensures gift { IfOk result (IsGiftOf self.old.id.member self.old.opening (reverse self.old.deeds) what) }
         ensures fits { IfOk result (IsGiftFor self.old.id) }
         ensures room { IfOk result HasNoRoom }
-        ensures added { OnOk result (self.new ≡ record self.old { deeds = self.old.deeds ++ deed.Gave to what ∷ [] }) }
-        ensures err { OnErr result (self.new ≡ self.old) }
+        ensures added { OnOk result (self.new ≡ after_deed self.old (deed.Gave to what)) }
+        ensures err { OnErr result (self.new ≡ with_spare self.new.spare self.old) }
     {
         let gift = self.gift(alloc, what)?;
+        self.roomy = false;
         self.history.reserve(1)?;
         self.given[usize::from(to) - 1] = true;
         self.to = recipients(self.id, &self.given);
@@ -208,13 +217,14 @@ impl Shard {
     /// ranges that the image's vector lacks.
     pub fn merge(&mut self, alloc: Global, image: &Image) -> Result<(), Memory>
         requires { IsImageFor self.old.id image.now }
-        ensures added { OnOk result (self.new ≡ record self.old { deeds = self.old.deeds ++ deed.Imaged image.now ∷ [] }) }
-        ensures err { OnErr result (self.new ≡ self.old) }
+        ensures added { OnOk result (self.new ≡ after_deed self.old (deed.Imaged image.now)) }
+        ensures err { OnErr result (self.new ≡ with_spare self.new.spare self.old) }
     {
         let slots = merged(alloc, &self.slots, image, &self.vector, self.clock)?;
         let deed = Deed::Imaged {
             image: image.copy(alloc)?,
         };
+        self.roomy = false;
         self.history.reserve(1)?;
         let (old, ids) = (&mut self.slots, &mut self.vector);
         take_over(alloc, old, ids, &mut self.queries, slots, &image.vector)?;
@@ -229,15 +239,13 @@ impl Shard {
     pub fn sweep(&mut self, alloc: Global, moment: u64) -> Result<u64, Memory>
         ensures expired { IfOk result (λ count. count ≡ length (due self.old.id moment (reverse self.old.deeds))) }
         ensures added { OnOk result
-            (self.new ≡ record self.old {
-              deeds = self.old.deeds
-                  ++ deed.Swept moment (due self.old.id moment (reverse self.old.deeds)) ∷ [];
-            }) }
-        ensures err { OnErr result (self.new ≡ self.old) }
+            (self.new ≡ after_deed self.old (deed.Swept moment (due self.old.id moment (reverse self.old.deeds)))) }
+        ensures err { OnErr result (self.new ≡ with_spare self.new.spare self.old) }
     {
         let clock = moment.max(self.clock);
         let timed_out = self.slots.timed_out(alloc, clock)?;
         let expired = self.stable_among(alloc, timed_out.as_slice())?;
+        self.roomy = false;
         self.history.reserve(1)?;
         self.floor = risen(&self.slots, self.floor, expired.as_slice());
         drop_all(&mut self.slots, expired.as_slice());
@@ -314,6 +322,19 @@ impl Shard {
         } = self;
         let region = region(alloc, &slots, floor, vector)?;
         Ok(ShardRecord { history, region })
+    }
+
+    // What this member knows of the shard now.
+    fn reported(&self, alloc: Global) -> Result<Report, Memory>
+        ensures report { IfOk result (IsReportOf self.now.id.member (reverse self.now.deeds)) }
+        ensures room { IfOk result (λ report. report.vector.spare ≡ 0) }
+    {
+        Ok(Report {
+            member: self.id.member,
+            at: self.history.len(),
+            own: self.vector.top(self.id.member),
+            vector: SharedVector::new(alloc, self.vector.copy(alloc)?)?,
+        })
     }
 
     // What is given now.

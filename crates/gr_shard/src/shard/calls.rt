@@ -10,6 +10,7 @@ ghost use Rattle.std.specs.List.{AllByRecursion};
 ghost use Rattle.std.specs.Option.{option_to_list};
 ghost use Rattle.gr_history.specs.Standing.{standing};
 ghost use Rattle.gr_shard.specs.Calls.{call_with, given_with, served};
+ghost use Rattle.gr_shard.specs.View.{after_deed, with_spare};
 
 use super::Shard;
 use crate::entering::{value_of, ver_of};
@@ -32,11 +33,8 @@ impl Shard {
         ensures here { IfOk result
             (λ done. AllByRecursion (λ change. shard_of change.key self.old.id.shards ≡ self.old.id.shard) (option_to_list done.made)) }
         ensures added { IfOk result
-            (λ done. self.new ≡ record self.old {
-              deeds = self.old.deeds
-                  ++ deed.Call client done.to seq ask.now done.reply done.made ∷ [];
-            }) }
-        ensures err { OnErr result (self.new ≡ self.old) }
+            (λ done. self.new ≡ after_deed self.old (deed.Call client done.to seq ask.now done.reply done.made)) }
+        ensures err { OnErr result (self.new ≡ with_spare self.new.spare self.old) }
     {
         // So that what the shard keeps of the members is known to the proof.
         let _ = &self.id;
@@ -52,11 +50,9 @@ impl Shard {
         requires { shard_of (key_of ask) self.old.id.shards ≡ self.old.id.shard }
         ensures told { IfOk result (λ told. told ≡ served (call_gives self.old.id self.old.opening (reverse self.old.deeds) ask)) }
         ensures added { OnOk result
-            (self.new ≡ record self.old {
-              deeds = self.old.deeds
-                  ++ call_with client seq ask (call_gives self.old.id self.old.opening (reverse self.old.deeds) ask) ∷ [];
-            }) }
-        ensures err { OnErr result (self.new ≡ self.old) }
+            (self.new ≡ after_deed self.old
+            (call_with client seq ask (call_gives self.old.id self.old.opening (reverse self.old.deeds) ask))) }
+        ensures err { OnErr result (self.new ≡ with_spare self.new.spare self.old) }
     {
         if !self.ready() {
             return self.add_reply(alloc, client, seq, ask, Reply::NotReady);
@@ -90,10 +86,11 @@ impl Shard {
         requires gives { nothing_made reply ≡ call_gives self.old.id self.old.opening (reverse self.old.deeds) ask }
         ensures told { IfOk result (λ told. told ≡ served (nothing_made reply)) }
         ensures added { OnOk result
-            (self.new ≡ record self.old { deeds = self.old.deeds ++ call_with client seq ask (nothing_made reply) ∷ [] }) }
-        ensures err { OnErr result (self.new ≡ self.old) }
+            (self.new ≡ after_deed self.old (call_with client seq ask (nothing_made reply))) }
+        ensures err { OnErr result (self.new ≡ with_spare self.new.spare self.old) }
     {
         let told = reply.copy(alloc)?;
+        self.roomy = false;
         self.history.reserve(1)?;
         let done = nothing_made(reply);
         let _ = self.history.push(deed_of(client, seq, ask, done));
@@ -119,13 +116,12 @@ impl Shard {
             ≡ call_gives self.old.id self.old.opening (reverse self.old.deeds) ask }
         ensures told { IfOk result (λ told. told ≡ served (given_with (recipients self.old.id (reverse self.old.deeds)) reply (Some change))) }
         ensures added { OnOk result
-            (self.new ≡ record self.old {
-              deeds = self.old.deeds
-                  ++ call_with client seq ask (given_with (recipients self.old.id (reverse self.old.deeds)) reply (Some change)) ∷ [];
-            }) }
-        ensures err { OnErr result (self.new ≡ self.old) }
+            (self.new ≡ after_deed self.old
+            (call_with client seq ask (given_with (recipients self.old.id (reverse self.old.deeds)) reply (Some change)))) }
+        ensures err { OnErr result (self.new ≡ with_spare self.new.spare self.old) }
     {
         let told = reply.copy(alloc)?;
+        self.roomy = false;
         self.history.reserve(1)?;
         self.vector.reserve()?;
         let made = Some(&change);

@@ -10,6 +10,7 @@ use Rattle.gr_cq.specs.Entries.{noted as noted_}
 use Rattle.gr_shard.specs.Telling.{turned_by_change}
 use Rattle.gr_shard.specs.View.{kept}
 use Rattle.gr_shard.proofs.Pushed.{on_ok}
+use Rattle.gr_shard.proofs.Stocked.{opened_called, unstocked}
 use Rattle.gr_shard.proofs.Kept.{kept_called}
 use Rattle.gr_shard.proofs.shard.Shard.add_change.Goals as goal
 
@@ -20,7 +21,7 @@ invariant_of-self-2 c =
     let made = Some c.args.change in
     let given_to : ℕ → Done = λ to. given_with to c.args.reply made in
     let gives : given_to was.to ≡ call_gives was.id was.opening past c.args.ask =
-    ap given_to c.self.invariant.aimed ∙ (rw (← c.self.view_is) at c.requires.gives) in
+    ap given_to c.self.invariant.0.aimed ∙ (rw (← c.self.view_is) at c.requires.gives) in
     let here : shard_of (key_of c.args.ask) was.id.shards ≡ was.id.shard = rw (← c.self.view_is) at c.requires.here in
     let pushed : c.push.new.self.deeds ≡ was.history.deeds ++ call_with c.args.client c.args.seq c.args.ask (given_to was.to) ∷ [] =
     on_ok c.push.result (c.push.ensures.room c.in_ok-reserve.ensures.room) c.push.ensures.ok
@@ -31,8 +32,12 @@ invariant_of-self-2 c =
     let entered : c.come_in.new.slots ≡ with_change made was.clock was.slots = c.in_ok-come_in.ensures.slots in
     let told : c.come_in.new.queries.entries ≡ noted_ (turned_by_change was.slots made) was.queries.entries =
     c.in_ok-come_in.ensures.told in
-    rw (pushed, reverse-append, noted, entered, told)
-    (kept_called was.id was.opening (kept was.slots was.vector.ids was.floor was.clock was.joined was.to was.heard was.given
-    was.queries.entries) past
-    c.args.client c.args.seq
-    c.args.ask c.args.reply made was.to c.self.invariant here gives)
+    rw (pushed, reverse-append, noted, entered, told) (
+      kept_called was.id was.opening (kept was.slots was.vector.ids was.floor was.clock was.joined was.to was.heard was.given
+          was.queries.entries) past
+          c.args.client c.args.seq
+          c.args.ask c.args.reply made was.to c.self.invariant.0 here gives,
+      unstocked _ _ _ _
+          (opened_called past was.slots was.queries.entries was.id was.opening c.args.client c.args.seq c.args.ask c.args.reply
+          c.args.change was.to c.self.invariant.0.stands c.self.invariant.1.open_are gives),
+    )

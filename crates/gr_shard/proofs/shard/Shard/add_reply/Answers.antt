@@ -6,6 +6,7 @@ use Rattle.gr_history.specs.Calls.{call_gives, nothing_made}
 use Rattle.gr_shard.specs.Calls.{call_with}
 use Rattle.gr_shard.specs.View.{kept}
 use Rattle.gr_shard.proofs.Pushed.{on_ok}
+use Rattle.gr_shard.proofs.Stocked.{unstocked}
 use Rattle.gr_shard.proofs.Kept.{kept_called}
 use Rattle.gr_shard.proofs.Turning.{noted_nothing}
 use Rattle.gr_shard.proofs.shard.Shard.add_reply.Goals as goal
@@ -21,7 +22,9 @@ invariant_of-self-2 c =
     ∙ ap (λ deeds. deeds ++ c.deed_of.result ∷ []) c.in_ok-reserve.ensures.deeds
     ∙ ap (λ deed. was.history.deeds ++ deed ∷ [])
     (c.deed_of.ensures ∙ ap (call_with c.args.client c.args.seq c.args.ask) c.nothing_made-done.ensures) in
-    rw (pushed, reverse-append, ← noted_nothing was.queries.entries)
-    (kept_called was.id was.opening (kept was.slots was.vector.ids was.floor was.clock was.joined was.to was.heard was.given
-    was.queries.entries) past
-    c.args.client c.args.seq c.args.ask c.args.reply None 0 c.self.invariant here gives)
+    rw (pushed, reverse-append, ← noted_nothing was.queries.entries) (
+      kept_called was.id was.opening (kept was.slots was.vector.ids was.floor was.clock was.joined was.to was.heard was.given
+          was.queries.entries) past
+          c.args.client c.args.seq c.args.ask c.args.reply None 0 c.self.invariant.0 here gives,
+      unstocked _ _ _ _ (noted_nothing was.queries.entries ∙ c.self.invariant.1.open_are),
+    )

@@ -12,7 +12,7 @@ returns-clause-members c =
     let gives : done ≡ call_gives was.id was.opening (reverse was.history.deeds) c.args.ask.now =
     rw (← c.self.view_is) at c.in_ok-given.ensures in
     rw (← c.self.view_is)
-    (call_below was.id was.opening (reverse was.history.deeds) c.args.ask.now c.self.invariant.place.founded c.self.invariant.named
+    (call_below was.id was.opening (reverse was.history.deeds) c.args.ask.now c.self.invariant.0.place.founded c.self.invariant.0.named
     done.reply done.made done.to gives)
 
 pub returns-clause-here : goal.returns-clause-here

@@ -4,6 +4,7 @@ use Rattle.gr_history.specs.declared.deed.Deed.TheVariants.{Gave}
 use Rattle.gr_shard.specs.View.{kept}
 use Rattle.gr_shard.proofs.Gifts.{kept_gave}
 use Rattle.gr_shard.proofs.Pushed.{on_ok}
+use Rattle.gr_shard.proofs.Stocked.{unstocked}
 use Rattle.gr_shard.proofs.shard.Shard.give.Goals as goal
 
 pub invariant_of-self-2 : goal.invariant_of-self-2
@@ -14,7 +15,9 @@ invariant_of-self-2 c =
     let pushed : c.push.new.self.deeds ≡ was.history.deeds ++ Gave c.args.to c.args.what ∷ [] =
     on_ok c.push.result (c.push.ensures.room c.in_ok-reserve.ensures.room) c.push.ensures.ok
     ∙ ap (λ deeds. deeds ++ Gave c.args.to c.args.what ∷ []) c.in_ok-reserve.ensures.deeds in
-    rw (pushed, reverse-append, c.recipients-self-inside.ensures, c.from.ensures)
-    (kept_gave was.id was.opening (kept was.slots was.vector.ids was.floor was.clock was.joined was.to was.heard was.given
-    was.queries.entries) past c.args.to
-    c.args.what c.self.invariant c.requires.from stated)
+    rw (pushed, reverse-append, c.recipients-self-inside.ensures, c.from.ensures) (
+      kept_gave was.id was.opening (kept was.slots was.vector.ids was.floor was.clock was.joined was.to was.heard was.given
+          was.queries.entries) past c.args.to
+          c.args.what c.self.invariant.0 c.requires.from stated,
+      unstocked _ _ _ _ c.self.invariant.1.open_are,
+    )

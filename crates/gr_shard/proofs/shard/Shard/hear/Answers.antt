@@ -4,6 +4,7 @@ use Rattle.gr_history.specs.declared.deed.Deed.TheVariants.{Heard}
 use Rattle.gr_shard.specs.View.{kept}
 use Rattle.gr_shard.proofs.Reports.{kept_heard}
 use Rattle.gr_shard.proofs.Pushed.{on_ok}
+use Rattle.gr_shard.proofs.Stocked.{unstocked}
 use Rattle.gr_shard.proofs.shard.Shard.hear.Goals as goal
 
 pub invariant_of-self-2 : goal.invariant_of-self-2
@@ -14,7 +15,9 @@ invariant_of-self-2 c =
     on_ok c.push.result (c.push.ensures.room c.in_ok-reserve.ensures.room) c.push.ensures.ok
     ∙ ap (λ deeds. deeds ++ Heard c.in_ok-copy.field-0 ∷ []) c.in_ok-reserve.ensures.deeds
     ∙ ap (λ copy. was.history.deeds ++ Heard copy ∷ []) c.in_ok-copy.ensures in
-    rw (pushed, reverse-append, c.in_ok-hear.ensures.ok)
-    (kept_heard was.id was.opening (kept was.slots was.vector.ids was.floor was.clock was.joined was.to was.heard was.given
-    was.queries.entries) past c.args.report.now
-    c.self.invariant)
+    rw (pushed, reverse-append, c.in_ok-hear.ensures.ok) (
+      kept_heard was.id was.opening (kept was.slots was.vector.ids was.floor was.clock was.joined was.to was.heard was.given
+          was.queries.entries) past c.args.report.now
+          c.self.invariant.0,
+      unstocked _ _ _ _ c.self.invariant.1.open_are,
+    )

@@ -17,9 +17,9 @@ returns-clause-image c =
           ∙ changes_in-kept was.id was.opening
           (kept was.slots was.vector.ids was.floor was.clock was.joined was.to was.heard was.given was.queries.entries)
           (reverse was.history.deeds)
-          c.self.invariant c.in_ok-standing.ensures.ordered;
-      vector_is = ap (λ v. v.ids) c.in_ok-copy.ensures ∙ c.self.invariant.noted;
-      floor_is = c.self.invariant.floored;
+          c.self.invariant.0 c.in_ok-standing.ensures.ordered;
+      vector_is = ap (λ v. v.ids) c.in_ok-copy.ensures ∙ c.self.invariant.0.noted;
+      floor_is = c.self.invariant.0.floored;
     }
 
 pub returns-clause-fits : goal.returns-clause-fits
@@ -38,8 +38,8 @@ returns-clause-fits c =
       giver_is = refl;
       at_is = c.len.ensures ∙ sym (length-reverse was.history.deeds);
       rows_are = c.in_ok-standing.ensures.changes
-          ∙ changes_in-kept was.id was.opening now past c.self.invariant c.in_ok-standing.ensures.ordered;
-      vector_is = ap (λ v. v.ids) c.in_ok-copy.ensures ∙ c.self.invariant.noted;
-      floor_is = c.self.invariant.floored;
+          ∙ changes_in-kept was.id was.opening now past c.self.invariant.0 c.in_ok-standing.ensures.ordered;
+      vector_is = ap (λ v. v.ids) c.in_ok-copy.ensures ∙ c.self.invariant.0.noted;
+      floor_is = c.self.invariant.0.floored;
     } in
-    rw (← c.self.view_is) (image_fits was.id was.opening now past was.id.member image c.self.invariant is)
+    rw (← c.self.view_is) (image_fits was.id was.opening now past was.id.member image c.self.invariant.0 is)

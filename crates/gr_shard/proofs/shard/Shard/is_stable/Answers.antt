@@ -18,7 +18,7 @@ returns c =
     let found : Some slot ≡ slot_of (standing key past) (since key past) = rw (← c.self.view_is) at c.in-Some.ensures.slot in
     rw (← c.self.view_is)
     (c.stable.ensures
-    ∙ ap (λ reports. is_stable_by was.id.member was.id.members at reports was.vector.ids) c.self.invariant.told
-    ∙ ap (λ ids. is_stable_by was.id.member was.id.members at (heard past) ids) c.self.invariant.noted
-    ∙ stable_is was.id at past c.self.invariant.place.few
+    ∙ ap (λ reports. is_stable_by was.id.member was.id.members at reports was.vector.ids) c.self.invariant.0.told
+    ∙ ap (λ ids. is_stable_by was.id.member was.id.members at (heard past) ids) c.self.invariant.0.noted
+    ∙ stable_is was.id at past c.self.invariant.0.place.few
     ∙ slot_stable was.id past (standing key past) (since key past) slot found)

@@ -5,8 +5,9 @@ use Rattle.gr_shard.specs.Merges.{IsImageFor, merged}
 use Rattle.gr_cq.specs.Entries.{noted}
 use Rattle.gr_shard.specs.Telling.{turned_between}
 use Rattle.gr_shard.specs.View.{kept}
-use Rattle.gr_shard.proofs.Merges.{kept_merged}
+use Rattle.gr_shard.proofs.Merges.{kept_merged, stands_merged}
 use Rattle.gr_shard.proofs.Pushed.{on_ok}
+use Rattle.gr_shard.proofs.Stocked.{opened_merged, unstocked}
 use Rattle.gr_shard.proofs.shard.Shard.merge.Goals as goal
 
 pub invariant_of-self-2 : goal.invariant_of-self-2
@@ -24,7 +25,12 @@ invariant_of-self-2 c =
     let told : c.take_over.new.queries.entries ≡ noted (turned_between was.slots left) was.queries.entries =
     c.in_ok-take_over.ensures.told
     ∙ ap (λ slots. noted (turned_between was.slots slots) was.queries.entries) c.in_ok-slots.ensures.merged in
-    rw (pushed, reverse-append, c.in_ok-take_over.ensures.ids, slots_are, told, c.max-self-inside.ensures)
-    (kept_merged was.id was.opening (kept was.slots was.vector.ids was.floor was.clock was.joined was.to was.heard was.given
-    was.queries.entries) past image
-    c.self.invariant c.in_ok-slots.ensures.ordered fits)
+    rw (pushed, reverse-append, c.in_ok-take_over.ensures.ids, slots_are, told, c.max-self-inside.ensures) (
+      kept_merged was.id was.opening (kept was.slots was.vector.ids was.floor was.clock was.joined was.to was.heard was.given
+          was.queries.entries) past image
+          c.self.invariant.0 c.in_ok-slots.ensures.ordered fits,
+      unstocked _ _ _ _
+          (opened_merged past was.slots was.queries.entries image left c.self.invariant.0.stands
+          (stands_merged image past was.slots was.vector.ids was.clock fits.in_order c.in_ok-slots.ensures.ordered c.self.invariant.0.noted
+          c.self.invariant.0.clocked c.self.invariant.0.stands) c.self.invariant.1.open_are),
+    )

@@ -15,7 +15,7 @@ top_is member past is noted = is ∙ ap (top member) noted ∙ top_known member 
 
 pub returns : goal.returns
 returns c =
-    let kept = c.self.invariant in
+    let kept = c.self.invariant.0 in
     let was = c.self.inside in
     let past = reverse was.history.deeds in
     let stands : c.args.ver ≡ ver_of (standing c.args.key.now past) = rw (← c.self.view_is) at c.requires.stands in

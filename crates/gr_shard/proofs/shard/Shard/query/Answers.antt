@@ -3,9 +3,11 @@ use Rattle.std.proofs.lemmas.List.{reverse-append}
 use Rattle.gr_history.specs.declared.deed.Deed.{Deed}
 use Rattle.gr_history.specs.declared.deed.Deed.TheVariants.{Asked}
 use Rattle.gr_history.specs.Queries.{query_gives}
+use Rattle.gr_shard.specs.InStep.{served}
 use Rattle.gr_shard.specs.View.{Kept, kept}
 use Rattle.gr_shard.proofs.Asked.{both_given, kept_answered}
 use Rattle.gr_shard.proofs.Pushed.{on_ok}
+use Rattle.gr_shard.proofs.Stocked.{unstocked}
 use Rattle.gr_shard.proofs.shard.Shard.query.Goals as goal
 
 abbrev past : goal.After-push → List Deed
@@ -20,7 +22,7 @@ both : (c : goal.After-push)
     × (c.in_ok-noted.field-0.told ≡ query_gives c.args.client c.args.ask.now (past c))
 both c =
     both_given c.self.inside.id c.self.inside.opening (now c) (past c) c.args.client c.args.ask.now c.in_ok-noted.field-0
-    c.self.invariant (c.in_ok-noted.ensures.replies (past c) c.self.invariant.stands)
+    c.self.invariant.0 (c.in_ok-noted.ensures.replies (past c) c.self.invariant.0.stands)
 
 -- the history has the step, with the reply that was noted
 pushed : (c : goal.After-push)
@@ -34,9 +36,11 @@ pushed c =
 
 pub invariant_of-self-2 : goal.invariant_of-self-2
 invariant_of-self-2 c =
-    rw (pushed c, reverse-append, c.in_ok-noted.ensures.ok)
-    (kept_answered c.self.inside.id c.self.inside.opening (now c) (past c) c.args.client c.args.seq c.args.ask.now
-    c.in_ok-noted.field-0.noted c.self.invariant (both c).0)
+    rw (pushed c, reverse-append, c.in_ok-noted.ensures.ok) (
+      kept_answered c.self.inside.id c.self.inside.opening (now c) (past c) c.args.client c.args.seq c.args.ask.now
+          c.in_ok-noted.field-0.noted c.self.invariant.0 (both c).0,
+      unstocked _ _ _ _ (ap (served c.args.client c.args.ask.now) c.self.invariant.1.open_are),
+    )
 
 pub returns-clause-reply : goal.returns-clause-reply
 returns-clause-reply c = rw (← c.self.view_is) (both c).1
@@ -46,4 +50,4 @@ returns-clause-added c =
     let was = c.self.inside in
     let told = pushed c
     ∙ ap (λ reply. was.history.deeds ++ Asked c.args.client c.args.seq c.args.ask.now reply ∷ []) ((both c).0 ∙ sym (both c).1) in
-    rw (← c.self.view_is) (ap (λ deeds. record { id = was.id; opening = was.opening; deeds = deeds }) told)
+    rw (← c.self.view_is) (ap (λ deeds. record { id = was.id; opening = was.opening; deeds = deeds; spare = 0 }) told)

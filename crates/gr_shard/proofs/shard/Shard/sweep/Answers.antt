@@ -6,6 +6,7 @@ use Rattle.gr_history.specs.Stable.{due}
 use Rattle.gr_shard.specs.Sweeps.{risen, without_all}
 use Rattle.gr_shard.specs.View.{kept}
 use Rattle.gr_shard.proofs.Pushed.{on_ok}
+use Rattle.gr_shard.proofs.Stocked.{unstocked}
 use Rattle.gr_shard.proofs.Sweeps.{expired_is, kept_swept}
 use Rattle.gr_shard.proofs.shard.Shard.sweep.Goals as goal
 
@@ -17,7 +18,7 @@ invariant_of-self-3 c =
     let expired = c.in_ok-expired.expired in
     let ordered = c.in_ok-timed_out.ensures.ordered in
     let is : expired ≡ due was.id c.args.moment past =
-    expired_is was.id was.opening c.args.moment c.max-clock.result now past c.as_slice.result.now expired c.self.invariant ordered
+    expired_is was.id was.opening c.args.moment c.max-clock.result now past c.as_slice.result.now expired c.self.invariant.0 ordered
     c.max-clock.ensures (c.as_slice.ensures ∙ c.in_ok-timed_out.ensures.keys)
     c.in_ok-expired.ensures in
     let same = c.timed_out.ensures.same in
@@ -31,8 +32,10 @@ invariant_of-self-3 c =
     let dropped : c.drop_all.new.slots ≡ without_all expired was.slots = c.drop_all.ensures
     ∙ ap (without_all c.as_slice-3.result.now) same
     ∙ ap (λ keys. without_all keys was.slots) c.as_slice-3.ensures in
-    rw (pushed, reverse-append, dropped, rises, c.max-clock.ensures)
-    (kept_swept was.id was.opening c.args.moment now past expired c.self.invariant ordered is low)
+    rw (pushed, reverse-append, dropped, rises, c.max-clock.ensures) (
+      kept_swept was.id was.opening c.args.moment now past expired c.self.invariant.0 ordered is low,
+      unstocked _ _ _ _ c.self.invariant.1.open_are,
+    )
 
 pub returns-clause-expired : goal.returns-clause-expired
 returns-clause-expired c =
@@ -41,7 +44,7 @@ returns-clause-expired c =
     let now = kept was.slots was.vector.ids was.floor was.clock was.joined was.to was.heard was.given was.queries.entries in
     rw (← c.self.view_is) (c.len-count.ensures
     ∙ ap length (expired_is was.id was.opening c.args.moment c.max-clock.result now past c.as_slice.result.now
-    c.in_ok-expired.expired c.self.invariant c.in_ok-timed_out.ensures.ordered c.max-clock.ensures
+    c.in_ok-expired.expired c.self.invariant.0 c.in_ok-timed_out.ensures.ordered c.max-clock.ensures
     (c.as_slice.ensures ∙ c.in_ok-timed_out.ensures.keys)
     c.in_ok-expired.ensures))
 
@@ -52,10 +55,10 @@ returns-clause-added c =
     let now = kept was.slots was.vector.ids was.floor was.clock was.joined was.to was.heard was.given was.queries.entries in
     let is : c.in_ok-expired.expired ≡ due was.id c.args.moment past =
     expired_is was.id was.opening c.args.moment c.max-clock.result now past c.as_slice.result.now c.in_ok-expired.expired
-    c.self.invariant c.in_ok-timed_out.ensures.ordered c.max-clock.ensures (c.as_slice.ensures ∙ c.in_ok-timed_out.ensures.keys)
+    c.self.invariant.0 c.in_ok-timed_out.ensures.ordered c.max-clock.ensures (c.as_slice.ensures ∙ c.in_ok-timed_out.ensures.keys)
     c.in_ok-expired.ensures in
     let pushed : c.push.new.self.deeds ≡ was.history.deeds ++ Swept c.args.moment (due was.id c.args.moment past) ∷ [] =
     on_ok c.push.result (c.push.ensures.room c.in_ok-reserve.ensures.room) c.push.ensures.ok
     ∙ ap (λ deeds. deeds ++ Swept c.args.moment c.in_ok-expired.expired ∷ []) c.in_ok-reserve.ensures.deeds
     ∙ ap (λ keys. was.history.deeds ++ Swept c.args.moment keys ∷ []) is in
-    rw (← c.self.view_is) (ap (λ deeds. record { id = was.id; opening = was.opening; deeds = deeds }) pushed)
+    rw (← c.self.view_is) (ap (λ deeds. record { id = was.id; opening = was.opening; deeds = deeds; spare = 0 }) pushed)

@@ -11,6 +11,7 @@ use Rattle.gr_shard.specs.Telling.{turned_by_change}
 use Rattle.gr_shard.specs.View.{kept}
 use Rattle.gr_shard.proofs.Kept.{kept_taken}
 use Rattle.gr_shard.proofs.Pushed.{on_ok}
+use Rattle.gr_shard.proofs.Stocked.{opened_taken, unstocked}
 use Rattle.gr_shard.proofs.shard.Shard.take_in.Goals as goal
 
 pub invariant_of-self-2 : goal.invariant_of-self-2
@@ -32,8 +33,11 @@ invariant_of-self-2 c =
     let heard : c.come_in.new.queries.entries ≡ noted_ (turned_by_change was.slots (applied told change)) was.queries.entries =
     c.in_ok-come_in.ensures.told
     ∙ ap (λ m. noted_ (turned_by_change was.slots m) was.queries.entries) c.applied-came.ensures in
-    rw (pushed, reverse-append, noted, entered, heard)
-    (kept_taken was.id was.opening (kept was.slots was.vector.ids was.floor was.clock was.joined was.to was.heard was.given
-    was.queries.entries) past change
-    told
-    c.self.invariant here is)
+    rw (pushed, reverse-append, noted, entered, heard) (
+      kept_taken was.id was.opening (kept was.slots was.vector.ids was.floor was.clock was.joined was.to was.heard was.given
+          was.queries.entries) past change
+          told
+          c.self.invariant.0 here is,
+      unstocked _ _ _ _
+          (opened_taken past was.slots was.queries.entries change told c.self.invariant.0.stands c.self.invariant.1.open_are is),
+    )

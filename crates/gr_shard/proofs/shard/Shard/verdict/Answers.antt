@@ -18,7 +18,7 @@ returns c =
     c.holds-known.ensures
     ∙ ap (λ (m : ℕ). has_id (record { member = m; rv = c.rv.result }) was.vector.ids) c.member.ensures.member
     ∙ ap (λ (n : ℕ). has_id (record { member = change.stamp.member; rv = n }) was.vector.ids) c.rv.ensures.rv
-    ∙ known_ids was.vector.ids past c.self.invariant.noted (id_of change) in
+    ∙ known_ids was.vector.ids past c.self.invariant.0.noted (id_of change) in
     let found : option_copied c.find.result ≡ slot_of (standing change.key past) (since change.key past) =
     rw (← c.self.view_is) at c.find.ensures.slot in
     rw (← c.self.view_is)
