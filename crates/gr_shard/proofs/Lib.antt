@@ -18,3 +18,5 @@ pub mod Turning
 pub mod Opened
 pub mod Asked
 pub mod Stocked
+pub mod Prepares
+pub mod Imaging

@@ -441,7 +441,7 @@ stands_merged image past slots known_ clock_ in_order sorted known_is clock_is s
         ∙ row_stands q image past row (rows_apart image.rows in_order) is
         (verdict_over (has_id (id_of row) (ids past)) (standing q past) row) refl
 
-of_shard_rows : (id : Identity) (test : Change → Bool) (rows old : List Change)
+pub of_shard_rows : (id : Identity) (test : Change → Bool) (rows old : List Change)
     → AllByRecursion (λ row. shard_of row.key id.shards ≡ id.shard) rows → AllByRecursion (λ row. shard_of row.key id.shards ≡ id.shard)
     old
     → AllByRecursion (λ row. shard_of row.key id.shards ≡ id.shard) (filter test rows ++ old)

@@ -1,5 +1,5 @@
 -- What a client is answered by what a shard keeps.
-use Rattle.std.specs.Prelude.{◌≡◌, ℕ, List, Option, Some, None, option_map}
+use Rattle.std.specs.Prelude.{◌≡◌, ℕ, List, Bool, true, false, Option, Some, None, option_map}
 use Rattle.std.specs.List.{filter_map}
 use Rattle.gr_stamp.specs.Winner.{put_value}
 use Rattle.gr_oql.specs.Events.{where_matching}
@@ -36,6 +36,16 @@ refusal Unknown = Some reply.Unknown
 refusal Taken = Some reply.Taken
 refusal NotRunning = Some reply.NotRunning
 refusal Memory = None
+
+-- what is answered where a query is to be stopped, or closed, by whether it runs, if it is open
+abbrev pub stop_said : Option Bool → QueryReply
+stop_said None = reply.Unknown
+stop_said (Some true) = reply.Stopped
+stop_said (Some false) = reply.NotRunning
+
+abbrev pub close_said : Option Bool → QueryReply
+close_said None = reply.Unknown
+close_said (Some runs) = reply.Closed
 
 abbrev pub twice : QueryReply → Replies
 twice reply = record { noted = reply; told = reply }

@@ -2,12 +2,16 @@
 #![tactic(auto)]
 
 mod asking;
+mod committing;
+mod effect;
 mod entering;
 mod giving;
 mod in_step;
 mod making;
 mod merging;
+mod next;
 mod opening;
+mod prepared;
 mod regions;
 mod served;
 mod shard;
@@ -17,5 +21,7 @@ mod told;
 
 pub use gr_history::{Done, Identity};
 pub use in_step::queries_stay_in_step;
+pub use next::{Came, Next};
+pub use prepared::Prepared;
 pub use served::Served;
 pub use shard::Shard;

@@ -24,6 +24,8 @@ ghost use Rattle.gr_shard.specs.Sweeps.{stands_stable};
 ghost use Rattle.gr_shard.specs.View.{IsPlace, after_deed, with_spare};
 
 mod calls;
+mod halves;
+mod preparing;
 
 use crate::asking::{Replies, answer};
 use crate::entering::{applied, value_of, verdict_at};

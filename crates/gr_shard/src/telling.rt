@@ -1,10 +1,12 @@
-ghost use Rattle.std.specs.Prelude.{◌≡◌, IfOk, OnOk, OnErr, option_copied};
+ghost use Rattle.std.specs.Prelude.{◌≡◌, ◌≤◌, ◌+◌, IfOk, OnOk, OnErr, option_copied};
 ghost use Rattle.gr_cq.specs.Entries.{noted};
 ghost use Rattle.gr_vector.specs.Order.{united};
+ghost use Rattle.gr_shard.specs.Effects.{IsMadeAt, needs, queries_after};
 ghost use Rattle.gr_shard.specs.Entries.{with_change};
 ghost use Rattle.gr_stamp.specs.Winner.{put_value};
 ghost use Rattle.gr_shard.specs.Telling.{IsForeseen, IsReady, is_other_slot, slot_value, told_of, turned_between, turned_by_change, turned_slot, with_keys};
 
+use crate::effect::QueriesAfter;
 use crate::entering::{enter, value_of};
 use gr_cq::{Coming, Foreseen, Registry, Turned};
 use gr_slots::{Slot, Slots};
@@ -45,6 +47,27 @@ fn foresee(
 {
     match queries.foresee(alloc, &Coming::Note { turned }) {
         Ok(foreseen) => Ok(Some(foreseen)),
+        Err(_) => Err(Memory),
+    }
+}
+
+/// Makes ready what the open queries are to be told of these keys.
+pub fn foretell_turned(
+    alloc: Global,
+    queries: &mut Registry,
+    turned: &[Turned],
+) -> Result<QueriesAfter, Memory>
+    ensures entries { queries.new.entries ≡ queries.old.entries }
+    ensures grows { queries.old.spare ≤ queries.new.spare }
+    ensures after { IfOk result (λ after. queries_after after queries.old.entries ≡ noted turned.now queries.old.entries) }
+    ensures made { IfOk result (λ after. IsMadeAt queries.old.entries after) }
+    ensures room { IfOk result (λ after. needs after ≤ 1 + queries.new.spare) }
+{
+    if queries.is_empty() {
+        return Ok(QueriesAfter::Same);
+    }
+    match queries.foresee(alloc, &Coming::Note { turned }) {
+        Ok(foreseen) => Ok(QueriesAfter::Told(foreseen)),
         Err(_) => Err(Memory),
     }
 }
@@ -196,8 +219,8 @@ fn turned_at(alloc: Global, key: &Key, old: &Slots, new: &Slots) -> Result<Turne
     })
 }
 
-// The keys at which other changes stand than before, with their values, in order.
-fn turned_between(alloc: Global, old: &Slots, new: &Slots) -> Result<Vec<Turned>, Memory>
+/// The keys at which other changes stand than before, with their values, in order.
+pub fn turned_between(alloc: Global, old: &Slots, new: &Slots) -> Result<Vec<Turned>, Memory>
     ensures { IfOk result (λ turned. turned.items ≡ turned_between old.now new.now) }
 {
     let mut keys = BTreeSet::new(alloc);

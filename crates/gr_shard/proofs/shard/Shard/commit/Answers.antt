@@ -1,0 +1,47 @@
+use Rattle.std.proofs.Common.{◌≡◌, ◌∙◌, ap, sym, subst, true, [], ◌∷◌, ◌++◌, reverse}
+use Rattle.std.proofs.lemmas.List.{reverse-append}
+use Rattle.gr_shard.specs.Effects.{IsMadeAt, needs, queries_after}
+use Rattle.gr_shard.specs.Prepared.{IsFit}
+use Rattle.gr_shard.specs.View.{kept, spare_of}
+use Rattle.gr_shard.proofs.Prepares.{has_events, is_roomy, needs_some, ready_for}
+use Rattle.gr_shard.proofs.Pushed.{on_ok}
+use Rattle.gr_shard.proofs.Stocked.{unstocked}
+use Rattle.gr_shard.proofs.shard.Shard.commit.Goals as goal
+
+pub invariant_of-self : goal.invariant_of-self
+invariant_of-self c =
+    let was = c.self.inside in
+    let past = reverse was.history.deeds in
+    let deed = c.args.prepared.deed in
+    let effect = c.args.prepared.effect in
+    let fit : IsFit (record { id = was.id; opening = was.opening; deeds = was.history.deeds; spare = spare_of was.roomy was.queries.spare })
+    deed effect = rw (← c.self.view_is) at c.requires in
+    let roomy : was.roomy ≡ true = is_roomy was.roomy was.queries.spare (needs effect.queries) (needs_some effect.queries) fit.room in
+    let pushed : c.push.new.self.deeds ≡ was.history.deeds ++ deed ∷ [] =
+    on_ok c.push.result (c.push.ensures.room (c.self.invariant.1.a_deed roomy)) c.push.ensures.ok in
+    rw (
+      pushed,
+      reverse-append,
+      c.settle.ensures,
+      c.know.ensures,
+      c.carry_out.ensures,
+      c.keep.ensures,
+      c.aimed-self-inside.ensures,
+      c.note_given.ensures,
+      c.moved-self-inside.ensures,
+      c.moved-self-inside-2.ensures,
+      c.either-self-inside.ensures,
+    ) (
+      fit.keeps (kept was.slots was.vector.ids was.floor was.clock was.joined was.to was.heard was.given was.queries.entries)
+          c.self.invariant.1.open_are c.self.invariant.0,
+      unstocked _ _ _ _ (ap (queries_after effect.queries) c.self.invariant.1.open_are ∙ fit.opens),
+    )
+
+pub carry_out-requires : goal.carry_out-requires
+carry_out-requires c =
+    let was = c.self.inside in
+    let effect = c.args.prepared.effect in
+    let fit : IsFit (record { id = was.id; opening = was.opening; deeds = was.history.deeds; spare = spare_of was.roomy was.queries.spare })
+    c.args.prepared.deed effect = rw (← c.self.view_is) at c.requires in
+    ready_for was.queries effect.queries (subst (λ all. IsMadeAt all effect.queries) (sym c.self.invariant.1.open_are) fit.made)
+    (has_events was.roomy was.queries.spare (needs effect.queries) fit.room)

@@ -1,0 +1,111 @@
+-- What a deed that was prepared changes of what a shard keeps, and what that takes.
+use Rattle.std.specs.Prelude.{◌≤◌, ℕ, ◌+◌, ◌-◌, List, Bool, true, ◌||◌, false, Option, Some, None, set, unwrap_or}
+use Rattle.gr_cq.specs.Entries.{Entry, Queries}
+use Rattle.gr_cq.specs.Foresight.{IsMadeFor, IsOf, changed, room_of}
+use Rattle.gr_history.specs.declared.identity.Identity.{Identity}
+use Rattle.gr_history.specs.declared.query_ask.QueryAsk.TheVariants as asks
+use Rattle.gr_history.specs.Recipients.{member_bits}
+use Rattle.gr_slots.specs.Slots.{Entries}
+use Rattle.gr_stable.specs.Heard.{Reports, with_report}
+use Rattle.gr_vector.specs.declared.report.Report.{Report}
+use Rattle.gr_vector.specs.Ids.{Id}
+use Rattle.gr_vector.specs.Order.{with_id}
+use Rattle.gr_shard.specs.declared.effect.Effect.{Effect}
+use Rattle.gr_shard.specs.declared.effect.IdsAfter.{IdsAfter}
+use Rattle.gr_shard.specs.declared.effect.IdsAfter.TheVariants as ids_
+use Rattle.gr_shard.specs.declared.effect.QueriesAfter.{QueriesAfter}
+use Rattle.gr_shard.specs.declared.effect.QueriesAfter.TheVariants as queries_
+use Rattle.gr_shard.specs.declared.effect.SlotsAfter.{SlotsAfter}
+use Rattle.gr_shard.specs.declared.effect.SlotsAfter.TheVariants as slots_
+use Rattle.gr_shard.specs.Gifts.{goes_to}
+use Rattle.gr_shard.specs.InStep.{served}
+use Rattle.gr_shard.specs.Sweeps.{without_all}
+use Rattle.gr_shard.specs.View.{Kept}
+
+-- ---- what is kept afterwards
+
+abbrev pub unchanged : Effect
+unchanged = record {
+  slots = slots_.Same;
+  ids = ids_.Same;
+  queries = queries_.Same;
+  heard = None;
+  to = None;
+  floor = None;
+  clock = None;
+  joined = false;
+}
+
+abbrev pub slots_after : SlotsAfter → Entries → Entries
+slots_after slots_.Same slots = slots
+slots_after (slots_.New new) slots = new
+slots_after (slots_.Without keys) slots = without_all keys slots
+
+abbrev pub ids_after : IdsAfter → List Id → List Id
+ids_after ids_.Same ids = ids
+ids_after (ids_.With stamp) ids = with_id (record { member = stamp.member; rv = stamp.rv }) ids
+ids_after (ids_.New new) ids = new.ids
+
+abbrev pub queries_after : QueriesAfter → List Entry → List Entry
+queries_after queries_.Same queries = queries
+queries_after (queries_.Told foreseen) queries = changed foreseen.change queries
+queries_after (queries_.Stopped client name) queries = served client (asks.Stop name) queries
+queries_after (queries_.Closed client name) queries = served client (asks.Close name) queries
+
+abbrev pub heard_after : Option Report → Reports → Reports
+heard_after None heard = heard
+heard_after (Some report) heard = with_report report heard
+
+abbrev pub given_after : Option ℕ → List Bool → List Bool
+given_after None given = given
+given_after (Some to) given = set given (to - 1) true
+
+-- the members that a change goes to, by what they are given afterwards
+abbrev pub to_after : Identity → Option ℕ → List Bool → ℕ → ℕ
+to_after id None given to = to
+to_after id (Some other) given to = member_bits (goes_to id given) 8
+
+abbrev pub effected : Identity → Effect → Kept → Kept
+effected id effect now = record {
+  slots = slots_after effect.slots now.slots;
+  vector = ids_after effect.ids now.vector;
+  floor = unwrap_or effect.floor now.floor;
+  clock = unwrap_or effect.clock now.clock;
+  joined = effect.joined || now.joined;
+  to = to_after id effect.to (given_after effect.to now.given) now.to;
+  heard = heard_after effect.heard now.heard;
+  given = given_after effect.to now.given;
+  queries = queries_after effect.queries now.queries;
+}
+
+-- ---- what it takes
+
+-- how much room there must be
+abbrev pub needs : QueriesAfter → ℕ
+needs queries_.Same = 1
+needs (queries_.Told foreseen) = 1 + room_of foreseen.change
+needs (queries_.Stopped client name) = 1
+needs (queries_.Closed client name) = 1
+
+-- A slot has the clock for which there is room.
+abbrev pub IsTimed : ℕ → SlotsAfter → Type 0
+IsTimed clock slots_.Same = Unit {0}
+IsTimed clock (slots_.New new) = Unit {0}
+IsTimed clock (slots_.Without keys) = Unit {0}
+
+abbrev pub IsMadeAt : List Entry → QueriesAfter → Type 0
+IsMadeAt queries queries_.Same = Unit {0}
+IsMadeAt queries (queries_.Told foreseen) = IsOf queries foreseen.change foreseen.given
+IsMadeAt queries (queries_.Stopped client name) = Unit {0}
+IsMadeAt queries (queries_.Closed client name) = Unit {0}
+
+-- What was foreseen can be told to these queries.
+abbrev pub IsReadyFor : Queries → QueriesAfter → Type 0
+IsReadyFor queries queries_.Same = Unit {0}
+IsReadyFor queries (queries_.Told foreseen) = IsMadeFor queries foreseen
+IsReadyFor queries (queries_.Stopped client name) = Unit {0}
+IsReadyFor queries (queries_.Closed client name) = Unit {0}
+
+abbrev pub IsOneOfEight : Option ℕ → Type 0
+IsOneOfEight None = Unit {0}
+IsOneOfEight (Some to) = (1 ≤ to) × (to ≤ 8)
