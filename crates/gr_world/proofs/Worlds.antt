@@ -47,7 +47,7 @@ abbrev pub row_left : Heading → List Event → ℕ → List Account
 row_left heading events member = numbers_from 0 heading.shards (account_left heading events member)
 
 account_of : Heading → ℕ → ℕ → List Deed → Account
-account_of heading member shard past = record { id = identity_at heading member shard; opening = heading.floor; deeds = reverse past }
+account_of heading member shard past = record { id = identity_at heading member shard; opening = heading.floor; deeds = reverse past; spare = 0 }
 
 -- a member's number is its place and one
 place_and_one : (member : ℕ) → 1 ≤ member → 1 + (member - 1) ≡ member

@@ -14,7 +14,7 @@ use Rattle.gr_history.specs.declared.record.MemberRecord.{MemberRecord}
 use Rattle.gr_history.specs.Calls.{call_gives}
 use Rattle.gr_history.specs.Queries.{query_gives}
 use Rattle.gr_shard.specs.Records.{IsRecordOf}
-use Rattle.gr_shard.specs.View.{Account}
+use Rattle.gr_shard.specs.View.{Account, after_deed}
 use Rattle.gr_script.specs.declared.line.Line.{Line}
 use Rattle.gr_script.specs.declared.line.Line.TheVariants.{Step, Deliver, Hear, Sweep, Join}
 use Rattle.gr_script.specs.declared.line.Line.TheVariants as line
@@ -31,7 +31,7 @@ use Rattle.gr_world.specs.declared.world.World.{World}
 
 -- (what a read gives where there is nothing)
 abbrev pub no_account : Account
-no_account = record { id = record { member = 0; members = 0; founders = 0; shard = 0; shards = 0 }; opening = 0; deeds = [] }
+no_account = record { id = record { member = 0; members = 0; founders = 0; shard = 0; shards = 0 }; opening = 0; deeds = []; spare = 0 }
 
 abbrev pub account_in : List Account → ℕ → Account
 account_in row shard = get_or row shard no_account
@@ -55,7 +55,7 @@ gives_at account ask = call_gives account.id account.opening (reverse account.de
 
 -- with one more deed
 abbrev pub longer : Account → Deed → Account
-longer account deed = record account { deeds = account.deeds ++ deed ∷ [] }
+longer account deed = after_deed account deed
 
 abbrev pub row_with : List Account → ℕ → Deed → List Account
 row_with row shard deed = set row shard (longer (account_in row shard) deed)
@@ -69,7 +69,7 @@ pub record IsDone (old new : List (List Account)) (member shard : ℕ) (doing : 
   pub added : new ≡ grid_with old member shard deed
 
 abbrev pub new_account : Identity → ℕ → ℕ → Account
-new_account id floor shard = record { id = record id { shard = shard }; opening = floor; deeds = [] }
+new_account id floor shard = record { id = record id { shard = shard }; opening = floor; deeds = []; spare = 0 }
 
 abbrev pub new_row : Identity → ℕ → ℕ → List Account
 new_row id floor member = numbers_from 0 id.shards (new_account (record id { member = member }) floor)
@@ -90,6 +90,7 @@ account_left heading events member shard = record {
   id = identity_at heading member shard;
   opening = heading.floor;
   deeds = reverse (history member shard events);
+  spare = 0;
 }
 
 abbrev pub grid_left : Heading → List Event → List (List Account)

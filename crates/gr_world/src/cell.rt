@@ -49,7 +49,7 @@ fn at(reports: &[Report], place: usize) -> Option<&Report>
 impl Cell {
     pub fn new(alloc: Global, id: Identity, floor: u64) -> Result<Cell, Memory>
         requires { IsPlace id floor }
-        ensures { IfOk result (λ cell. cell ≡ record { id = id; opening = floor; deeds = [] }) }
+        ensures { IfOk result (λ cell. cell ≡ record { id = id; opening = floor; deeds = []; spare = 0 }) }
     {
         Ok(Cell {
             shard: Shard::new(alloc, id, floor)?,
