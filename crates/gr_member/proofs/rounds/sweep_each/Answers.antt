@@ -1,0 +1,51 @@
+use Rattle.std.proofs.Common.{◌<◌, length, arith}
+use Rattle.gr_history.specs.declared.deed.Deed.TheVariants.{Swept}
+use Rattle.gr_member.proofs.Going.{swept_none, swept_more, swept_all, turned_stays, turned_refused, turned_until, on_err}
+use Rattle.gr_member.proofs.rounds.sweep_each.Goals as goal
+
+pub loop-k-init : goal.loop-k-init
+loop-k-init g c = swept_none c.args.moment c.args.shards.now.items
+
+pub loop-k-preserved : goal.loop-k-preserved
+loop-k-preserved g c =
+    let ok = c.args.shards.now.ok in
+    let end = c.len-k-end.ensures in
+    let test = c.loop-k-test.true in
+    let below : c.loop-k.k < length c.args.shards.now.items = omega arith in
+    swept_more c.args.moment c.loop-k.count c.saturating_add-count.result c.in_ok-expired.expired c.args.shards.now.items
+    c.loop-k.shards.items c.loop-k.k
+    c.index_mut.result.now c.sweep.new.self below c.loop-k.invariant c.index_mut.ensures.value c.in_ok-expired.ensures.done
+    c.saturating_add-count.ensures
+
+pub returns-in_err-expired-clause-stays : goal.returns-in_err-expired-clause-stays
+returns-in_err-expired-clause-stays g c =
+    let ok = c.args.shards.now.ok in
+    let end = c.len-k-end.ensures in
+    let test = c.loop-k-test.true in
+    let below : c.loop-k.k < length c.args.shards.now.items = omega arith in
+    turned_refused (Swept c.args.moment) c.args.shards.now.items c.loop-k.shards.items c.loop-k.invariant.expired c.loop-k.k
+    c.index_mut.result.now
+    c.sweep.new.self below c.loop-k.invariant.turned c.index_mut.ensures.value c.sweep.ensures.stays
+
+pub returns-in_err-expired-clause-refused : goal.returns-in_err-expired-clause-refused
+returns-in_err-expired-clause-refused g c =
+    let ok = c.args.shards.now.ok in
+    let end = c.len-k-end.ensures in
+    let test = c.loop-k-test.true in
+    let below : c.loop-k.k < length c.args.shards.now.items = omega arith in
+    on_err c.from_residual.result _ (turned_until (Swept c.args.moment) c.args.shards.now.items c.loop-k.shards.items
+    c.loop-k.invariant.expired c.loop-k.k c.index_mut.result.now
+    c.sweep.new.self below c.loop-k.invariant.turned c.index_mut.ensures.value c.in_err-expired.ensures.refused)
+
+pub returns-clause-stays : goal.returns-clause-stays
+returns-clause-stays g c =
+    turned_stays (Swept c.args.moment) c.args.shards.now.items c.loop-k.shards.items c.loop-k.invariant.expired c.loop-k.k
+    c.loop-k.invariant.turned
+
+pub returns-clause-done : goal.returns-clause-done
+returns-clause-done g c =
+    let ok = c.args.shards.now.ok in
+    let end = c.len-k-end.ensures in
+    let test = c.loop-k-test.false in
+    let upto = c.loop-k.auto.k-end in
+    swept_all c.args.moment c.loop-k.count c.args.shards.now.items c.loop-k.shards.items c.loop-k.k c.loop-k.invariant (omega arith)
