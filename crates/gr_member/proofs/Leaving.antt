@@ -3,7 +3,8 @@ use Rattle.std.proofs.Common.{◌≡◌, ℕ, zero, suc, ◌+◌, ◌<◌, List,
 use Rattle.std.proofs.Common.{append_assoc, append-nil, length-append}
 use Rattle.std.proofs.lemmas.List.{get_or_push, get_or_append_left, reverse-append}
 use Rattle.std.specs.Prelude.{Option, Some, Result, Ok, Err, IfOk, OnOk}
-use Rattle.gr_turn.specs.Views.{HasAll, StartsWith, MadeAll}
+use Rattle.gr_value.specs.Lists.{StartsWith}
+use Rattle.gr_turn.specs.Views.{HasAll, MadeAll}
 use Rattle.gr_history.specs.declared.record.MemberRecord.{MemberRecord}
 use Rattle.gr_history.specs.declared.record.ShardRecord.{ShardRecord}
 use Rattle.std.specs.List.{AllByRecursion}

@@ -8,7 +8,8 @@ use Rattle.gr_stamp.specs.declared.change.Change.{Change}
 use Rattle.gr_history.specs.declared.done.Done.{Done}
 use Rattle.gr_member.specs.Bases.{IsKeyBy, NamesFew}
 use Rattle.gr_turn.specs.declared.view.View.{View}
-use Rattle.gr_turn.specs.Views.{StartsWith, count_from, left_by, won_by, with_lost}
+use Rattle.gr_value.specs.Lists.{StartsWith}
+use Rattle.gr_turn.specs.Views.{count_from, left_by, won_by, with_lost}
 use Rattle.gr_history.specs.declared.deed.Deed.{Deed}
 use Rattle.gr_member.specs.declared.replica.Origin.{Origin}
 use Rattle.atomic_table.specs.Seated.{TableId}

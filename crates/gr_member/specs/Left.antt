@@ -7,7 +7,8 @@ use Rattle.gr_history.specs.declared.record.ShardRecord.{ShardRecord}
 use Rattle.gr_history.specs.Lawful.{IsLawful, IsOfShard}
 use Rattle.gr_history.specs.Recipients.{NamesMembers}
 use Rattle.gr_history.specs.Regions.{IsRegionOf}
-use Rattle.gr_turn.specs.Views.{StartsWith, MadeAll}
+use Rattle.gr_value.specs.Lists.{StartsWith}
+use Rattle.gr_turn.specs.Views.{MadeAll}
 use Rattle.gr_member.specs.declared.plan.Plan.{Plan}
 use Rattle.gr_member.specs.Plans.{identity_of}
 use Rattle.gr_member.specs.Replicas.{IsBaseOf}

@@ -2,7 +2,7 @@
 use Rattle.std.specs.Prelude.{◌≡◌, ℕ, Option, Some}
 use Rattle.gr_history.specs.declared.identity.Identity.{Identity}
 use Rattle.gr_shard.specs.View.{Account}
-use Rattle.gr_turn.specs.Views.{StartsWith}
+use Rattle.gr_value.specs.Lists.{StartsWith}
 use Rattle.gr_member.specs.declared.replica.Origin.{Origin}
 
 -- whose shard it is, and the floor that it began with

@@ -8,7 +8,8 @@ use Rattle.gr_history.specs.declared.image.What.{What}
 use Rattle.gr_history.specs.Gifts.{IsGiftOf}
 use Rattle.gr_history.specs.Room.{HasNoRoom}
 use Rattle.gr_shard.specs.Merges.{IsGiftFor}
-use Rattle.gr_turn.specs.Views.{StartsWith, Seated, MadeAll, MadeOnce, unopened}
+use Rattle.gr_value.specs.Lists.{StartsWith}
+use Rattle.gr_turn.specs.Views.{Seated, MadeAll, MadeOnce, unopened}
 use Rattle.gr_member.specs.declared.replica.Origin.{Origin}
 
 -- a seat, as callers see it: its lock, and what it knows
