@@ -28,6 +28,8 @@ mod streams;
 #[cfg(test)]
 mod turns;
 #[cfg(test)]
+mod values;
+#[cfg(test)]
 mod vectors;
 #[cfg(test)]
 mod words;
