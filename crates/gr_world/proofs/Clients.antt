@@ -15,14 +15,14 @@ use Rattle.gr_history.specs.declared.query_reply.QueryReply.{QueryReply}
 use Rattle.gr_history.specs.declared.record.Answer.{Answer}
 use Rattle.gr_history.specs.Asks.{key_of}
 use Rattle.gr_history.specs.Made.{made}
-use Rattle.gr_history.specs.Gifts.{own_changes}
+use Rattle.gr_history.specs.Gifts.{own_changes, image_of}
 use Rattle.gr_script.specs.declared.line.Act.TheVariants as act
 use Rattle.gr_script.specs.declared.line.Line.{Line}
 use Rattle.gr_script.specs.declared.line.Line.TheVariants.{Step, Deliver, Hear, Sweep, Join}
 use Rattle.gr_script.specs.declared.line.Line.TheVariants as line
 use Rattle.gr_script.specs.Rules.{Heading, home_of}
 use Rattle.gr_world.specs.Events.{Event, put_if, history}
-use Rattle.gr_world.specs.Doings.{Doing, Calls, Takes, Gives, Merges, Reports, Hears, Sweeps, Asks, image_of}
+use Rattle.gr_world.specs.Doings.{Doing, Calls, Takes, Gives, Merges, Reports, Hears, Sweeps, Asks}
 use Rattle.gr_world.specs.Named.{made_by, reports, numbered}
 use Rattle.gr_world.specs.Clients.{Asking, OfKey, OfQuery}
 use Rattle.gr_world.specs.Courses.{does, asks_at_each, for_each, delivers, hears, takes_all, gives_unless, what_from, after, course}

@@ -20,7 +20,7 @@ use Rattle.gr_history.specs.Calls.{call_gives, given, nothing_made, made_change,
 use Rattle.gr_history.specs.Recipients.{recipients, is_ready}
 use Rattle.gr_history.specs.Ids.{ids, known}
 use Rattle.gr_history.specs.Made.{made, made_at}
-use Rattle.gr_history.specs.Gifts.{IsReportOf}
+use Rattle.gr_history.specs.Gifts.{IsReportOf, report_of}
 use Rattle.gr_history.specs.Lawful.{IsLawfulDeed}
 use Rattle.gr_history.specs.Room.{IsSameDeed, IsSameReport, bare}
 use Rattle.gr_history.specs.Standing.{present}
@@ -30,7 +30,7 @@ use Rattle.gr_law.proofs.Lists.{among_right}
 use Rattle.gr_script.specs.Rules.{Heading}
 use Rattle.gr_world.specs.Events.{Event, Did, Peeked, Gathered, put_if, history}
 use Rattle.gr_shard.specs.Calls.{call_with}
-use Rattle.gr_world.specs.Doings.{Doing, Calls, Takes, Gives, Merges, Reports, Hears, Sweeps, Asks, deed_of, report_of}
+use Rattle.gr_world.specs.Doings.{Doing, Calls, Takes, Gives, Merges, Reports, Hears, Sweeps, Asks, deed_of}
 use Rattle.gr_world.specs.Courses.{does}
 use Rattle.gr_world.specs.Doings.{Says}
 

@@ -11,7 +11,7 @@ use Rattle.gr_history.specs.declared.image.Image.{Image}
 use Rattle.gr_history.specs.declared.image.What.{What}
 use Rattle.gr_history.specs.declared.image.What.TheVariants as what
 use Rattle.gr_vector.specs.Ids.{Id}
-use Rattle.gr_history.specs.Gifts.{IsGiftOf, IsImageOf, own_changes}
+use Rattle.gr_history.specs.Gifts.{IsGiftOf, IsImageOf, own_changes, image_of}
 use Rattle.gr_history.specs.Ids.{known}
 use Rattle.gr_history.specs.Regions.{all_standing}
 use Rattle.gr_history.specs.Room.{HasNoRoom}
@@ -19,7 +19,7 @@ use Rattle.gr_shard.specs.Merges.{IsGiftFor}
 use Rattle.gr_script.specs.Rules.{Heading, IsMember}
 use Rattle.gr_world.specs.declared.world.World.{World}
 use Rattle.gr_world.specs.Courses.{does, gives, identity_at, takes_all, takes_gift}
-use Rattle.gr_world.specs.Doings.{Takes, Gives, image_of}
+use Rattle.gr_world.specs.Doings.{Takes, Gives}
 use Rattle.gr_world.specs.Events.{Event, history}
 use Rattle.gr_world.specs.Tasks.{IsGiven}
 use Rattle.gr_world.specs.Worlds.{IsAtWork, IsWorld, Plays, account_at}

@@ -15,7 +15,7 @@ use Rattle.gr_history.specs.declared.deed.Deed.TheVariants.{Gave, Imaged}
 use Rattle.gr_history.specs.Asks.{key_of}
 use Rattle.gr_history.specs.Calls.{given}
 use Rattle.gr_history.specs.Made.{made}
-use Rattle.gr_history.specs.Gifts.{own_changes, IsImageOf}
+use Rattle.gr_history.specs.Gifts.{own_changes, IsImageOf, image_of}
 use Rattle.gr_history.specs.Lawful.{IsLawful}
 use Rattle.gr_law.specs.Grids.{Among, Older, at_place}
 use Rattle.gr_law.specs.Integrity.{giver_of, IsMade, HasNoImage, IsGift}
@@ -29,7 +29,7 @@ use Rattle.gr_script.specs.Rules.{Heading, IsMember, home_of}
 use Rattle.gr_script.specs.Steps.{joins_of, is_join_of}
 use Rattle.std.proofs.lemmas.List.Sums.{sum_by-cons}
 use Rattle.gr_world.specs.Events.{Event, Did, history}
-use Rattle.gr_world.specs.Doings.{Doing, Calls, Takes, Gives, Merges, Reports, Hears, Sweeps, Asks, deed_of, image_of}
+use Rattle.gr_world.specs.Doings.{Doing, Calls, Takes, Gives, Merges, Reports, Hears, Sweeps, Asks, deed_of}
 use Rattle.gr_world.specs.Named.{made_by, reports, numbered}
 use Rattle.gr_world.specs.Courses.{identity_at, does, for_each, delivers, hears, takes_all, gives_unless, what_from, after, course}
 use Rattle.gr_world.specs.Causes.{grid_at, IsCausal}

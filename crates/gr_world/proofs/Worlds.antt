@@ -28,7 +28,7 @@ use Rattle.gr_world.specs.Noted.{Notes, place_of}
 use Rattle.gr_world.specs.Numbered.{numbers_from}
 use Rattle.gr_world.specs.Records.{answers}
 use Rattle.gr_world.specs.Doings.{Doing, Calls, Takes, deed_of}
-use Rattle.gr_world.specs.Named.{made_by, made_by_deed, made_in, numbered, or_else, reports}
+use Rattle.gr_world.specs.Named.{made_by, made_by_deed, numbered, or_else, reports}
 use Rattle.gr_world.specs.Tasks.{doing_of}
 use Rattle.gr_world.specs.declared.task.Task.{Task}
 use Rattle.gr_world.specs.declared.task.Task.TheVariants as task
@@ -41,6 +41,7 @@ use Rattle.gr_history.specs.declared.identity.Identity.{Identity}
 use Rattle.gr_vector.specs.declared.report.Report.{Report}
 use Rattle.gr_world.proofs.Events.{at_put, history_here, same_number}
 use Rattle.gr_world.proofs.Lists.{kept_get, last_get, numbers_get, numbers_length, numbers_same, numbers_set}
+use Rattle.gr_history.specs.Made.{made_in}
 
 -- the accounts of a member's shards
 abbrev pub row_left : Heading → List Event → ℕ → List Account

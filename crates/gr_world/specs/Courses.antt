@@ -12,7 +12,7 @@ use Rattle.gr_history.specs.declared.query_ask.QueryAsk.{QueryAsk}
 use Rattle.gr_history.specs.declared.query_reply.QueryReply.{QueryReply}
 use Rattle.gr_history.specs.Asks.{key_of}
 use Rattle.gr_history.specs.Queries.{query_gives}
-use Rattle.gr_history.specs.Gifts.{own_changes}
+use Rattle.gr_history.specs.Gifts.{own_changes, image_of}
 use Rattle.gr_history.specs.Standing.{present}
 use Rattle.gr_script.specs.declared.line.Act.TheVariants as act
 use Rattle.gr_script.specs.declared.line.Line.{Line}
@@ -20,7 +20,7 @@ use Rattle.gr_script.specs.declared.line.Line.TheVariants.{Step, Deliver, Hear, 
 use Rattle.gr_script.specs.declared.line.Line.TheVariants as line
 use Rattle.gr_script.specs.Rules.{Heading, home_of}
 use Rattle.gr_world.specs.Events.{Event, Did, Peeked, Gathered, history}
-use Rattle.gr_world.specs.Doings.{Doing, Calls, Takes, Gives, Merges, Reports, Hears, Sweeps, Asks, deed_of, image_of}
+use Rattle.gr_world.specs.Doings.{Doing, Calls, Takes, Gives, Merges, Reports, Hears, Sweeps, Asks, deed_of}
 use Rattle.gr_world.specs.Named.{made_by, reports, numbered}
 use Rattle.gr_world.specs.Numbered.{numbers_from}
 

@@ -1,8 +1,7 @@
 -- What is done at a shard, and the one deed that it gives there.
-use Rattle.std.specs.Prelude.{◌≡◌, ℕ, List, length}
+use Rattle.std.specs.Prelude.{◌≡◌, ℕ, List}
 use Rattle.gr_stamp.specs.declared.change.Change.{Change}
 use Rattle.gr_vector.specs.declared.report.Report.{Report}
-use Rattle.gr_vector.specs.Ids.{Ids, top}
 use Rattle.gr_history.specs.declared.ask.Ask.{Ask}
 use Rattle.gr_history.specs.declared.identity.Identity.{Identity}
 use Rattle.gr_history.specs.declared.image.Image.{Image}
@@ -10,32 +9,12 @@ use Rattle.gr_history.specs.declared.image.What.{What}
 use Rattle.gr_history.specs.declared.deed.Deed.{Deed}
 use Rattle.gr_history.specs.declared.deed.Deed.TheVariants.{Call, Asked, Taken, Gave, Imaged, Reported, Heard, Swept}
 use Rattle.gr_history.specs.Calls.{call_gives}
-use Rattle.gr_history.specs.Floor.{floor}
 use Rattle.gr_history.specs.declared.query_ask.QueryAsk.{QueryAsk}
 use Rattle.gr_history.specs.Queries.{query_gives}
-use Rattle.gr_history.specs.Ids.{ids, known}
-use Rattle.gr_history.specs.Regions.{all_standing}
 use Rattle.gr_history.specs.Stable.{due}
 use Rattle.gr_history.specs.Verdicts.{verdict}
+use Rattle.gr_history.specs.Gifts.{report_of}
 use Rattle.gr_shard.specs.Calls.{call_with}
-
--- a vector of all that a history knows, with no room to spare, as copies have it
-abbrev pub vector_of : List Deed → Ids
-vector_of past = record { ids = known past; spare = 0 }
-
--- what a member reports of its history
-abbrev pub report_of : ℕ → List Deed → Report
-report_of member past = record { member = member; at = length past; own = top member (ids past); vector = vector_of past }
-
--- the image that a member gives
-abbrev pub image_of : ℕ → ℕ → List Deed → Image
-image_of member opening past = record {
-  from = member;
-  at = length past;
-  rows = all_standing past;
-  vector = vector_of past;
-  floor = floor opening past;
-}
 
 -- A client's step calls or asks something of a query, a change is taken in, a joiner is given something, an image
 -- is merged, a report is made, a report is heard, or a sweep goes through. What comes of it is told by the history

@@ -6,11 +6,6 @@ use Rattle.gr_history.specs.declared.deed.Deed.{Deed}
 use Rattle.gr_history.specs.declared.deed.Deed.TheVariants.{Call, Asked, Taken, Gave, Imaged, Reported, Heard, Swept}
 use Rattle.gr_world.specs.Events.{Event, Did, Peeked, Gathered}
 
--- what a deed made
-abbrev pub made_in : Deed → Option Change
-made_in (Call client to seq ask reply made) = made
-made_in _ = None
-
 -- what a deed made, where it is this step of the client
 abbrev pub made_by_deed : ℕ → ℕ → Deed → Option Change
 made_by_deed client number (Call own to seq ask reply made) = if own == client && seq == number then made else None

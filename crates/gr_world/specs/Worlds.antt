@@ -21,13 +21,14 @@ use Rattle.gr_script.specs.declared.line.Line.TheVariants as line
 use Rattle.gr_script.specs.Rules.{Heading, IsMember, IsStated, home_of}
 use Rattle.gr_world.specs.Events.{Event, history}
 use Rattle.gr_world.specs.Doings.{Doing, deed_of}
-use Rattle.gr_world.specs.Named.{made_by, made_in}
+use Rattle.gr_world.specs.Named.{made_by}
 use Rattle.gr_world.specs.Noted.{place_of}
 use Rattle.gr_world.specs.Courses.{asks_at_each, identity_at}
 use Rattle.gr_world.specs.Records.{answers}
 use Rattle.gr_world.specs.Numbered.{numbers_from, PairsFrom}
 use Rattle.gr_world.specs.declared.place.DeedPlace.{DeedPlace}
 use Rattle.gr_world.specs.declared.world.World.{World}
+use Rattle.gr_history.specs.Made.{made_in}
 
 -- (what a read gives where there is nothing)
 abbrev pub no_account : Account

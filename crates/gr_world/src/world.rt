@@ -9,10 +9,11 @@ ghost use Rattle.gr_world.specs.Courses.{after, does, for_each};
 ghost use Rattle.gr_world.specs.Tasks.{BelongsTo, doing_of};
 ghost use Rattle.gr_shard.specs.View.{Account};
 ghost use Rattle.gr_world.specs.Events.{Event};
-ghost use Rattle.gr_world.specs.Named.{made_by, made_in};
+ghost use Rattle.gr_world.specs.Named.{made_by};
 ghost use Rattle.gr_world.specs.Records.{IsLeft};
 ghost use Rattle.gr_world.specs.Noted.{Notes};
 ghost use Rattle.gr_world.specs.Worlds.{CanPlay, IsAtWork, IsWorld, Plays};
+ghost use Rattle.gr_history.specs.Made.{made_in};
 
 use crate::grid::Grid;
 use crate::made::Made;

@@ -1,9 +1,9 @@
 use Rattle.std.proofs.Common.{◌∙◌, ap, sym}
 use Rattle.std.specs.Prelude.{option_and_then, slice_get}
 use Rattle.gr_script.specs.Scripts.{heading_of}
-use Rattle.gr_world.specs.Named.{made_in}
 use Rattle.gr_world.proofs.Worlds.{found_cell, found_change}
 use Rattle.gr_world.proofs.world.World.change_of.Goals as goal
+use Rattle.gr_history.specs.Made.{made_in}
 
 pub cell-requires : goal.cell-requires
 cell-requires c =
