@@ -19,7 +19,7 @@ use Rattle.gr_stable.proofs.Counting.{heard_next}
 use Rattle.gr_vector.specs.Ids.{has_id, Ids}
 use Rattle.gr_vector.specs.Order.{united}
 use Rattle.gr_vector.proofs.Same.{united-append}
-use Rattle.gr_slots.specs.Slots.{Entries}
+use Rattle.gr_slots.specs.Slots.{Entries, HeldSlots}
 use Rattle.gr_shard.specs.declared.effect.IdsAfter.TheVariants as ids_
 use Rattle.gr_shard.specs.declared.effect.QueriesAfter.{QueriesAfter}
 use Rattle.gr_shard.specs.declared.effect.SlotsAfter.TheVariants as slots_
@@ -43,8 +43,8 @@ in_step_after deed past after queries unasked tells same in_step =
     (subst (λ all. IsInStep all (deed ∷ past)) (sym tells)
     (noted_in_step deed past (opened past) unasked (subst (λ all. IsInStep all past) same in_step)))
 
-module _ (account : Account) (image : Image) (slots : Entries) (vector : Ids) (floor : ℕ) (after : QueriesAfter) where
-  pub fit_imaged : needs after ≤ account.spare → IsImageFor account.id image → Hold slots (Imaged image ∷ reverse account.deeds)
+module _ (account : Account) (image : Image) (slots : HeldSlots) (vector : Ids) (floor : ℕ) (after : QueriesAfter) where
+  pub fit_imaged : needs after ≤ account.spare → IsImageFor account.id image → Hold slots.entries (Imaged image ∷ reverse account.deeds)
       → vector.ids ≡ known (Imaged image ∷ reverse account.deeds)
       → floor ≡ floor_of account.opening (Imaged image ∷ reverse account.deeds) → floor ≤ LIMIT
       → queries_after after (opened (reverse account.deeds))

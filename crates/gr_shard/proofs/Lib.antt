@@ -20,3 +20,4 @@ pub mod Asked
 pub mod Stocked
 pub mod Prepares
 pub mod Imaging
+pub mod Coming

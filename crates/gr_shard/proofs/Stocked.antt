@@ -1,5 +1,5 @@
 -- The open queries stand in the order that the history gives, after each deed.
-use Rattle.std.proofs.Common.{◌≡◌, ◌∙◌, ap, sym, ℕ, List, ◌∷◌, false, Some}
+use Rattle.std.proofs.Common.{◌≡◌, ◌∙◌, ap, sym, ℕ, List, ◌∷◌, false, Option, Some}
 use Rattle.gr_stamp.specs.declared.change.Change.{Change}
 use Rattle.gr_cq.specs.Entries.{Entry, noted}
 use Rattle.gr_history.specs.declared.identity.Identity.{Identity}
@@ -23,9 +23,9 @@ use Rattle.gr_shard.proofs.Kept.{turned_change, turned_taken}
 use Rattle.gr_shard.proofs.Turning.{turned_by_slots}
 
 -- where no room is claimed
-pub unstocked : (history ids : ℕ) (queries : List Entry) (past : List Deed) → queries ≡ opened past
-    → IsStocked false history ids queries past
-unstocked history ids queries past is = record { open_are = is; a_deed = λ claimed. absurd cc; an_id = λ claimed. absurd cc }
+pub unstocked : (history ids : ℕ) (room : Option ℕ) (clock : ℕ) (queries : List Entry) (past : List Deed) → queries ≡ opened past
+    → IsStocked false history ids room clock queries past
+unstocked history ids room clock queries past is = record { open_are = is; a_deed = λ claimed. absurd cc; an_id = λ claimed. absurd cc; a_slot = λ claimed. absurd cc }
 
 module _ (past : List Deed) (slots : Entries) (queries : List Entry) where
   -- The queries were told of a change, over what stood.

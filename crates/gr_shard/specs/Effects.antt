@@ -1,11 +1,12 @@
 -- What a deed that was prepared changes of what a shard keeps, and what that takes.
-use Rattle.std.specs.Prelude.{◌≤◌, ℕ, ◌+◌, ◌-◌, List, Bool, true, ◌||◌, false, Option, Some, None, set, unwrap_or}
+use Rattle.std.specs.Prelude.{◌≡◌, ◌≤◌, ℕ, ◌+◌, ◌-◌, List, Bool, true, ◌||◌, false, Option, Some, None, set, unwrap_or}
 use Rattle.gr_cq.specs.Entries.{Entry, Queries}
 use Rattle.gr_cq.specs.Foresight.{IsMadeFor, IsOf, changed, room_of}
 use Rattle.gr_history.specs.declared.identity.Identity.{Identity}
 use Rattle.gr_history.specs.declared.query_ask.QueryAsk.TheVariants as asks
 use Rattle.gr_history.specs.Recipients.{member_bits}
-use Rattle.gr_slots.specs.Slots.{Entries}
+use Rattle.gr_slots.specs.Slots.{Entries, with_slot}
+use Rattle.gr_stamp.specs.declared.change.Change.{Change}
 use Rattle.gr_stable.specs.Heard.{Reports, with_report}
 use Rattle.gr_vector.specs.declared.report.Report.{Report}
 use Rattle.gr_vector.specs.Ids.{Id}
@@ -17,6 +18,7 @@ use Rattle.gr_shard.specs.declared.effect.QueriesAfter.{QueriesAfter}
 use Rattle.gr_shard.specs.declared.effect.QueriesAfter.TheVariants as queries_
 use Rattle.gr_shard.specs.declared.effect.SlotsAfter.{SlotsAfter}
 use Rattle.gr_shard.specs.declared.effect.SlotsAfter.TheVariants as slots_
+use Rattle.gr_shard.specs.Entries.{slot_from}
 use Rattle.gr_shard.specs.Gifts.{goes_to}
 use Rattle.gr_shard.specs.InStep.{served}
 use Rattle.gr_shard.specs.Sweeps.{without_all}
@@ -38,8 +40,18 @@ unchanged = record {
 
 abbrev pub slots_after : SlotsAfter → Entries → Entries
 slots_after slots_.Same slots = slots
-slots_after (slots_.New new) slots = new
+slots_after (slots_.With key slot) slots = with_slot key slot slots
+slots_after (slots_.New new) slots = new.entries
 slots_after (slots_.Without keys) slots = without_all keys slots
+
+-- what becomes of the slots by what comes in at this clock, and of the ids by what was made, if anything is
+abbrev pub arriving : Option Change → ℕ → SlotsAfter
+arriving None clock = slots_.Same
+arriving (Some change) clock = slots_.With change.key (slot_from change clock)
+
+abbrev pub noting : Option Change → IdsAfter
+noting None = ids_.Same
+noting (Some change) = ids_.With change.stamp
 
 abbrev pub ids_after : IdsAfter → List Id → List Id
 ids_after ids_.Same ids = ids
@@ -90,8 +102,16 @@ needs (queries_.Closed client name) = 1
 -- A slot has the clock for which there is room.
 abbrev pub IsTimed : ℕ → SlotsAfter → Type 0
 IsTimed clock slots_.Same = Unit {0}
+IsTimed clock (slots_.With key slot) = slot.taken_at ≡ clock
 IsTimed clock (slots_.New new) = Unit {0}
 IsTimed clock (slots_.Without keys) = Unit {0}
+
+-- There is room for a slot that comes in.
+abbrev pub IsRoomed : Option ℕ → SlotsAfter → Type 0
+IsRoomed room slots_.Same = Unit {0}
+IsRoomed room (slots_.With key slot) = room ≡ Some slot.taken_at
+IsRoomed room (slots_.New new) = Unit {0}
+IsRoomed room (slots_.Without keys) = Unit {0}
 
 abbrev pub IsMadeAt : List Entry → QueriesAfter → Type 0
 IsMadeAt queries queries_.Same = Unit {0}

@@ -1,14 +1,19 @@
 -- A deed that was prepared, and the call that it is of.
-use Rattle.std.specs.Prelude.{◌≡◌, ◌≤◌, ℕ, List, ◌∷◌, reverse}
+use Rattle.std.specs.Prelude.{◌≡◌, ◌≤◌, ℕ, List, ◌∷◌, length, reverse}
+use Rattle.gr_value.specs.Shard.{shard_of}
 use Rattle.gr_history.specs.declared.deed.Deed.{Deed}
-use Rattle.gr_history.specs.declared.deed.Deed.TheVariants.{Asked, Gave, Imaged, Reported, Heard}
+use Rattle.gr_history.specs.declared.deed.Deed.TheVariants.{Asked, Taken, Gave, Imaged, Reported, Heard, Swept}
 use Rattle.gr_history.specs.declared.identity.Identity.{Identity}
 use Rattle.gr_history.specs.declared.image.Gift.{Gift}
+use Rattle.gr_history.specs.Asks.{key_of}
+use Rattle.gr_history.specs.Calls.{call_gives}
 use Rattle.gr_history.specs.Clock.{clock as clock_of}
 use Rattle.gr_history.specs.Gifts.{IsGiftOf, IsReportOf}
 use Rattle.gr_history.specs.Queries.{query_gives}
 use Rattle.gr_history.specs.Room.{HasNoRoom}
+use Rattle.gr_history.specs.Stable.{due}
 use Rattle.gr_history.specs.Turned.{turned}
+use Rattle.gr_history.specs.Verdicts.{verdict}
 use Rattle.gr_vector.specs.declared.report.Report.{Report}
 use Rattle.gr_shard.specs.declared.effect.Effect.{Effect}
 use Rattle.gr_shard.specs.declared.next.Came.{Came}
@@ -16,6 +21,7 @@ use Rattle.gr_shard.specs.declared.next.Came.TheVariants as came
 use Rattle.gr_shard.specs.declared.next.Next.{Next}
 use Rattle.gr_shard.specs.declared.next.Next.TheVariants as next
 use Rattle.gr_shard.specs.declared.prepared.Prepared.{Prepared}
+use Rattle.gr_shard.specs.Calls.{call_with}
 use Rattle.gr_shard.specs.Effects.{IsMadeAt, IsOneOfEight, IsTimed, effected, needs, queries_after}
 use Rattle.gr_shard.specs.InStep.{opened}
 use Rattle.gr_shard.specs.Merges.{IsGiftFor, IsImageFor}
@@ -40,6 +46,8 @@ IsPreparedFor account prepared = IsFit account prepared.deed prepared.effect
 
 -- What each call asks of its caller.
 abbrev pub Belongs : Identity → Next → Type 0
+Belongs id (next.Call client seq ask) = shard_of (key_of ask.now) id.shards ≡ id.shard
+Belongs id (next.TakeIn change) = shard_of change.now.key id.shards ≡ id.shard
 Belongs id (next.Query client seq ask) = Unit {0}
 Belongs id (next.Give to what) = (1 ≤ to) × (to ≤ id.members)
 Belongs id (next.Merge image) = IsImageFor id image.now
@@ -48,6 +56,10 @@ Belongs id (next.Hear report) = Unit {0}
 
 -- The answer and the deed are those of the call of that name.
 abbrev pub Gives : Identity → ℕ → List Deed → Next → Came → Deed → Type 0
+Gives id opening past (next.Call client seq ask) answer deed =
+    (answer ≡ came.Done (call_gives id opening past ask.now)) × (deed ≡ call_with client seq ask.now (call_gives id opening past ask.now))
+Gives id opening past (next.TakeIn change) answer deed =
+    (answer ≡ came.Verdict (verdict past change.now)) × (deed ≡ Taken change.now (verdict past change.now))
 Gives id opening past (next.Query client seq ask) answer deed =
     (answer ≡ came.Reply (query_gives client ask.now past)) × (deed ≡ Asked client seq ask.now (query_gives client ask.now past))
 Gives id opening past (next.Give to what) answer deed =

@@ -1,5 +1,5 @@
 -- A shard as contracts see it, and how what it keeps is tied to its history.
-use Rattle.std.specs.Prelude.{◌≡◌, ℕ, ◌+◌, ◌≤◌, ◌<◌, List, [], ◌∷◌, ◌++◌, Bool, true, if◌then◌else◌, length}
+use Rattle.std.specs.Prelude.{◌≡◌, ℕ, ◌+◌, ◌≤◌, ◌<◌, List, [], ◌∷◌, ◌++◌, Bool, true, if◌then◌else◌, length, Option, Some}
 use Rattle.std.specs.List.{AllByRecursion}
 use Rattle.gr_stamp.specs.declared.stamp.TheConstants.{LIMIT}
 use Rattle.gr_history.specs.declared.identity.Identity.{Identity}
@@ -96,9 +96,10 @@ pub record IsKept (id : Identity) (opening : ℕ) (now : Kept) (past : List Deed
 abbrev pub spare_of : Bool → ℕ → ℕ
 spare_of roomy events = if roomy then 1 + events else 0
 
--- The open queries stand in the order that the history gives. Where there is room for a deed that was prepared, the history and the ids
--- have it.
-pub record IsStocked (roomy : Bool) (history ids : ℕ) (queries : List Entry) (past : List Deed) : Type 0 where
+-- The open queries stand in the order that the history gives. Where there is room for a deed that was prepared, the history, the ids
+-- and the slots have it.
+pub record IsStocked (roomy : Bool) (history ids : ℕ) (room : Option ℕ) (clock : ℕ) (queries : List Entry) (past : List Deed) : Type 0 where
   pub open_are : queries ≡ opened past
   pub a_deed : roomy ≡ true → 1 ≤ history
   pub an_id : roomy ≡ true → 1 ≤ ids
+  pub a_slot : roomy ≡ true → room ≡ Some clock

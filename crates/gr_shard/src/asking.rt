@@ -40,7 +40,7 @@ pub fn answer(
     client: u8,
     ask: &QueryAsk,
 ) -> Result<Replies, Memory>
-    ensures replies { IfOk result (λ replies. (past : List Deed) → Hold slots.now past
+    ensures replies { IfOk result (λ replies. (past : List Deed) → Hold slots.now.entries past
         → replies ≡ twice (reply_by ask.now (rows_of_ask ask.now past) (find client (name_of ask.now) queries.old.entries))) }
     ensures ok { OnOk result (queries.new.entries ≡ served client ask.now queries.old.entries) }
     ensures err { OnErr result (queries.new.entries ≡ queries.old.entries) }
@@ -60,7 +60,7 @@ pub fn foretell(
 ) -> Result<Foretold, Memory>
     ensures entries { queries.new.entries ≡ queries.old.entries }
     ensures grows { queries.old.spare ≤ queries.new.spare }
-    ensures replies { IfOk result (λ told. (past : List Deed) → Hold slots.now past
+    ensures replies { IfOk result (λ told. (past : List Deed) → Hold slots.now.entries past
         → told.replies ≡ twice (reply_by ask.now (rows_of_ask ask.now past) (find client (name_of ask.now) queries.old.entries))) }
     ensures after { IfOk result (λ told. queries_after told.after queries.old.entries ≡ served client ask.now queries.old.entries) }
     ensures made { IfOk result (λ told. IsMadeAt queries.old.entries told.after) }
@@ -85,7 +85,7 @@ fn enrol(
 ) -> Result<Foretold, Memory>
     ensures entries { queries.new.entries ≡ queries.old.entries }
     ensures grows { queries.old.spare ≤ queries.new.spare }
-    ensures replies { IfOk result (λ told. (past : List Deed) → Hold slots.now past
+    ensures replies { IfOk result (λ told. (past : List Deed) → Hold slots.now.entries past
         → told.replies ≡ twice (enrol_reply (rows_of query.now past) (find client name.now queries.old.entries))) }
     ensures after { IfOk result
         (λ told. queries_after told.after queries.old.entries ≡ served client (asks.Enrol name.now query.now) queries.old.entries) }

@@ -1,7 +1,7 @@
 ghost use Rattle.std.specs.Prelude.{◌≡◌, ◌≤◌, ◌||◌, unwrap_or};
 ghost use Rattle.gr_history.specs.declared.query_ask.QueryAsk.TheVariants as asks;
 ghost use Rattle.gr_shard.specs.InStep.{served};
-ghost use Rattle.gr_shard.specs.Effects.{IsOneOfEight, IsReadyFor, given_after, heard_after, ids_after, queries_after, slots_after, to_after};
+ghost use Rattle.gr_shard.specs.Effects.{IsOneOfEight, IsReadyFor, IsRoomed, given_after, heard_after, ids_after, queries_after, slots_after, to_after};
 
 use crate::effect::{IdsAfter, QueriesAfter, SlotsAfter};
 use crate::making::recipients;
@@ -15,10 +15,12 @@ use gr_vector::{Report, Vector};
 
 /// Makes the slots what they are to be. This takes no memory.
 pub fn settle(slots: &mut Slots, after: SlotsAfter)
-    ensures { slots.new ≡ slots_after after slots.old }
+    requires { IsRoomed slots.old.room after }
+    ensures { slots.new.entries ≡ slots_after after slots.old.entries }
 {
     match after {
         SlotsAfter::Same => {}
+        SlotsAfter::With { key, slot } => slots.set_reserved(key, slot),
         SlotsAfter::New(new) => *slots = new,
         SlotsAfter::Without(keys) => drop_all(slots, keys.as_slice()),
     }

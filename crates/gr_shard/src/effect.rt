@@ -2,7 +2,7 @@ ghost use Rattle.std.specs.Prelude.{◌≡◌};
 ghost use Rattle.gr_shard.specs.Effects.{unchanged};
 
 use gr_cq::Foreseen;
-use gr_slots::Slots;
+use gr_slots::{Slot, Slots};
 use gr_stamp::Stamp;
 use gr_value::{Key, KeyList};
 use gr_vector::{Report, Vector};
@@ -11,6 +11,7 @@ use gr_vector::{Report, Vector};
 #[derive(Drop)]
 pub enum SlotsAfter {
     Same,
+    With { key: Key, slot: Slot },
     New(Slots),
     Without(KeyList),
 }

@@ -1,7 +1,9 @@
-ghost use Rattle.std.specs.Prelude.{◌≡◌, ◌≤◌, OnOk, OnErr, option_copied, option_and_then};
+ghost use Rattle.std.specs.Prelude.{◌≡◌, ◌≤◌, IfOk, OnOk, OnErr, option_copied, option_and_then};
 ghost use Rattle.gr_stamp.specs.Winner.{put_value};
+ghost use Rattle.gr_shard.specs.Effects.{arriving, noting};
 ghost use Rattle.gr_shard.specs.Entries.{slot_ver, with_change, applied, verdict_at};
 
+use crate::effect::{IdsAfter, SlotsAfter};
 use gr_history::Verdict;
 use gr_slots::{Slot, Slots};
 use gr_stamp::{Change, LIMIT, Stamp};
@@ -34,8 +36,8 @@ pub fn enter(
     clock: u64,
     came: Option<&Change>,
 ) -> Result<(), Memory>
-    ensures ok { OnOk result (slots.new ≡ with_change (option_copied came.entry) clock slots.old) }
-    ensures err { OnErr result (slots.new ≡ slots.old) }
+    ensures ok { OnOk result (slots.new.entries ≡ with_change (option_copied came.entry) clock slots.old.entries) }
+    ensures err { OnErr result (slots.new.entries ≡ slots.old.entries) }
 {
     let Some(change) = came else {
         return Ok(());
@@ -66,5 +68,33 @@ pub fn applied(verdict: Verdict, change: &Change) -> Option<&Change>
     match verdict {
         Verdict::Applied => Some(change),
         _ => None,
+    }
+}
+
+/// What becomes of the slots by what comes in at this clock, if anything does.
+pub fn arriving(alloc: Global, clock: u64, came: Option<&Change>) -> Result<SlotsAfter, Memory>
+    ensures { IfOk result (λ after. after ≡ arriving (option_copied came.entry) clock) }
+{
+    let Some(change) = came else {
+        return Ok(SlotsAfter::Same);
+    };
+    let slot = Slot {
+        kind: change.kind.copy(alloc)?,
+        stamp: change.stamp,
+        taken_at: clock,
+    };
+    Ok(SlotsAfter::With {
+        key: change.key.copy(alloc)?,
+        slot,
+    })
+}
+
+/// What becomes of the ids by what was made, if anything was.
+pub fn noting(made: Option<&Change>) -> IdsAfter
+    ensures { result ≡ noting (option_copied made.entry) }
+{
+    match made {
+        None => IdsAfter::Same,
+        Some(change) => IdsAfter::With(change.stamp),
     }
 }

@@ -27,8 +27,8 @@ fn change_of(alloc: Global, key: &Key, slot: &Slot) -> Result<Change, Memory>
 
 /// The changes that stand, in the order of their keys.
 pub fn standing(alloc: Global, slots: &Slots) -> Result<ChangeList, Memory>
-    ensures changes { IfOk result (λ changes. changes ≡ changes_in slots.now) }
-    ensures ordered { OnOk result (IsStrictlySortedBy (slice_cmp nat_cmp) (keys_of slots.now)) }
+    ensures changes { IfOk result (λ changes. changes ≡ changes_in slots.now.entries) }
+    ensures ordered { OnOk result (IsStrictlySortedBy (slice_cmp nat_cmp) (keys_of slots.now.entries)) }
 {
     let mut changes = ChangeList::new(alloc)?;
     for (key, slot) in slots.rows(alloc)? {

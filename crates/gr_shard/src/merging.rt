@@ -45,7 +45,7 @@ fn left_by(
 
 // Sets what is left at a key, if anything is.
 fn set_left(alloc: Global, slots: &mut Slots, key: &Key, left: Option<Slot>) -> Result<(), Memory>
-    ensures { OnOk result (slots.new ≡ with_left key.now left slots.old) }
+    ensures { OnOk result (slots.new.entries ≡ with_left key.now left slots.old.entries) }
 {
     if let Some(slot) = left {
         slots.set(key.copy(alloc)?, slot)?;
@@ -61,7 +61,7 @@ fn rows_over(
     clock: u64,
     slots: &Slots,
 ) -> Result<Slots, Memory>
-    ensures { IfOk result (λ left. left ≡ rows_leave known.now.ids clock slots.now rows.now) }
+    ensures { IfOk result (λ left. left.entries ≡ rows_leave known.now.ids clock slots.now.entries rows.now) }
 {
     let mut left = Slots::new(alloc);
     for row in rows {
@@ -81,7 +81,7 @@ fn set_unknown(
     key: &Key,
     slot: &Slot,
 ) -> Result<(), Memory>
-    ensures { OnOk result (left.new ≡ with_unknown known.now.ids left.old (key.now, slot.now)) }
+    ensures { OnOk result (left.new.entries ≡ with_unknown known.now.ids left.old.entries (key.now, slot.now)) }
 {
     if left.find(key).is_some() || knows(known, &slot.stamp) {
         return Ok(());
@@ -101,8 +101,8 @@ pub fn merged(
     known: &Vector,
     clock: u64,
 ) -> Result<Slots, Memory>
-    ensures merged { IfOk result (λ left. left ≡ merged known.now.ids clock image.now slots.now) }
-    ensures ordered { OnOk result (IsStrictlySortedBy (slice_cmp nat_cmp) (keys_of slots.now)) }
+    ensures merged { IfOk result (λ left. left.entries ≡ merged known.now.ids clock image.now slots.now.entries) }
+    ensures ordered { OnOk result (IsStrictlySortedBy (slice_cmp nat_cmp) (keys_of slots.now.entries)) }
 {
     let mut left = rows_over(alloc, image.rows.as_slice(), known, clock, slots)?;
     for (key, slot) in slots.rows(alloc)? {

@@ -1,13 +1,22 @@
-use gr_history::{Gift, Image, QueryAsk, QueryReply, What};
+use gr_history::{Ask, Done, Gift, Image, QueryAsk, QueryReply, Verdict, What};
+use gr_stamp::Change;
 use gr_vector::Report;
 
 /// What is to be done at a shard next, named as the call that does it.
 #[derive(Drop)]
 pub enum Next<'a> {
+    Call {
+        client: u8,
+        seq: u32,
+        ask: &'a Ask,
+    },
     Query {
         client: u8,
         seq: u32,
         ask: &'a QueryAsk,
+    },
+    TakeIn {
+        change: &'a Change,
     },
     Give {
         to: u8,
@@ -25,7 +34,9 @@ pub enum Next<'a> {
 /// What the call answers.
 #[derive(Drop)]
 pub enum Came {
+    Done(Done),
     Reply(QueryReply),
+    Verdict(Verdict),
     Gift(Gift),
     Merged,
     Told(Report),

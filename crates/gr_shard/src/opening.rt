@@ -34,7 +34,7 @@ fn push_row(
 /// The result of a query that is opened over these slots: what is present and matches, in the order of
 /// the keys.
 pub fn rows_of(alloc: Global, query: &Query, slots: &Slots) -> Result<RowList, Memory>
-    ensures { IfOk result (λ rows. (past : List Deed) → Hold slots.now past → rows ≡ rows_of query.now past) }
+    ensures { IfOk result (λ rows. (past : List Deed) → Hold slots.now.entries past → rows ≡ rows_of query.now past) }
 {
     let mut rows = RowList::new(alloc)?;
     for (key, slot) in slots.rows(alloc)? {

@@ -31,11 +31,11 @@ fn push_put(alloc: Global, rows: &mut ChangeList, key: &Key, slot: &Slot) -> Res
 
 /// The puts among the slots, and how many are removals.
 pub fn region(alloc: Global, slots: &Slots, floor: u64, vector: Vector) -> Result<Region, Memory>
-    ensures rows { IfOk result (λ region. region.rows ≡ puts_of (changes_in slots.now)) }
-    ensures tombstones { IfOk result (λ region. region.tombstones ≡ removals_of (changes_in slots.now)) }
+    ensures rows { IfOk result (λ region. region.rows ≡ puts_of (changes_in slots.now.entries)) }
+    ensures tombstones { IfOk result (λ region. region.tombstones ≡ removals_of (changes_in slots.now.entries)) }
     ensures floor { IfOk result (λ region. region.floor ≡ floor) }
     ensures vector { IfOk result (λ region. region.vector.ids ≡ vector.ids) }
-    ensures ordered { OnOk result (IsStrictlySortedBy (slice_cmp nat_cmp) (keys_of slots.now)) }
+    ensures ordered { OnOk result (IsStrictlySortedBy (slice_cmp nat_cmp) (keys_of slots.now.entries)) }
 {
     let mut rows = ChangeList::new(alloc)?;
     let entries = slots.rows(alloc)?;

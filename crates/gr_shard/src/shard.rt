@@ -24,6 +24,7 @@ ghost use Rattle.gr_shard.specs.Sweeps.{stands_stable};
 ghost use Rattle.gr_shard.specs.View.{IsPlace, after_deed, with_spare};
 
 mod calls;
+mod changing;
 mod halves;
 mod preparing;
 
@@ -83,9 +84,9 @@ impl Model for Shard {
       spare = spare_of shard.roomy shard.queries.spare;
     } };
 
-    ghost invariant = { λ shard. IsKept shard.id shard.opening (kept shard.slots shard.vector.ids shard.floor shard.clock shard.joined shard.to
+    ghost invariant = { λ shard. IsKept shard.id shard.opening (kept shard.slots.entries shard.vector.ids shard.floor shard.clock shard.joined shard.to
         shard.heard shard.given shard.queries.entries) (reverse shard.history.deeds)
-        × IsStocked shard.roomy shard.history.spare shard.vector.spare shard.queries.entries (reverse shard.history.deeds) };
+        × IsStocked shard.roomy shard.history.spare shard.vector.spare shard.slots.room shard.clock shard.queries.entries (reverse shard.history.deeds) };
 }
 
 impl Shard {
@@ -244,10 +245,10 @@ impl Shard {
             (self.new ≡ after_deed self.old (deed.Swept moment (due self.old.id moment (reverse self.old.deeds)))) }
         ensures err { OnErr result (self.new ≡ with_spare self.new.spare self.old) }
     {
+        self.roomy = false;
         let clock = moment.max(self.clock);
         let timed_out = self.slots.timed_out(alloc, clock)?;
         let expired = self.stable_among(alloc, timed_out.as_slice())?;
-        self.roomy = false;
         self.history.reserve(1)?;
         self.floor = risen(&self.slots, self.floor, expired.as_slice());
         drop_all(&mut self.slots, expired.as_slice());
@@ -279,7 +280,7 @@ impl Shard {
     /// What stands at the keys, with the clock when it came in.
     pub fn slots(&self) -> &Slots
         ensures { (key : List ℕ)
-            → slot_at key result.now ≡ slot_of (standing key (reverse self.now.deeds)) (since key (reverse self.now.deeds)) }
+            → slot_at key result.now.entries ≡ slot_of (standing key (reverse self.now.deeds)) (since key (reverse self.now.deeds)) }
     {
         &self.slots
     }

@@ -8,7 +8,7 @@ use gr_value::Key;
 
 /// Drops the slots of the keys.
 pub fn drop_all(slots: &mut Slots, keys: &[Key])
-    ensures { slots.new ≡ without_all keys.now slots.old }
+    ensures { slots.new.entries ≡ without_all keys.now slots.old.entries }
 {
     for key in keys {
         slots.drop_slot(key);
@@ -18,7 +18,7 @@ pub fn drop_all(slots: &mut Slots, keys: &[Key])
 /// The floor, risen to the versions of what stands at the keys.
 pub fn risen(slots: &Slots, floor: u64, keys: &[Key]) -> u64
     requires { floor ≤ LIMIT }
-    ensures risen { result ≡ risen slots.now floor keys.now }
+    ensures risen { result ≡ risen slots.now.entries floor keys.now }
     ensures within { result ≤ LIMIT }
 {
     let mut risen = floor;

@@ -1,4 +1,4 @@
-ghost use Rattle.std.specs.Prelude.{◌≡◌, ◌≤◌, ◌+◌, IfOk, OnOk, OnErr, option_copied};
+ghost use Rattle.std.specs.Prelude.{◌≡◌, ◌≤◌, ◌+◌, [], ◌∷◌, Some, IfOk, OnOk, OnErr, option_copied};
 ghost use Rattle.gr_cq.specs.Entries.{noted};
 ghost use Rattle.gr_vector.specs.Order.{united};
 ghost use Rattle.gr_shard.specs.Effects.{IsMadeAt, needs, queries_after};
@@ -34,6 +34,28 @@ fn put_value(alloc: Global, kind: &Kind) -> Result<Option<Value>, Memory>
         Kind::Put(value) => Ok(Some(value.copy(alloc)?)),
         Kind::Remove => Ok(None),
     }
+}
+
+// The key of a change that comes in, with its values before and behind.
+fn turned_one(alloc: Global, slots: &Slots, change: &Change) -> Result<Turned, Memory>
+    ensures { IfOk result (λ turned. turned ∷ [] ≡ turned_by_change slots.now.entries (Some change.now)) }
+{
+    Ok(Turned {
+        key: change.key.copy(alloc)?,
+        old: slot_value(alloc, slots.find(&change.key))?,
+        new: put_value(alloc, &change.kind)?,
+    })
+}
+
+/// The key that a change turns that comes in, if any does, with its values before and behind.
+pub fn turned_by(alloc: Global, slots: &Slots, came: Option<&Change>) -> Result<Vec<Turned>, Memory>
+    ensures { IfOk result (λ turned. turned.items ≡ turned_by_change slots.now.entries (option_copied came.entry)) }
+{
+    let mut turned = Vec::new(alloc);
+    if let Some(change) = came {
+        turned.push(turned_one(alloc, slots, change)?)?;
+    }
+    Ok(turned)
 }
 
 // What the open queries are to be told of these keys.
@@ -80,16 +102,12 @@ fn foresee_change(
     came: Option<&Change>,
 ) -> Result<Option<Foreseen>, Memory>
     ensures entries { queries.new.entries ≡ queries.old.entries }
-    ensures foreseen { IfOk result (IsForeseen (turned_by_change slots.now (option_copied came.entry)) queries.new) }
+    ensures foreseen { IfOk result (IsForeseen (turned_by_change slots.now.entries (option_copied came.entry)) queries.new) }
 {
     let Some(change) = came else {
         return Ok(None);
     };
-    let turned = [Turned {
-        key: change.key.copy(alloc)?,
-        old: slot_value(alloc, slots.find(&change.key))?,
-        new: put_value(alloc, &change.kind)?,
-    }];
+    let turned = [turned_one(alloc, slots, change)?];
     foresee(alloc, queries, &turned)
 }
 
@@ -101,7 +119,7 @@ fn foresee_slots(
     new: &Slots,
 ) -> Result<Option<Foreseen>, Memory>
     ensures entries { queries.new.entries ≡ queries.old.entries }
-    ensures foreseen { IfOk result (IsForeseen (turned_between old.now new.now) queries.new) }
+    ensures foreseen { IfOk result (IsForeseen (turned_between old.now.entries new.now.entries) queries.new) }
 {
     if queries.is_empty() {
         return Ok(None);
@@ -129,9 +147,9 @@ fn come_in_told(
     clock: u64,
     came: Option<&Change>,
 ) -> Result<(), Memory>
-    ensures slots { OnOk result (slots.new ≡ with_change (option_copied came.entry) clock slots.old) }
-    ensures told { OnOk result (queries.new.entries ≡ noted (turned_by_change slots.old (option_copied came.entry)) queries.old.entries) }
-    ensures slots_err { OnErr result (slots.new ≡ slots.old) }
+    ensures slots { OnOk result (slots.new.entries ≡ with_change (option_copied came.entry) clock slots.old.entries) }
+    ensures told { OnOk result (queries.new.entries ≡ noted (turned_by_change slots.old.entries (option_copied came.entry)) queries.old.entries) }
+    ensures slots_err { OnErr result (slots.new.entries ≡ slots.old.entries) }
     ensures told_err { OnErr result (queries.new.entries ≡ queries.old.entries) }
 {
     let foreseen = foresee_change(alloc, queries, slots, came)?;
@@ -149,9 +167,9 @@ pub fn come_in(
     clock: u64,
     came: Option<&Change>,
 ) -> Result<(), Memory>
-    ensures slots { OnOk result (slots.new ≡ with_change (option_copied came.entry) clock slots.old) }
-    ensures told { OnOk result (queries.new.entries ≡ noted (turned_by_change slots.old (option_copied came.entry)) queries.old.entries) }
-    ensures slots_err { OnErr result (slots.new ≡ slots.old) }
+    ensures slots { OnOk result (slots.new.entries ≡ with_change (option_copied came.entry) clock slots.old.entries) }
+    ensures told { OnOk result (queries.new.entries ≡ noted (turned_by_change slots.old.entries (option_copied came.entry)) queries.old.entries) }
+    ensures slots_err { OnErr result (slots.new.entries ≡ slots.old.entries) }
     ensures told_err { OnErr result (queries.new.entries ≡ queries.old.entries) }
 {
     if queries.is_empty() {
@@ -170,10 +188,10 @@ pub fn take_over(
     new: Slots,
     known: &Vector,
 ) -> Result<(), Memory>
-    ensures slots { OnOk result (slots.new ≡ new) }
+    ensures slots { OnOk result (slots.new.entries ≡ new.entries) }
     ensures ids { OnOk result (vector.new.ids ≡ united vector.old.ids known.now.ids) }
-    ensures told { OnOk result (queries.new.entries ≡ noted (turned_between slots.old new) queries.old.entries) }
-    ensures slots_err { OnErr result (slots.new ≡ slots.old) }
+    ensures told { OnOk result (queries.new.entries ≡ noted (turned_between slots.old.entries new.entries) queries.old.entries) }
+    ensures slots_err { OnErr result (slots.new.entries ≡ slots.old.entries) }
     ensures ids_err { OnErr result (vector.new ≡ vector.old) }
     ensures told_err { OnErr result (queries.new.entries ≡ queries.old.entries) }
 {
@@ -200,7 +218,7 @@ fn is_other(old: Option<&Slot>, new: Option<&Slot>) -> bool
 
 // Puts the keys of slots into a set.
 fn add_keys(alloc: Global, keys: &mut BTreeSet<Key>, slots: &Slots) -> Result<(), Memory>
-    ensures { OnOk result (keys.new.keys ≡ with_keys keys.old.keys slots.now) }
+    ensures { OnOk result (keys.new.keys ≡ with_keys keys.old.keys slots.now.entries) }
 {
     for (key, _) in slots.rows(alloc)? {
         keys.insert(key.copy(alloc)?)?;
@@ -210,7 +228,7 @@ fn add_keys(alloc: Global, keys: &mut BTreeSet<Key>, slots: &Slots) -> Result<()
 
 // A key with its values among these slots before and now.
 fn turned_at(alloc: Global, key: &Key, old: &Slots, new: &Slots) -> Result<Turned, Memory>
-    ensures { IfOk result (λ turned. turned ≡ turned_slot old.now new.now key.now) }
+    ensures { IfOk result (λ turned. turned ≡ turned_slot old.now.entries new.now.entries key.now) }
 {
     Ok(Turned {
         key: key.copy(alloc)?,
@@ -221,7 +239,7 @@ fn turned_at(alloc: Global, key: &Key, old: &Slots, new: &Slots) -> Result<Turne
 
 /// The keys at which other changes stand than before, with their values, in order.
 pub fn turned_between(alloc: Global, old: &Slots, new: &Slots) -> Result<Vec<Turned>, Memory>
-    ensures { IfOk result (λ turned. turned.items ≡ turned_between old.now new.now) }
+    ensures { IfOk result (λ turned. turned.items ≡ turned_between old.now.entries new.now.entries) }
 {
     let mut keys = BTreeSet::new(alloc);
     add_keys(alloc, &mut keys, old)?;

@@ -140,7 +140,7 @@ impl Shard {
     }
 
     // What the call gives now.
-    fn gives(&self, alloc: Global, ask: &Ask) -> Result<Done, Memory>
+    pub(super) fn gives(&self, alloc: Global, ask: &Ask) -> Result<Done, Memory>
         ensures { IfOk result (λ done. done ≡ call_gives self.now.id self.now.opening (reverse self.now.deeds) ask.now) }
     {
         if !self.ready() {

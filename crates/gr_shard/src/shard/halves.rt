@@ -66,6 +66,8 @@ impl Shard {
         ensures made { IfOk result (IsPreparedFor self.new) }
     {
         match next {
+            Next::Call { client, seq, ask } => self.prepare_call(alloc, *client, *seq, ask),
+            Next::TakeIn { change } => self.prepare_taking(alloc, change),
             Next::Query { client, seq, ask } => self.prepare_query(alloc, *client, *seq, ask),
             Next::Give { to, what } => self.prepare_gift(alloc, *to, *what),
             Next::Merge { image } => self.prepare_merge(alloc, image),
@@ -85,6 +87,7 @@ impl Shard {
         }
         self.history.reserve(1)?;
         self.vector.reserve()?;
+        self.slots.reserve(self.clock)?;
         self.roomy = true;
         Ok(())
     }

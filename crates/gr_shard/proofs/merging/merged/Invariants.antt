@@ -6,4 +6,4 @@ use Rattle.gr_shard.proofs.merging.merged.Given as goal
 
 abbrev pub invariant-loop-key : goal.invariant-loop-key
 invariant-loop-key l =
-    l.left ≡ fold (with_unknown l.image.vector.ids) (rows_leave l.known.ids l.clock l.slots l.image.rows) (map deref_pair l.yielded)
+    l.left.entries ≡ fold (with_unknown l.image.vector.ids) (rows_leave l.known.ids l.clock l.slots.entries l.image.rows) (map deref_pair l.yielded)

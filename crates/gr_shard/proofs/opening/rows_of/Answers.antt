@@ -24,9 +24,9 @@ loop-key-preserved c =
 pub returns : goal.returns
 returns c past hold =
     let query = c.args.query.now in
-    let slots = c.args.slots.now in
+    let slots = c.args.slots.now.entries in
     let long : vec_len c.in_ok-items.items ≡ length c.in_ok-items.items.items = search rules in
-    let whole : map deref_pair c.loop-key.yielded ≡ c.args.slots.now =
+    let whole : map deref_pair c.loop-key.yielded ≡ c.args.slots.now.entries =
     all_yielded deref_pair c.in_ok-items.items.items c.loop-key.yielded c.into_iter-key-iterator.result c.loop-key.key-iterator
     c.next.new.self c.next.result c.into_iter-key-iterator.ensures.into_iter_gives.0
     (c.into_iter-key-iterator.ensures.into_iter_gives.1 ∙ long) c.loop-key.yielded_by c.in-None.is c.next.ensures.steps

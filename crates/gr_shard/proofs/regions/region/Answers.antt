@@ -20,7 +20,7 @@ loop-key-preserved c =
 pub returns-clause-rows : goal.returns-clause-rows
 returns-clause-rows c =
     let long : vec_len c.in_ok-entries.entries ≡ length c.in_ok-entries.entries.items = search rules in
-    let whole : map deref_pair c.loop-key.yielded ≡ c.args.slots.now =
+    let whole : map deref_pair c.loop-key.yielded ≡ c.args.slots.now.entries =
     all_yielded deref_pair c.in_ok-entries.entries.items c.loop-key.yielded c.into_iter-key-iterator.result c.loop-key.key-iterator
     c.next.new.self c.next.result c.into_iter-key-iterator.ensures.into_iter_gives.0
     (c.into_iter-key-iterator.ensures.into_iter_gives.1 ∙ long) c.loop-key.yielded_by c.in-None.is c.next.ensures.steps
@@ -30,23 +30,23 @@ returns-clause-rows c =
 pub overflow_sub-tombstones : goal.overflow_sub-tombstones
 overflow_sub-tombstones c =
     let long : vec_len c.in_ok-entries.entries ≡ length c.in_ok-entries.entries.items = search rules in
-    let whole : map deref_pair c.loop-key.yielded ≡ c.args.slots.now =
+    let whole : map deref_pair c.loop-key.yielded ≡ c.args.slots.now.entries =
     all_yielded deref_pair c.in_ok-entries.entries.items c.loop-key.yielded c.into_iter-key-iterator.result c.loop-key.key-iterator
     c.next.new.self c.next.result c.into_iter-key-iterator.ensures.into_iter_gives.0
     (c.into_iter-key-iterator.ensures.into_iter_gives.1 ∙ long) c.loop-key.yielded_by c.in-None.is c.next.ensures.steps
     ∙ c.in_ok-entries.ensures.rows in
-    (left_over c.args.slots.now c.loop-key.rows (c.loop-key.invariant ∙ ap (λ entries. puts_of (changes_in entries)) whole)
+    (left_over c.args.slots.now.entries c.loop-key.rows (c.loop-key.invariant ∙ ap (λ entries. puts_of (changes_in entries)) whole)
     (c.len-count.ensures ∙ long ∙ sym (length-map c.in_ok-entries.entries.items deref_pair) ∙ ap length c.in_ok-entries.ensures.rows)
     c.len.ensures).0
 
 pub returns-clause-tombstones : goal.returns-clause-tombstones
 returns-clause-tombstones c =
     let long : vec_len c.in_ok-entries.entries ≡ length c.in_ok-entries.entries.items = search rules in
-    let whole : map deref_pair c.loop-key.yielded ≡ c.args.slots.now =
+    let whole : map deref_pair c.loop-key.yielded ≡ c.args.slots.now.entries =
     all_yielded deref_pair c.in_ok-entries.entries.items c.loop-key.yielded c.into_iter-key-iterator.result c.loop-key.key-iterator
     c.next.new.self c.next.result c.into_iter-key-iterator.ensures.into_iter_gives.0
     (c.into_iter-key-iterator.ensures.into_iter_gives.1 ∙ long) c.loop-key.yielded_by c.in-None.is c.next.ensures.steps
     ∙ c.in_ok-entries.ensures.rows in
-    (left_over c.args.slots.now c.loop-key.rows (c.loop-key.invariant ∙ ap (λ entries. puts_of (changes_in entries)) whole)
+    (left_over c.args.slots.now.entries c.loop-key.rows (c.loop-key.invariant ∙ ap (λ entries. puts_of (changes_in entries)) whole)
     (c.len-count.ensures ∙ long ∙ sym (length-map c.in_ok-entries.entries.items deref_pair) ∙ ap length c.in_ok-entries.ensures.rows)
     c.len.ensures).1

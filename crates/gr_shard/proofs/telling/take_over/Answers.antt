@@ -6,12 +6,12 @@ use Rattle.gr_shard.proofs.telling.take_over.Goals as goal
 
 pub tell-requires : goal.tell-requires
 tell-requires c =
-    is_ready (turned_between c.args.slots.now c.args.new) c.foresee_slots.new.queries c.in_ok-foreseen.foreseen
+    is_ready (turned_between c.args.slots.now.entries c.args.new.entries) c.foresee_slots.new.queries c.in_ok-foreseen.foreseen
     c.in_ok-foreseen.ensures.foreseen
 
 pub returns-clause-told : goal.returns-clause-told
 returns-clause-told c =
-    let turned = turned_between c.args.slots.now c.args.new in
+    let turned = turned_between c.args.slots.now.entries c.args.new.entries in
     c.tell.ensures
     ∙ told_noted turned c.foresee_slots.new.queries c.in_ok-foreseen.foreseen c.in_ok-foreseen.ensures.foreseen
     ∙ ap (noted turned) c.in_ok-foreseen.ensures.entries

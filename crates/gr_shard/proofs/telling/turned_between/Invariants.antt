@@ -6,5 +6,5 @@ use Rattle.gr_shard.proofs.telling.turned_between.Given as goal
 
 abbrev pub invariant-loop-key : goal.invariant-loop-key
 invariant-loop-key l =
-    l.turned.items ≡ map (turned_slot l.old l.new) (filter (λ key. is_other_slot (slot_at key l.old) (slot_at key l.new))
+    l.turned.items ≡ map (turned_slot l.old.entries l.new.entries) (filter (λ key. is_other_slot (slot_at key l.old.entries) (slot_at key l.new.entries))
     (map deref l.yielded))

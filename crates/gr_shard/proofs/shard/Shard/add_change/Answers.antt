@@ -29,15 +29,15 @@ invariant_of-self-2 c =
     ∙ ap (λ deed. was.history.deeds ++ deed ∷ []) c.deed_of.ensures in
     let noted : c.note.new.vector.ids ≡ with_made made was.vector.ids =
     c.note.ensures ∙ ap (λ v. with_made made v.ids) c.in_ok-reserve-2.ensures.room in
-    let entered : c.come_in.new.slots ≡ with_change made was.clock was.slots = c.in_ok-come_in.ensures.slots in
-    let told : c.come_in.new.queries.entries ≡ noted_ (turned_by_change was.slots made) was.queries.entries =
+    let entered : c.come_in.new.slots.entries ≡ with_change made was.clock was.slots.entries = c.in_ok-come_in.ensures.slots in
+    let told : c.come_in.new.queries.entries ≡ noted_ (turned_by_change was.slots.entries made) was.queries.entries =
     c.in_ok-come_in.ensures.told in
     rw (pushed, reverse-append, noted, entered, told) (
-      kept_called was.id was.opening (kept was.slots was.vector.ids was.floor was.clock was.joined was.to was.heard was.given
+      kept_called was.id was.opening (kept was.slots.entries was.vector.ids was.floor was.clock was.joined was.to was.heard was.given
           was.queries.entries) past
           c.args.client c.args.seq
           c.args.ask c.args.reply made was.to c.self.invariant.0 here gives,
-      unstocked _ _ _ _
-          (opened_called past was.slots was.queries.entries was.id was.opening c.args.client c.args.seq c.args.ask c.args.reply
+      unstocked _ _ _ _ _ _
+          (opened_called past was.slots.entries was.queries.entries was.id was.opening c.args.client c.args.seq c.args.ask c.args.reply
           c.args.change was.to c.self.invariant.0.stands c.self.invariant.1.open_are gives),
     )

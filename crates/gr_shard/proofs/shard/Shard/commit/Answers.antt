@@ -1,9 +1,9 @@
 use Rattle.std.proofs.Common.{◌≡◌, ◌∙◌, ap, sym, subst, true, [], ◌∷◌, ◌++◌, reverse}
 use Rattle.std.proofs.lemmas.List.{reverse-append}
-use Rattle.gr_shard.specs.Effects.{IsMadeAt, needs, queries_after}
+use Rattle.gr_shard.specs.Effects.{IsMadeAt, IsTimed, needs, queries_after}
 use Rattle.gr_shard.specs.Prepared.{IsFit}
 use Rattle.gr_shard.specs.View.{kept, spare_of}
-use Rattle.gr_shard.proofs.Prepares.{has_events, is_roomy, needs_some, ready_for}
+use Rattle.gr_shard.proofs.Prepares.{has_events, is_roomy, needs_some, ready_for, roomed}
 use Rattle.gr_shard.proofs.Pushed.{on_ok}
 use Rattle.gr_shard.proofs.Stocked.{unstocked}
 use Rattle.gr_shard.proofs.shard.Shard.commit.Goals as goal
@@ -32,9 +32,9 @@ invariant_of-self c =
       c.moved-self-inside-2.ensures,
       c.either-self-inside.ensures,
     ) (
-      fit.keeps (kept was.slots was.vector.ids was.floor was.clock was.joined was.to was.heard was.given was.queries.entries)
+      fit.keeps (kept was.slots.entries was.vector.ids was.floor was.clock was.joined was.to was.heard was.given was.queries.entries)
           c.self.invariant.1.open_are c.self.invariant.0,
-      unstocked _ _ _ _ (ap (queries_after effect.queries) c.self.invariant.1.open_are ∙ fit.opens),
+      unstocked _ _ _ _ _ _ (ap (queries_after effect.queries) c.self.invariant.1.open_are ∙ fit.opens),
     )
 
 pub carry_out-requires : goal.carry_out-requires
@@ -45,3 +45,13 @@ carry_out-requires c =
     c.args.prepared.deed effect = rw (← c.self.view_is) at c.requires in
     ready_for was.queries effect.queries (subst (λ all. IsMadeAt all effect.queries) (sym c.self.invariant.1.open_are) fit.made)
     (has_events was.roomy was.queries.spare (needs effect.queries) fit.room)
+
+pub settle-requires : goal.settle-requires
+settle-requires c =
+    let was = c.self.inside in
+    let effect = c.args.prepared.effect in
+    let fit : IsFit (record { id = was.id; opening = was.opening; deeds = was.history.deeds; spare = spare_of was.roomy was.queries.spare })
+    c.args.prepared.deed effect = rw (← c.self.view_is) at c.requires in
+    let roomy : was.roomy ≡ true = is_roomy was.roomy was.queries.spare (needs effect.queries) (needs_some effect.queries) fit.room in
+    roomed effect.slots was.slots.room was.clock (c.self.invariant.1.a_slot roomy)
+    (subst (λ n. IsTimed n effect.slots) (sym c.self.invariant.0.clocked) fit.timed)

@@ -16,8 +16,8 @@ invariant_of-self-2 c =
     ∙ ap (λ deeds. deeds ++ Heard c.in_ok-copy.field-0 ∷ []) c.in_ok-reserve.ensures.deeds
     ∙ ap (λ copy. was.history.deeds ++ Heard copy ∷ []) c.in_ok-copy.ensures in
     rw (pushed, reverse-append, c.in_ok-hear.ensures.ok) (
-      kept_heard was.id was.opening (kept was.slots was.vector.ids was.floor was.clock was.joined was.to was.heard was.given
+      kept_heard was.id was.opening (kept was.slots.entries was.vector.ids was.floor was.clock was.joined was.to was.heard was.given
           was.queries.entries) past c.args.report.now
           c.self.invariant.0,
-      unstocked _ _ _ _ c.self.invariant.1.open_are,
+      unstocked _ _ _ _ _ _ c.self.invariant.1.open_are,
     )

@@ -20,17 +20,17 @@ invariant_of-self-2 c =
     on_ok c.push.result (c.push.ensures.room c.in_ok-reserve.ensures.room) c.push.ensures.ok
     ∙ ap (λ deeds. deeds ++ Imaged c.in_ok-copy.field-0 ∷ []) c.in_ok-reserve.ensures.deeds
     ∙ ap (λ copy. was.history.deeds ++ Imaged copy ∷ []) c.in_ok-copy.ensures in
-    let left = merged was.vector.ids was.clock image was.slots in
-    let slots_are : c.take_over.new.slots ≡ left = c.in_ok-take_over.ensures.slots ∙ c.in_ok-slots.ensures.merged in
-    let told : c.take_over.new.queries.entries ≡ noted (turned_between was.slots left) was.queries.entries =
+    let left = merged was.vector.ids was.clock image was.slots.entries in
+    let slots_are : c.take_over.new.slots.entries ≡ left = c.in_ok-take_over.ensures.slots ∙ c.in_ok-slots.ensures.merged in
+    let told : c.take_over.new.queries.entries ≡ noted (turned_between was.slots.entries left) was.queries.entries =
     c.in_ok-take_over.ensures.told
-    ∙ ap (λ slots. noted (turned_between was.slots slots) was.queries.entries) c.in_ok-slots.ensures.merged in
+    ∙ ap (λ slots. noted (turned_between was.slots.entries slots) was.queries.entries) c.in_ok-slots.ensures.merged in
     rw (pushed, reverse-append, c.in_ok-take_over.ensures.ids, slots_are, told, c.max-self-inside.ensures) (
-      kept_merged was.id was.opening (kept was.slots was.vector.ids was.floor was.clock was.joined was.to was.heard was.given
+      kept_merged was.id was.opening (kept was.slots.entries was.vector.ids was.floor was.clock was.joined was.to was.heard was.given
           was.queries.entries) past image
           c.self.invariant.0 c.in_ok-slots.ensures.ordered fits,
-      unstocked _ _ _ _
-          (opened_merged past was.slots was.queries.entries image left c.self.invariant.0.stands
-          (stands_merged image past was.slots was.vector.ids was.clock fits.in_order c.in_ok-slots.ensures.ordered c.self.invariant.0.noted
+      unstocked _ _ _ _ _ _
+          (opened_merged past was.slots.entries was.queries.entries image left c.self.invariant.0.stands
+          (stands_merged image past was.slots.entries was.vector.ids was.clock fits.in_order c.in_ok-slots.ensures.ordered c.self.invariant.0.noted
           c.self.invariant.0.clocked c.self.invariant.0.stands) c.self.invariant.1.open_are),
     )

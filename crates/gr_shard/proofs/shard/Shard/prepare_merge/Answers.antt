@@ -20,21 +20,21 @@ pub returns-clause-prepared : goal.returns-clause-prepared
 returns-clause-prepared c =
     let was = c.self.inside in
     let past = reverse was.history.deeds in
-    let now = kept was.slots was.vector.ids was.floor was.clock was.joined was.to was.heard was.given was.queries.entries in
+    let now = kept was.slots.entries was.vector.ids was.floor was.clock was.joined was.to was.heard was.given was.queries.entries in
     let image = c.args.image.now in
     let fits : IsImageFor was.id image = rw (← c.self.view_is) at c.requires in
-    let stands : Hold c.in_ok-slots.slots (Imaged image ∷ past) = stands_built was.id was.opening now past image c.self.invariant.0
-    c.in_ok-slots.ensures.ordered fits c.in_ok-slots.slots c.in_ok-slots.ensures.merged in
+    let stands : Hold c.in_ok-slots.slots.entries (Imaged image ∷ past) = stands_built was.id was.opening now past image c.self.invariant.0
+    c.in_ok-slots.ensures.ordered fits c.in_ok-slots.slots.entries c.in_ok-slots.ensures.merged in
     rw (← c.self.view_is, c.in_ok-kept.ensures) record {
       gives = (refl, refl);
-      turned_are = c.in_ok-turned.ensures ∙ turned_built was.id was.opening now past image c.self.invariant.0 c.in_ok-slots.slots stands;
+      turned_are = c.in_ok-turned.ensures ∙ turned_built was.id was.opening now past image c.self.invariant.0 c.in_ok-slots.slots.entries stands;
     }
 
 pub returns-clause-made : goal.returns-clause-made
 returns-clause-made c =
     let was = c.self.inside in
     let past = reverse was.history.deeds in
-    let now = kept was.slots was.vector.ids was.floor was.clock was.joined was.to was.heard was.given was.queries.entries in
+    let now = kept was.slots.entries was.vector.ids was.floor was.clock was.joined was.to was.heard was.given was.queries.entries in
     let image = c.args.image.now in
     let account : Account = record {
       id = was.id;
@@ -44,10 +44,10 @@ returns-clause-made c =
           was.queries.spare;
     } in
     let fits : IsImageFor was.id image = rw (← c.self.view_is) at c.requires in
-    let stands : Hold c.in_ok-slots.slots (Imaged image ∷ past) = stands_built was.id was.opening now past image c.self.invariant.0
-    c.in_ok-slots.ensures.ordered fits c.in_ok-slots.slots c.in_ok-slots.ensures.merged in
+    let stands : Hold c.in_ok-slots.slots.entries (Imaged image ∷ past) = stands_built was.id was.opening now past image c.self.invariant.0
+    c.in_ok-slots.ensures.ordered fits c.in_ok-slots.slots.entries c.in_ok-slots.ensures.merged in
     let turned_is : c.as_slice.result.now ≡ turned (Imaged image) past = c.as_slice.ensures.value ∙ c.in_ok-turned.ensures
-    ∙ turned_built was.id was.opening now past image c.self.invariant.0 c.in_ok-slots.slots stands in
+    ∙ turned_built was.id was.opening now past image c.self.invariant.0 c.in_ok-slots.slots.entries stands in
     let after : queries_after c.in_ok-queries.queries (opened past) ≡ noted c.as_slice.result.now (opened past) =
     rw (← c.self.view_is) at c.in_ok-queries.ensures.after in
     let made : IsMadeAt (opened past) c.in_ok-queries.queries = rw (← c.self.view_is) at c.in_ok-queries.ensures.made in

@@ -15,7 +15,7 @@ past c = reverse c.self.inside.history.deeds
 
 abbrev now : goal.After-push → Kept
 now c = let was = c.self.inside in
-    kept was.slots was.vector.ids was.floor was.clock was.joined was.to was.heard was.given was.queries.entries
+    kept was.slots.entries was.vector.ids was.floor was.clock was.joined was.to was.heard was.given was.queries.entries
 
 both : (c : goal.After-push)
     → (c.in_ok-noted.field-0.noted ≡ query_gives c.args.client c.args.ask.now (past c))
@@ -39,7 +39,7 @@ invariant_of-self-2 c =
     rw (pushed c, reverse-append, c.in_ok-noted.ensures.ok) (
       kept_answered c.self.inside.id c.self.inside.opening (now c) (past c) c.args.client c.args.seq c.args.ask.now
           c.in_ok-noted.field-0.noted c.self.invariant.0 (both c).0,
-      unstocked _ _ _ _ (ap (served c.args.client c.args.ask.now) c.self.invariant.1.open_are),
+      unstocked _ _ _ _ _ _ (ap (served c.args.client c.args.ask.now) c.self.invariant.1.open_are),
     )
 
 pub returns-clause-reply : goal.returns-clause-reply

@@ -28,16 +28,16 @@ invariant_of-self-2 c =
     ∙ ap (λ copy. was.history.deeds ++ Taken copy told ∷ []) c.in_ok-copy.ensures in
     let noted : c.note.new.vector.ids ≡ with_id (id_of change) was.vector.ids =
     c.note.ensures ∙ ap (λ v. with_id (id_of change) v.ids) c.in_ok-reserve-2.ensures.room in
-    let entered : c.come_in.new.slots ≡ with_change (applied told change) was.clock was.slots = c.in_ok-come_in.ensures.slots
-    ∙ ap (λ m. with_change m was.clock was.slots) c.applied-came.ensures in
-    let heard : c.come_in.new.queries.entries ≡ noted_ (turned_by_change was.slots (applied told change)) was.queries.entries =
+    let entered : c.come_in.new.slots.entries ≡ with_change (applied told change) was.clock was.slots.entries = c.in_ok-come_in.ensures.slots
+    ∙ ap (λ m. with_change m was.clock was.slots.entries) c.applied-came.ensures in
+    let heard : c.come_in.new.queries.entries ≡ noted_ (turned_by_change was.slots.entries (applied told change)) was.queries.entries =
     c.in_ok-come_in.ensures.told
-    ∙ ap (λ m. noted_ (turned_by_change was.slots m) was.queries.entries) c.applied-came.ensures in
+    ∙ ap (λ m. noted_ (turned_by_change was.slots.entries m) was.queries.entries) c.applied-came.ensures in
     rw (pushed, reverse-append, noted, entered, heard) (
-      kept_taken was.id was.opening (kept was.slots was.vector.ids was.floor was.clock was.joined was.to was.heard was.given
+      kept_taken was.id was.opening (kept was.slots.entries was.vector.ids was.floor was.clock was.joined was.to was.heard was.given
           was.queries.entries) past change
           told
           c.self.invariant.0 here is,
-      unstocked _ _ _ _
-          (opened_taken past was.slots was.queries.entries change told c.self.invariant.0.stands c.self.invariant.1.open_are is),
+      unstocked _ _ _ _ _ _
+          (opened_taken past was.slots.entries was.queries.entries change told c.self.invariant.0.stands c.self.invariant.1.open_are is),
     )

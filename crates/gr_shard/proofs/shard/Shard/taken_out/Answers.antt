@@ -8,7 +8,7 @@ returns c =
     let was = c.self.inside in
     rw (← c.self.view_is) record {
       deeds = c.in_ok-copy.ensures;
-      region = region-kept was.id was.opening (kept was.slots was.vector.ids was.floor was.clock was.joined was.to was.heard
+      region = region-kept was.id was.opening (kept was.slots.entries was.vector.ids was.floor was.clock was.joined was.to was.heard
           was.given was.queries.entries)
           (reverse was.history.deeds) c.self.invariant.0
           c.in_ok-region.ensures.ordered c.in_ok-region.field-0 c.in_ok-region.ensures.rows c.in_ok-region.ensures.tombstones

@@ -1,0 +1,67 @@
+use Rattle.std.proofs.Common.{◌≡◌, ◌∙◌, ap, sym, subst, refl, reverse, ◌∷◌, Option, option_copied}
+use Rattle.gr_value.specs.Shard.{shard_of}
+use Rattle.gr_stamp.specs.declared.change.Change.{Change}
+use Rattle.gr_cq.specs.Entries.{noted}
+use Rattle.gr_history.specs.Turned.{turned}
+use Rattle.gr_history.specs.declared.deed.Deed.TheVariants.{Taken}
+use Rattle.gr_history.specs.Verdicts.{verdict}
+use Rattle.gr_history.specs.Clock.{clock as clock_of}
+use Rattle.gr_shard.specs.declared.effect.IdsAfter.TheVariants as ids_
+use Rattle.gr_shard.specs.declared.next.Came.TheVariants as came
+use Rattle.gr_shard.specs.Effects.{IsMadeAt, arriving, queries_after}
+use Rattle.gr_shard.specs.Entries.{applied}
+use Rattle.gr_shard.specs.InStep.{opened}
+use Rattle.gr_shard.specs.Prepared.{IsFit}
+use Rattle.gr_shard.specs.Telling.{turned_by_change}
+use Rattle.gr_shard.specs.View.{Account, spare_of, with_spare}
+use Rattle.gr_shard.proofs.Coming.{fit_taken}
+use Rattle.gr_shard.proofs.Kept.{turned_taken}
+use Rattle.gr_shard.proofs.Stocked.{opened_taken}
+use Rattle.gr_shard.proofs.shard.Shard.prepare_taking.Goals as goal
+
+pub returns-clause-prepared : goal.returns-clause-prepared
+returns-clause-prepared c =
+    let was = c.self.inside in
+    let past = reverse was.history.deeds in
+    let change = c.args.change.now in
+    let told = c.verdict-verdict.result in
+    let is : told ≡ verdict past change = rw (← c.self.view_is) at c.verdict-verdict.ensures in
+    let turned_is : c.in_ok-turned.turned.items ≡ turned (Taken change told) past =
+    c.in_ok-turned.ensures ∙ ap (turned_by_change was.slots.entries) c.applied-came.ensures
+    ∙ sym (turned_taken change told past was.slots.entries is c.self.invariant.0.stands) in
+    rw (← c.self.view_is, c.in_ok-taken.ensures) record {
+      gives = (ap came.Verdict is, ap (Taken change) is);
+      turned_are = turned_is;
+    }
+
+pub returns-clause-made : goal.returns-clause-made
+returns-clause-made c =
+    let was = c.self.inside in
+    let past = reverse was.history.deeds in
+    let change = c.args.change.now in
+    let told = c.verdict-verdict.result in
+    let account : Account = record {
+      id = was.id;
+      opening = was.opening;
+      deeds = was.history.deeds;
+      spare = spare_of was.roomy
+          was.queries.spare;
+    } in
+    let is : told ≡ verdict past change = rw (← c.self.view_is) at c.verdict-verdict.ensures in
+    let here : shard_of change.key was.id.shards ≡ was.id.shard = rw (← c.self.view_is) at c.requires in
+    let turned_is : c.as_slice.result.now ≡ turned_by_change was.slots.entries (applied told change) = c.as_slice.ensures.value
+    ∙ c.in_ok-turned.ensures ∙ ap (turned_by_change was.slots.entries) c.applied-came.ensures in
+    let after : queries_after c.in_ok-queries.queries (opened past) ≡ noted c.as_slice.result.now (opened past) =
+    rw (← c.self.view_is) at c.in_ok-queries.ensures.after in
+    let made : IsMadeAt (opened past) c.in_ok-queries.queries = rw (← c.self.view_is) at c.in_ok-queries.ensures.made in
+    let tells = after ∙ ap (λ all. noted all (opened past)) turned_is
+    ∙ opened_taken past was.slots.entries (opened past) change told c.self.invariant.0.stands refl is in
+    let slots_are = c.in_ok-slots.ensures ∙ ap (λ (m : Option Change). arriving m was.clock) c.applied-came.ensures in
+    subst (λ a. IsFit a (Taken c.in_ok-taken.taken told) (record c.none.result {
+      slots = c.in_ok-slots.slots;
+      ids = ids_.With change.stamp;
+      queries = c.in_ok-queries.queries;
+    })) (sym c.in_ok-queries.ensures.same)
+    (rw (← c.self.view_is, c.in_ok-taken.ensures, c.none.ensures, slots_are)
+    (fit_taken (with_spare c.tell_ahead.new.self.spare account) c.in_ok-queries.queries was.clock c.in_ok-queries.ensures.room
+    c.self.invariant.0.clocked made change told here is tells))

@@ -1,0 +1,90 @@
+ghost use Rattle.std.specs.Prelude.{◌≡◌, ◌≤◌, IfOk, OnOk};
+ghost use Rattle.gr_value.specs.Shard.{shard_of};
+ghost use Rattle.gr_history.specs.Asks.{key_of};
+ghost use Rattle.gr_shard.specs.declared.next.Next.TheVariants as next;
+ghost use Rattle.gr_shard.specs.Prepared.{IsPrepared, IsPreparedFor};
+ghost use Rattle.gr_shard.specs.View.{with_spare};
+
+use super::Shard;
+use crate::effect::{Effect, IdsAfter};
+use crate::entering::{applied, arriving, noting};
+use crate::making::deed_of;
+use crate::telling::turned_by;
+use crate::{Came, Prepared};
+use gr_history::{Ask, Deed};
+use gr_stamp::Change;
+use gr_value::{Copied, Memory};
+use std::alloc::Global;
+
+impl Shard {
+    // Prepares a client's step. What stands is looked up for what is noted and for what is told.
+    pub(super) fn prepare_call(
+        &mut self,
+        alloc: Global,
+        client: u8,
+        seq: u32,
+        ask: &Ask,
+    ) -> Result<Prepared, Memory>
+        requires { shard_of (key_of ask.now) self.old.id.shards ≡ self.old.id.shard }
+        ensures same { self.new ≡ with_spare self.new.spare self.old }
+        ensures grows { self.old.spare ≤ self.new.spare }
+        ensures room { OnOk result (1 ≤ self.new.spare) }
+        ensures prepared { IfOk result (IsPrepared self.old (next.Call client seq ask.entry)) }
+        ensures made { IfOk result (IsPreparedFor self.new) }
+    {
+        let told = self.gives(alloc, ask)?;
+        let done = self.gives(alloc, ask)?;
+        let asked = ask.copy(alloc)?;
+        let made = done.made.as_ref();
+        let turned = turned_by(alloc, &self.slots, made)?;
+        let slots = arriving(alloc, self.clock, made)?;
+        let ids = noting(made);
+        let queries = self.tell_ahead(alloc, turned.as_slice())?;
+        Ok(Prepared {
+            deed: deed_of(client, seq, asked, done),
+            came: Came::Done(told),
+            turned,
+            effect: Effect {
+                slots,
+                ids,
+                queries,
+                ..Effect::none()
+            },
+        })
+    }
+
+    // Prepares that a change is taken in.
+    pub(super) fn prepare_taking(
+        &mut self,
+        alloc: Global,
+        change: &Change,
+    ) -> Result<Prepared, Memory>
+        requires { shard_of change.now.key self.old.id.shards ≡ self.old.id.shard }
+        ensures same { self.new ≡ with_spare self.new.spare self.old }
+        ensures grows { self.old.spare ≤ self.new.spare }
+        ensures room { OnOk result (1 ≤ self.new.spare) }
+        ensures prepared { IfOk result (IsPrepared self.old (next.TakeIn change.entry)) }
+        ensures made { IfOk result (IsPreparedFor self.new) }
+    {
+        let verdict = self.verdict(change);
+        let taken = change.copy(alloc)?;
+        let came = applied(verdict, change);
+        let turned = turned_by(alloc, &self.slots, came)?;
+        let slots = arriving(alloc, self.clock, came)?;
+        let queries = self.tell_ahead(alloc, turned.as_slice())?;
+        Ok(Prepared {
+            deed: Deed::Taken {
+                change: taken,
+                verdict,
+            },
+            came: Came::Verdict(verdict),
+            turned,
+            effect: Effect {
+                slots,
+                ids: IdsAfter::With(change.stamp),
+                queries,
+                ..Effect::none()
+            },
+        })
+    }
+}
