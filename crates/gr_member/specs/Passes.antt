@@ -60,7 +60,7 @@ pub record TurnsAll {X : Type 0} (deed : X → Deed) (p : List Place) (told : Li
   pub each : (k : ℕ) (x : X) (s : Place) → k < length p
       → Adds (slice_index_or p k s) (deed (slice_index_or told k x)) (slice_index_or q k s)
 
--- At the shards before one of them a deed was added each, of what was told there, and at the others none.
+-- At the first shards a deed was added each, of what was told there, and at the others none.
 pub record TurnsSome {X : Type 0} (deed : X → Deed) (p q : List Place) : Type 0 where
   pub many : length q ≡ length p
   pub told : List X
