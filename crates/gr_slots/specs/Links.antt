@@ -1,5 +1,6 @@
 -- Cells in chains, one for each seat of their keys.
-use Rattle.std.specs.Prelude.{◌≡◌, ◌≢◌, ◌<◌, ℕ, zero, suc, ◌*◌, ◌/◌, ◌^◌, ◌==◌, List, Option, Some, None, Bool, false, option_map, length, IfSome, if◌then◌else◌, ⊤}
+use Rattle.std.specs.Prelude.{◌≡◌, ◌≢◌, ◌<◌, ℕ, zero, suc, ◌*◌, ◌/◌, ◌^◌, ◌==◌, List, Bool, false, length}
+use Rattle.std.specs.Prelude.{Option, Some, None, option_map, IfSome, if◌then◌else◌, ⊤}
 use Rattle.std.specs.List.{slice_get}
 use Rattle.gr_value.specs.KeyHash.{hash_of}
 use Rattle.gr_slots.specs.declared.cell.Cell.{Cell}

@@ -4,6 +4,7 @@ use Rattle.std.specs.Ordering.{nat_cmp}
 use Rattle.std.specs.Cmp.Lexicographic.{slice_cmp}
 use Rattle.std.specs.BTreeMap.{insert_entry, is_at}
 use Rattle.std.specs.Map.{lookup, remove_entry, keys_of}
+use Rattle.gr_stamp.specs.Expiry.{timeout}
 use Rattle.gr_stamp.specs.Winner.{is_removal}
 use Rattle.gr_slots.specs.declared.slot.Slot.{Slot}
 
@@ -37,7 +38,7 @@ removed_at (Some slot) = if is_removal slot.kind then Some slot.taken_at else No
 
 -- whether what came in at a moment has timed out by the clock, in seconds
 abbrev pub is_late : ℕ → ℕ → Bool
-is_late clock taken_at = nat_le 600 (clock - taken_at)
+is_late clock taken_at = nat_le timeout (clock - taken_at)
 
 -- whether a slot is a removal that has timed out
 abbrev pub is_timed_out : ℕ → Slot → Bool

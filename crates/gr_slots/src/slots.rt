@@ -177,6 +177,13 @@ impl Slots {
         listed(alloc, &found)
     }
 
+    /// The slots stand in the order of their keys, each key once.
+    pub fn has_keys_in_order(&self)
+        ensures { IsStrictlySortedBy (slice_cmp nat_cmp) (keys_of self.now.entries) }
+    {
+        let _ = &self.cells;
+    }
+
     /// How many of the slots are removals.
     pub fn tombstones(&self) -> u64
         ensures { result ≡ tombstones self.now.entries }
