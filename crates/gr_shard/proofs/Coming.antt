@@ -98,7 +98,7 @@ module _ (account : Account) (after : QueriesAfter) (clock : ℕ) (room : needs 
       })
   fit_taken change told here is tells = record {
     room = room;
-    keeps = λ now same kept.
+    keeps = λ now ordered same kept.
         keeps_by now (Taken change told) (applied told change) (with_id (id_of change) now.vector)
         (noted (turned_by_change now.slots (applied told change)) now.queries) kept.clocked
         (opened_taken (reverse account.deeds) now.slots now.queries change told kept.stands same is
@@ -121,7 +121,7 @@ module _ (account : Account) (after : QueriesAfter) (clock : ℕ) (room : needs 
       })
   fit_called client seq ask reply made to here gives tells = record {
     room = room;
-    keeps = λ now same kept.
+    keeps = λ now ordered same kept.
         subst (λ ids. IsKept account.id account.opening (record now {
           slots = slots_after (arriving made clock) now.slots;
           vector = ids;

@@ -60,7 +60,7 @@ module _ (account : Account) (image : Image) (slots : HeldSlots) (vector : Ids) 
   unfolding recipients
   fit_imaged room fits stands knows floored low tells made = record {
     room = room;
-    keeps = λ now same kept. record {
+    keeps = λ now ordered same kept. record {
       place = kept.place;
       lawful = (fits.in_order, kept.lawful);
       of_shard = of_shard_rows account.id (λ row. not (has_id (id_of row) (ids (reverse account.deeds)))) image.rows (changes (reverse account.deeds)) fits.of_shard

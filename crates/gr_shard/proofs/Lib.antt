@@ -21,3 +21,4 @@ pub mod Stocked
 pub mod Prepares
 pub mod Imaging
 pub mod Coming
+pub mod Expiring

@@ -85,7 +85,7 @@ module _ (account : Account) (some : 1 ≤ account.spare) where
       → IsFit account (Reported report) unchanged
   fit_reported report is = record {
     room = some;
-    keeps = λ now same kept. kept_reported account.id account.opening now (reverse account.deeds) report kept is;
+    keeps = λ now ordered same kept. kept_reported account.id account.opening now (reverse account.deeds) report kept is;
     opens = refl;
     timed = tt;
     made = tt;
@@ -95,7 +95,7 @@ module _ (account : Account) (some : 1 ≤ account.spare) where
   pub fit_heard : (report : Report) → IsFit account (Heard report) (record unchanged { heard = Some report })
   fit_heard report = record {
     room = some;
-    keeps = λ now same kept. kept_heard account.id account.opening now (reverse account.deeds) report kept;
+    keeps = λ now ordered same kept. kept_heard account.id account.opening now (reverse account.deeds) report kept;
     opens = refl;
     timed = tt;
     made = tt;
@@ -106,7 +106,7 @@ module _ (account : Account) (some : 1 ≤ account.spare) where
       → IsFit account (Gave to what) (record unchanged { to = Some to })
   fit_gave to what from stated few = record {
     room = some;
-    keeps = λ now same kept. kept_gave account.id account.opening now (reverse account.deeds) to what kept from stated;
+    keeps = λ now ordered same kept. kept_gave account.id account.opening now (reverse account.deeds) to what kept from stated;
     opens = refl;
     timed = tt;
     made = tt;
@@ -137,7 +137,7 @@ pub fit_asked : (account : Account) (client seq : ℕ) (ask : QueryAsk) (reply :
     → IsFit account (Asked client seq ask reply) (record unchanged { queries = after })
 fit_asked account client seq ask reply after room is tells made = record {
   room = room;
-  keeps = λ now same kept.
+  keeps = λ now ordered same kept.
       subst
       (λ queries. IsKept account.id account.opening (record now { queries = queries }) (Asked client seq ask reply ∷ reverse account.deeds))
       (sym (subst (λ all. queries_after after all ≡ served client ask all) (sym same) tells))

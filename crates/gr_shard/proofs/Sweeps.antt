@@ -19,7 +19,7 @@ use Rattle.gr_history.specs.declared.deed.Deed.{Deed}
 use Rattle.gr_history.specs.declared.deed.Deed.TheVariants.{Swept}
 use Rattle.gr_history.specs.Ids.{id_of}
 use Rattle.gr_history.specs.Clock.{clock, since}
-use Rattle.gr_history.specs.Floor.{removal_of, greatest_ver}
+use Rattle.gr_history.specs.Floor.{floor, removal_of, greatest_ver}
 use Rattle.gr_history.specs.Recipients.{recipients}
 use Rattle.gr_history.specs.Stable.{due, is_due, is_due_from, is_stable}
 use Rattle.gr_history.specs.Standing.{changes, lasting, standing, names}
@@ -244,6 +244,16 @@ stands_swept slots moment expired past ordered stands key =
     at_named false is = stands key ∙ sym (unchanged key (Swept moment expired) past (ap left is))
 
 module _ (id : Identity) (opening moment : ℕ) (now : Kept) (past : List Deed) where
+  -- The floor, risen to the versions of what is due, is the one behind the sweep.
+  pub floor_swept : (expired : List (List ℕ)) → IsKept id opening now past → expired ≡ due id moment past
+      → risen now.slots now.floor expired ≡ floor opening (Swept moment expired ∷ past)
+  floor_swept expired kept is =
+      risen-greatest now.slots past now.floor expired
+      (λ key. ap slot_ver (kept.stands key) ∙ slot_ver-slot_of (standing key past) (since key past))
+      (subst (λ keys. AllByRecursion (λ key. removal_of (standing key past) ≡ standing key past) keys) (sym is)
+      (all_due id moment past (keys_of (changes past))))
+      ∙ ap (max (greatest_ver (filter_map (λ key. removal_of (standing key past)) expired))) kept.floored
+
   -- Kept before a sweep, all is kept after it.
   pub kept_swept : (expired : List (List ℕ)) → IsKept id opening now past → IsStrictlySortedBy (slice_cmp nat_cmp) (keys_in now.slots)
       → expired ≡ due id moment past → risen now.slots now.floor expired ≤ LIMIT
@@ -262,12 +272,7 @@ module _ (id : Identity) (opening moment : ℕ) (now : Kept) (past : List Deed) 
     named = (tt, kept.named);
     stands = stands_swept now.slots moment expired past ordered kept.stands;
     noted = kept.noted;
-    floored =
-        risen-greatest now.slots past now.floor expired
-        (λ key. ap slot_ver (kept.stands key) ∙ slot_ver-slot_of (standing key past) (since key past))
-        (subst (λ keys. AllByRecursion (λ key. removal_of (standing key past) ≡ standing key past) keys) (sym is)
-        (all_due id moment past (keys_of (changes past))))
-        ∙ ap (max (greatest_ver (filter_map (λ key. removal_of (standing key past)) expired))) kept.floored;
+    floored = floor_swept expired kept is;
     low = low;
     clocked = ap (max moment) kept.clocked;
     imaged = kept.imaged;

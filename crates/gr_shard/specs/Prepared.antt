@@ -1,5 +1,9 @@
 -- A deed that was prepared, and the call that it is of.
 use Rattle.std.specs.Prelude.{◌≡◌, ◌≤◌, ℕ, List, ◌∷◌, length, reverse}
+use Rattle.std.specs.Ordering.{nat_cmp}
+use Rattle.std.specs.Cmp.Lexicographic.{slice_cmp}
+use Rattle.std.specs.List.Sorted.{IsStrictlySortedBy}
+use Rattle.std.specs.Map.{keys_of}
 use Rattle.gr_value.specs.Shard.{shard_of}
 use Rattle.gr_history.specs.declared.deed.Deed.{Deed}
 use Rattle.gr_history.specs.declared.deed.Deed.TheVariants.{Asked, Taken, Gave, Imaged, Reported, Heard, Swept}
@@ -27,11 +31,12 @@ use Rattle.gr_shard.specs.InStep.{opened}
 use Rattle.gr_shard.specs.Merges.{IsGiftFor, IsImageFor}
 use Rattle.gr_shard.specs.View.{Account, IsKept, Kept}
 
--- A deed with this effect can be added to the account: whatever is kept with its history is kept with the deed once the effect is
--- there, and there is room.
+-- A deed with this effect can be added to the account: whatever is kept with its history, the slots in the order of their keys, is
+-- kept with the deed once the effect is there, and there is room.
 pub record IsFit (account : Account) (deed : Deed) (effect : Effect) : Type 0 where
   pub room : needs effect.queries ≤ account.spare
-  pub keeps : (now : Kept) → now.queries ≡ opened (reverse account.deeds) → IsKept account.id account.opening now (reverse account.deeds)
+  pub keeps : (now : Kept) → IsStrictlySortedBy (slice_cmp nat_cmp) (keys_of now.slots) → now.queries ≡ opened (reverse account.deeds)
+      → IsKept account.id account.opening now (reverse account.deeds)
       → IsKept account.id account.opening (effected account.id effect now) (deed ∷ reverse account.deeds)
   pub opens : queries_after effect.queries (opened (reverse account.deeds)) ≡ opened (deed ∷ reverse account.deeds)
   pub timed : IsTimed (clock_of (reverse account.deeds)) effect.slots
@@ -53,6 +58,7 @@ Belongs id (next.Give to what) = (1 ≤ to) × (to ≤ id.members)
 Belongs id (next.Merge image) = IsImageFor id image.now
 Belongs id next.Tell = Unit {0}
 Belongs id (next.Hear report) = Unit {0}
+Belongs id (next.Sweep moment) = Unit {0}
 
 -- The answer and the deed are those of the call of that name.
 abbrev pub Gives : Identity → ℕ → List Deed → Next → Came → Deed → Type 0
@@ -70,6 +76,8 @@ Gives id opening past next.Tell answer deed =
     (report : Report) × (answer ≡ came.Told report) × IsReportOf id.member past report × (report.vector.spare ≡ 0)
     × (deed ≡ Reported report)
 Gives id opening past (next.Hear report) answer deed = (answer ≡ came.Heard) × (deed ≡ Heard report.now)
+Gives id opening past (next.Sweep moment) answer deed =
+    (answer ≡ came.Swept (length (due id moment past))) × (deed ≡ Swept moment (due id moment past))
 
 -- With it the keys that the deed turns are told.
 pub record IsPrepared (account : Account) (to_do : Next) (prepared : Prepared) : Type 0 where

@@ -29,6 +29,9 @@ pub enum Next<'a> {
     Hear {
         report: &'a Report,
     },
+    Sweep {
+        moment: u64,
+    },
 }
 
 /// What the call answers.
@@ -41,4 +44,5 @@ pub enum Came {
     Merged,
     Told(Report),
     Heard,
+    Swept(u64),
 }

@@ -25,6 +25,7 @@ ghost use Rattle.gr_shard.specs.View.{IsPlace, after_deed, with_spare};
 
 mod calls;
 mod changing;
+mod expiring;
 mod halves;
 mod preparing;
 

@@ -42,6 +42,7 @@ impl Shard {
             clock,
             joined,
         } = effect;
+        self.slots.has_keys_in_order();
         self.roomy = false;
         settle(&mut self.slots, slots);
         know(&mut self.vector, ids);
@@ -73,6 +74,7 @@ impl Shard {
             Next::Merge { image } => self.prepare_merge(alloc, image),
             Next::Tell => self.prepare_report(alloc),
             Next::Hear { report } => self.prepare_hearing(alloc, report),
+            Next::Sweep { moment } => self.prepare_sweep(alloc, *moment),
         }
     }
 

@@ -33,7 +33,7 @@ invariant_of-self c =
       c.either-self-inside.ensures,
     ) (
       fit.keeps (kept was.slots.entries was.vector.ids was.floor was.clock was.joined was.to was.heard was.given was.queries.entries)
-          c.self.invariant.1.open_are c.self.invariant.0,
+          c.has_keys_in_order.ensures c.self.invariant.1.open_are c.self.invariant.0,
       unstocked _ _ _ _ _ _ (ap (queries_after effect.queries) c.self.invariant.1.open_are ∙ fit.opens),
     )
 

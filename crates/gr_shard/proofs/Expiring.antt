@@ -1,0 +1,96 @@
+-- A sweep that is prepared can be committed.
+use Rattle.std.proofs.Common.{◌≡◌, ◌≤◌, ◌∙◌, ap, sym, refl, subst, ℕ, List, [], ◌∷◌, ◌++◌, reverse, true, false, max, None, Some, map, filter}
+use Rattle.std.proofs.Common.{arith, bytes_eq, ◌||◌, Bool}
+use Rattle.std.proofs.lemmas.List.{map-append}
+use Rattle.std.proofs.lemmas.List.Elements.{filter-append}
+use Rattle.std.proofs.lemmas.Slice.Eq.{bytes_eq-Decides}
+use Rattle.gr_stamp.specs.declared.stamp.TheConstants.{LIMIT}
+use Rattle.gr_history.specs.declared.identity.Identity.{Identity}
+use Rattle.gr_history.specs.declared.deed.Deed.{Deed}
+use Rattle.gr_history.specs.declared.deed.Deed.TheVariants.{Swept}
+use Rattle.gr_history.specs.Clock.{clock as clock_of}
+use Rattle.gr_history.specs.Floor.{floor as floor_of}
+use Rattle.gr_history.specs.Stable.{due}
+use Rattle.gr_history.specs.Standing.{names, present}
+use Rattle.gr_history.specs.Turned.{turned, turned_at}
+use Rattle.gr_law.proofs.Turns.{swept_absent, swept_keys}
+use Rattle.gr_slots.specs.declared.slot.Slot.{Slot}
+use Rattle.gr_slots.specs.Slots.{Entries, is_timed_out, timed_out}
+use Rattle.gr_shard.specs.declared.effect.SlotsAfter.TheVariants as slots_
+use Rattle.gr_shard.specs.Effects.{unchanged}
+use Rattle.gr_shard.specs.Prepared.{IsFit}
+use Rattle.gr_shard.specs.Sweeps.{risen, valueless, without_all}
+use Rattle.gr_shard.specs.View.{Account, IsKept}
+use Rattle.gr_shard.proofs.Sweeps.{floor_swept, kept_swept}
+
+-- One slot more, last.
+pub late-push : (clock : ℕ) (entries : Entries) (entry : List ℕ × Slot)
+    → timed_out clock (entries ++ entry ∷ []) ≡ timed_out clock entries ++ timed_out clock (entry ∷ [])
+late-push clock entries entry =
+    ap (map (λ (e : List ℕ × Slot). e.0)) (filter-append (λ e. is_timed_out clock e.1) entries (entry ∷ []))
+    ∙ map-append (λ (e : List ℕ × Slot). e.0) (filter (λ e. is_timed_out clock e.1) entries) (filter (λ e. is_timed_out clock e.1) (entry ∷ []))
+
+-- ---- what a sweep turns
+
+names_first : (key : List ℕ) (keys : List (List ℕ)) → names key (key ∷ keys) ≡ true
+names_first key keys = let same : bytes_eq key key ≡ true = (bytes_eq-Decides key key).1 refl in rw same refl
+
+names_later : (first key : List ℕ) (keys : List (List ℕ)) → names key keys ≡ true → names key (first ∷ keys) ≡ true
+names_later first key keys is = at_first (bytes_eq first key)
+  where
+    at_first : (b : Bool) → (b || names key keys) ≡ true
+    at_first true = refl
+    at_first false = is
+
+valueless_at : (deed : Deed) (past : List Deed) (keys : List (List ℕ))
+    → ((key : List ℕ) → names key keys ≡ true → (present key past ≡ None) × (present key (deed ∷ past) ≡ None))
+    → map (turned_at deed past) keys ≡ map valueless keys
+valueless_at deed past [] absent = refl
+valueless_at deed past (key ∷ keys) absent =
+    let here = absent key (names_first key keys) in
+    rw (here.0, here.1)
+    (ap (λ rest. valueless key ∷ rest) (valueless_at deed past keys (λ other is. absent other (names_later key other keys is))))
+
+-- A sweep turns what is due, which has no value before and behind.
+pub turned_swept : (id : Identity) (opening moment : ℕ) (expired : List (List ℕ)) (past : List Deed) → expired ≡ due id moment past
+    → turned (Swept moment expired) past ≡ map valueless expired
+turned_swept id opening moment expired past is =
+    ap (map (turned_at (Swept moment expired) past)) (swept_keys id opening moment expired past is)
+    ∙ valueless_at (Swept moment expired) past expired (swept_absent id opening moment expired past is)
+
+-- ---- what it keeps
+
+module _ (account : Account) (some : 1 ≤ account.spare) where
+  pub fit_swept : (moment : ℕ) (expired : List (List ℕ)) (floor clock : ℕ) → expired ≡ due account.id moment (reverse account.deeds)
+      → floor ≡ floor_of account.opening (Swept moment expired ∷ reverse account.deeds) → floor ≤ LIMIT
+      → clock ≡ max moment (clock_of (reverse account.deeds))
+      → IsFit account (Swept moment expired) (record unchanged {
+        slots = slots_.Without expired;
+        floor = Some floor;
+        clock = Some clock;
+      })
+  fit_swept moment expired floor clock is floored low clocked = record {
+    room = some;
+    keeps = λ now ordered same kept.
+        let past = reverse account.deeds in
+        let floor_is : risen now.slots now.floor expired ≡ floor =
+        floor_swept account.id account.opening moment now past expired kept is ∙ sym floored in
+        let clock_is : max moment now.clock ≡ clock = ap (max moment) kept.clocked ∙ sym clocked in
+        subst (λ n. IsKept account.id account.opening (record now {
+          slots = without_all expired now.slots;
+          floor = floor;
+          clock = n;
+        })
+        (Swept moment expired ∷ past)) clock_is
+        (subst (λ n. IsKept account.id account.opening (record now {
+          slots = without_all expired now.slots;
+          floor = n;
+          clock = max moment now.clock;
+        })
+        (Swept moment expired ∷ past)) floor_is
+        (kept_swept account.id account.opening moment now past expired kept ordered is (subst (λ n. n ≤ LIMIT) (sym floor_is) low)));
+    opens = refl;
+    timed = tt;
+    made = tt;
+    given = tt;
+  }
