@@ -1,5 +1,5 @@
 -- A call and a change that is taken in, once prepared, can be committed.
-use Rattle.std.proofs.Common.{◌≡◌, ◌≤◌, ◌∙◌, ap, sym, refl, subst, ℕ, List, [], ◌∷◌, reverse, Option, Some, None}
+use Rattle.std.proofs.Common.{◌≡◌, ◌≤◌, ◌∙◌, ap, sym, refl, subst, ℕ, List, ◌∷◌, reverse, Option, Some, None}
 use Rattle.gr_value.specs.Shard.{shard_of}
 use Rattle.gr_stamp.specs.declared.change.Change.{Change}
 use Rattle.gr_cq.specs.Entries.{Entry, noted}

@@ -1,6 +1,6 @@
 -- A sweep that is prepared can be committed.
 use Rattle.std.proofs.Common.{◌≡◌, ◌≤◌, ◌∙◌, ap, sym, refl, subst, ℕ, List, [], ◌∷◌, ◌++◌, reverse, true, false, max, None, Some, map, filter}
-use Rattle.std.proofs.Common.{arith, bytes_eq, ◌||◌, Bool}
+use Rattle.std.proofs.Common.{bytes_eq, ◌||◌, Bool}
 use Rattle.std.proofs.lemmas.List.{map-append}
 use Rattle.std.proofs.lemmas.List.Elements.{filter-append}
 use Rattle.std.proofs.lemmas.Slice.Eq.{bytes_eq-Decides}

@@ -1,10 +1,10 @@
 -- What is prepared can be committed.
-use Rattle.std.proofs.Common.{◌≡◌, ◌≤◌, ◌∙◌, ap, sym, refl, subst, ℕ, ◌+◌, ◌-◌, List, [], ◌∷◌, reverse, Bool, true, false, Option, Some, None}
-use Rattle.std.proofs.Common.{length, map, max, arith}
+use Rattle.std.proofs.Common.{◌≡◌, ◌≤◌, ◌∙◌, ap, sym, refl, subst, ℕ, ◌+◌, List, [], ◌∷◌, reverse, Bool, true, false, Option, Some}
+use Rattle.std.proofs.Common.{length, map, arith}
 use Rattle.std.specs.List.{AllByRecursion}
 use Rattle.gr_oql.specs.declared.event.Event.{Event}
-use Rattle.gr_cq.specs.Entries.{Entry, Queries}
-use Rattle.gr_cq.specs.Foresight.{Change, Enrolling, Taking, Telling, IsMadeFor, IsWithin, longest, room_of}
+use Rattle.gr_cq.specs.Entries.{Queries}
+use Rattle.gr_cq.specs.Foresight.{Change, Enrolling, Taking, Telling, IsWithin, longest, room_of}
 use Rattle.gr_history.specs.declared.deed.Deed.{Deed}
 use Rattle.gr_history.specs.declared.deed.Deed.TheVariants.{Asked, Gave, Heard, Reported}
 use Rattle.gr_history.specs.declared.query_ask.QueryAsk.{QueryAsk}
@@ -15,7 +15,6 @@ use Rattle.gr_law.proofs.Waiting.{none_turned}
 use Rattle.gr_history.specs.declared.image.What.{What}
 use Rattle.gr_history.specs.Gifts.{IsReportOf}
 use Rattle.gr_vector.specs.declared.report.Report.{Report}
-use Rattle.gr_shard.specs.declared.effect.Effect.{Effect}
 use Rattle.gr_shard.specs.declared.effect.SlotsAfter.{SlotsAfter}
 use Rattle.gr_shard.specs.declared.effect.SlotsAfter.TheVariants as slots_
 use Rattle.gr_shard.specs.declared.effect.QueriesAfter.{QueriesAfter}

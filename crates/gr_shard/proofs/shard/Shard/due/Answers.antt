@@ -1,4 +1,4 @@
-use Rattle.std.proofs.Common.{◌≡◌, ◌∙◌, reverse}
+use Rattle.std.proofs.Common.{◌∙◌, reverse}
 use Rattle.gr_shard.specs.View.{kept}
 use Rattle.gr_shard.proofs.Sweeps.{expired_is}
 use Rattle.gr_shard.proofs.shard.Shard.due.Goals as goal

@@ -1,9 +1,7 @@
-use Rattle.std.proofs.Common.{◌≡◌, ◌∙◌, ap, sym, subst, refl, reverse, ◌∷◌, Option, option_copied}
+use Rattle.std.proofs.Common.{◌≡◌, ◌∙◌, ap, sym, subst, refl, reverse, Option}
 use Rattle.gr_value.specs.Shard.{shard_of}
 use Rattle.gr_stamp.specs.declared.change.Change.{Change}
 use Rattle.gr_cq.specs.Entries.{noted}
-use Rattle.gr_history.specs.Turned.{turned}
-use Rattle.gr_history.specs.declared.done.Done.{Done}
 use Rattle.gr_history.specs.Asks.{key_of}
 use Rattle.gr_history.specs.Calls.{call_gives}
 use Rattle.gr_shard.specs.declared.next.Came.TheVariants as came

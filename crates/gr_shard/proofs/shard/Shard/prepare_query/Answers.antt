@@ -1,4 +1,4 @@
-use Rattle.std.proofs.Common.{◌≡◌, ◌∙◌, ap, sym, subst, refl, reverse}
+use Rattle.std.proofs.Common.{◌∙◌, ap, sym, subst, reverse}
 use Rattle.gr_history.specs.declared.deed.Deed.TheVariants.{Asked}
 use Rattle.gr_shard.specs.declared.asking.Replies.{Replies}
 use Rattle.gr_shard.specs.declared.next.Came.TheVariants.{Reply}

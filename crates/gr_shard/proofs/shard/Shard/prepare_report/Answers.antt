@@ -1,4 +1,4 @@
-use Rattle.std.proofs.Common.{◌≡◌, ◌∙◌, ap, sym, subst, refl, reverse}
+use Rattle.std.proofs.Common.{◌∙◌, ap, sym, subst, refl, reverse}
 use Rattle.gr_history.specs.declared.deed.Deed.TheVariants.{Reported}
 use Rattle.gr_law.proofs.Turns.{turned_reported}
 use Rattle.gr_shard.specs.Prepared.{IsFit}

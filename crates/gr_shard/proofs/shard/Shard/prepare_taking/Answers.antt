@@ -1,11 +1,10 @@
-use Rattle.std.proofs.Common.{◌≡◌, ◌∙◌, ap, sym, subst, refl, reverse, ◌∷◌, Option, option_copied}
+use Rattle.std.proofs.Common.{◌≡◌, ◌∙◌, ap, sym, subst, refl, reverse, Option}
 use Rattle.gr_value.specs.Shard.{shard_of}
 use Rattle.gr_stamp.specs.declared.change.Change.{Change}
 use Rattle.gr_cq.specs.Entries.{noted}
 use Rattle.gr_history.specs.Turned.{turned}
 use Rattle.gr_history.specs.declared.deed.Deed.TheVariants.{Taken}
 use Rattle.gr_history.specs.Verdicts.{verdict}
-use Rattle.gr_history.specs.Clock.{clock as clock_of}
 use Rattle.gr_shard.specs.declared.effect.IdsAfter.TheVariants as ids_
 use Rattle.gr_shard.specs.declared.next.Came.TheVariants as came
 use Rattle.gr_shard.specs.Effects.{IsMadeAt, arriving, queries_after}
