@@ -1,5 +1,6 @@
 -- A sweep that is prepared can be committed.
-use Rattle.std.proofs.Common.{◌≡◌, ◌≤◌, ◌∙◌, ap, sym, refl, subst, ℕ, List, [], ◌∷◌, ◌++◌, reverse, true, false, max, None, Some, map, filter}
+use Rattle.std.proofs.Common.{◌≡◌, ◌≤◌, ◌∙◌, ap, sym, refl, subst, ℕ, List, [], ◌∷◌, ◌++◌}
+use Rattle.std.proofs.Common.{reverse, true, false, max, None, Some, map, filter}
 use Rattle.std.proofs.Common.{bytes_eq, ◌||◌, Bool}
 use Rattle.std.proofs.lemmas.List.{map-append}
 use Rattle.std.proofs.lemmas.List.Elements.{filter-append}
@@ -27,8 +28,14 @@ use Rattle.gr_shard.proofs.Sweeps.{floor_swept, kept_swept}
 pub late-push : (clock : ℕ) (entries : Entries) (entry : List ℕ × Slot)
     → timed_out clock (entries ++ entry ∷ []) ≡ timed_out clock entries ++ timed_out clock (entry ∷ [])
 late-push clock entries entry =
-    ap (map (λ (e : List ℕ × Slot). e.0)) (filter-append (λ e. is_timed_out clock e.1) entries (entry ∷ []))
-    ∙ map-append (λ (e : List ℕ × Slot). e.0) (filter (λ e. is_timed_out clock e.1) entries) (filter (λ e. is_timed_out clock e.1) (entry ∷ []))
+    ap (map key) (filter-append is_late entries (entry ∷ []))
+    ∙ map-append key (filter is_late entries) (filter is_late (entry ∷ []))
+  where
+    key : List ℕ × Slot → List ℕ
+    key e = e.0
+
+    is_late : List ℕ × Slot → Bool
+    is_late e = is_timed_out clock e.1
 
 -- ---- what a sweep turns
 
