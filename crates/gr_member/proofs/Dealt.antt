@@ -29,7 +29,7 @@ pub record IsDealt (plan : Plan) (passes n k : ℕ) (lock : TableId) (s : Place)
 
 -- the seats of the shard k, as its lock gives them
 pub seats_of : (plan : Plan) (k passes : ℕ) (account : Account) (lock : TableId) (seats : List Place) → length seats ≡ passes
-    → account ≡ record { id = identity_of plan k; opening = plan.floor; deeds = [] }
+    → account ≡ record { id = identity_of plan k; opening = plan.floor; deeds = []; spare = 0 }
     → ((j : ℕ) (seat : Place) → slice_get seats j ≡ Some seat → (seat.lock ≡ lock) ×
     (seat.view ≡ seat_view (origin_in account) passes account.deeds j))
     → AreSeats plan k passes lock seats

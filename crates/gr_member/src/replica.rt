@@ -81,7 +81,7 @@ impl Replica {
         ensures members { IfOk result (λ done. done.to < 2 ^ self.old.shard.id.members) }
         ensures here { IfOk result (λ done. AllByRecursion (λ change. shard_of change.key self.old.shard.id.shards ≡ self.old.shard.id.shard) (option_to_list done.made)) }
         ensures done { IfOk result (λ done. self.new.shard.deeds ≡ self.old.shard.deeds ++ deed.Call client done.to seq ask.now done.reply done.made ∷ []) }
-        ensures err { OnErr result (self.new.shard ≡ self.old.shard) }
+        ensures err { OnErr result (self.new.shard.deeds ≡ self.old.shard.deeds) }
     {
         self.shard.call(alloc, client, seq, ask)
     }
@@ -95,7 +95,7 @@ impl Replica {
     ) -> Result<QueryReply, Memory>
         ensures grows { Grows self.old.shard self.new.shard }
         ensures done { IfOk result (λ reply. self.new.shard.deeds ≡ self.old.shard.deeds ++ deed.Asked client seq ask.now reply ∷ []) }
-        ensures err { OnErr result (self.new.shard ≡ self.old.shard) }
+        ensures err { OnErr result (self.new.shard.deeds ≡ self.old.shard.deeds) }
     {
         self.shard.query(alloc, client, seq, ask)
     }
@@ -104,7 +104,7 @@ impl Replica {
         requires { shard_of change.now.key self.old.shard.id.shards ≡ self.old.shard.id.shard }
         ensures grows { Grows self.old.shard self.new.shard }
         ensures done { IfOk result (λ told. self.new.shard.deeds ≡ self.old.shard.deeds ++ deed.Taken change.now told ∷ []) }
-        ensures err { OnErr result (self.new.shard ≡ self.old.shard) }
+        ensures err { OnErr result (self.new.shard.deeds ≡ self.old.shard.deeds) }
     {
         self.shard.take_in(alloc, change)
     }
@@ -112,7 +112,7 @@ impl Replica {
     pub(crate) fn report(&mut self, alloc: Global) -> Result<Report, Memory>
         ensures grows { Grows self.old.shard self.new.shard }
         ensures done { IfOk result (λ report. self.new.shard.deeds ≡ self.old.shard.deeds ++ deed.Reported report ∷ []) }
-        ensures err { OnErr result (self.new.shard ≡ self.old.shard) }
+        ensures err { OnErr result (self.new.shard.deeds ≡ self.old.shard.deeds) }
     {
         self.shard.report(alloc)
     }
@@ -120,7 +120,7 @@ impl Replica {
     pub(crate) fn hear(&mut self, alloc: Global, report: &Report) -> Result<(), Memory>
         ensures grows { Grows self.old.shard self.new.shard }
         ensures done { OnOk result (self.new.shard.deeds ≡ self.old.shard.deeds ++ deed.Heard report.now ∷ []) }
-        ensures err { OnErr result (self.new.shard ≡ self.old.shard) }
+        ensures err { OnErr result (self.new.shard.deeds ≡ self.old.shard.deeds) }
     {
         self.shard.hear(alloc, report)
     }
@@ -128,7 +128,7 @@ impl Replica {
     pub(crate) fn sweep(&mut self, alloc: Global, moment: u64) -> Result<u64, Memory>
         ensures grows { Grows self.old.shard self.new.shard }
         ensures done { IfOk result (λ count. (expired : List (List ℕ)) × (self.new.shard.deeds ≡ self.old.shard.deeds ++ deed.Swept moment expired ∷ []) × (count ≡ length expired)) }
-        ensures err { OnErr result (self.new.shard ≡ self.old.shard) }
+        ensures err { OnErr result (self.new.shard.deeds ≡ self.old.shard.deeds) }
     {
         self.shard.sweep(alloc, moment)
     }
@@ -140,7 +140,7 @@ impl Replica {
         ensures fits { IfOk result (IsGiftFor self.old.shard.id) }
         ensures room { IfOk result HasNoRoom }
         ensures done { OnOk result (self.new.shard.deeds ≡ self.old.shard.deeds ++ deed.Gave to what ∷ []) }
-        ensures err { OnErr result (self.new.shard ≡ self.old.shard) }
+        ensures err { OnErr result (self.new.shard.deeds ≡ self.old.shard.deeds) }
     {
         self.shard.give(alloc, to, what)
     }
@@ -149,7 +149,7 @@ impl Replica {
         requires { IsImageFor self.old.shard.id image.now }
         ensures grows { Grows self.old.shard self.new.shard }
         ensures done { OnOk result (self.new.shard.deeds ≡ self.old.shard.deeds ++ deed.Imaged image.now ∷ []) }
-        ensures err { OnErr result (self.new.shard ≡ self.old.shard) }
+        ensures err { OnErr result (self.new.shard.deeds ≡ self.old.shard.deeds) }
     {
         self.shard.merge(alloc, image)
     }
