@@ -2,8 +2,8 @@ ghost use Rattle.std.specs.Prelude.{◌≡◌, IfOk};
 ghost use Rattle.gr_value.specs.Shard.{shard_of};
 ghost use Rattle.gr_history.specs.Asks.{key_of};
 
-use gr_history::{Ask, Done, Reply};
-use gr_shard::{Came, Identity, Next, Shard};
+use gr_history::Ask;
+use gr_shard::{Identity, Shard};
 use gr_slots::Slot;
 use gr_stamp::{Stamp, decide};
 use gr_value::{Copied, Key, Memory, Value};
@@ -89,67 +89,6 @@ fn a_shard_tells_what_stands(rt: HostRuntime) -> Result<(), Fail> {
         (1, 1, 0)
     );
     assert_eq!(rt; left(alloc, &shard)?, (2, 1, 0, 3));
-    Ok(())
-}
-
-// What a put gives at a shard that nothing was done at.
-fn called(alloc: Global, key: &Key) -> Result<Done, Fail>
-    requires { shard_of key.now 1 ≡ 0 }
-{
-    let ask = put(alloc, key)?;
-    let mut shard = Shard::new(alloc, FIRST, 3)?;
-    Ok(shard.call(alloc, 1, 1, &ask)?)
-}
-
-// The stamp of what was made and whom it goes to, where the reply is that there was no value.
-fn made(done: &Done) -> Option<(u64, u8, u64, u8)> {
-    match (&done.reply, &done.made) {
-        (Reply::Null, Some(change)) => {
-            let stamp = change.stamp;
-            Some((stamp.ver(), stamp.member(), stamp.rv(), done.to))
-        }
-        _ => None,
-    }
-}
-
-// The version is above the floor of 3, the number is the member's first, and the change goes to the second member.
-#[test]
-fn a_call_tells_what_it_made(rt: HostRuntime) -> Result<(), Fail> {
-    let alloc = rt.alloc();
-    let key = Key::read(alloc, b"a")?;
-    assert_eq!(rt; key.shard(1), 0);
-    let done = called(alloc, &key)?;
-    assert!(rt; made(&done) == Some((4, 1, 1, 2)));
-    Ok(())
-}
-
-// The same in two halves: what it answers, and how many keys it turns.
-fn halved(alloc: Global, key: &Key) -> Result<(Came, usize), Fail>
-    requires { shard_of key.now 1 ≡ 0 }
-{
-    let ask = put(alloc, key)?;
-    let mut shard = Shard::new(alloc, FIRST, 3)?;
-    let next = Next::Call {
-        client: 1,
-        seq: 1,
-        ask: &ask,
-    };
-    let prepared = shard.prepare(alloc, &next)?;
-    let turned = prepared.turned().len();
-    Ok((shard.commit(prepared), turned))
-}
-
-#[test]
-fn two_halves_tell_what_a_call_tells(rt: HostRuntime) -> Result<(), Fail> {
-    let alloc = rt.alloc();
-    let key = Key::read(alloc, b"a")?;
-    assert_eq!(rt; key.shard(1), 0);
-    let (came, turned) = halved(alloc, &key)?;
-    assert_eq!(rt; turned, 1);
-    let Came::Done(done) = came else {
-        panic!(rt; "no answer of a call")
-    };
-    assert!(rt; made(&done) == Some((4, 1, 1, 2)));
     Ok(())
 }
 
