@@ -6,7 +6,6 @@ use Rattle.std.specs.Prelude.{slice_get, slice_index, ◌-◌, ◌%◌}
 use Rattle.std.specs.List.{filter_map, AllByRecursion}
 use native.Mathlib.Decide.{ℕ_discrete}
 use mathlib.Core.Logic.{dite}
-use Rattle.gr_value.specs.declared.value.Field.{Field}
 use Rattle.gr_value.specs.Shard.{shard_of, key_hash}
 use Rattle.gr_turn.specs.Views.{times}
 use Rattle.gr_history.specs.Deeds.{is_of_client}
@@ -18,6 +17,7 @@ use Rattle.gr_script.specs.Rules.{IsScript}
 use Rattle.gr_script.specs.Steps.{AreNumbered}
 use Rattle.gr_script.proofs.Numbers.{steps_numbered}
 use Rattle.gr_world.specs.Grids.{Histories}
+use Rattle.gr_world.specs.Events.{Peek}
 use Rattle.gr_world.specs.Served.{Served, Looked, all_deeds_of, number_in, step_of, IsPeek, ArePlaced, IsServed}
 use Rattle.gr_run_law.specs.Shares.{Stands, Owner, Client, Thread, Giver}
 use Rattle.gr_run_law.specs.Threads.{AreLeftByThreads}
@@ -209,31 +209,31 @@ module _ (heading : Heading) (lines : List Line) (histories : Histories) (served
     growing = growing;
   }
     where
-      peeks : (number : ℕ) (key : List ℕ) (value : Option (List Field)) (at : ℕ) → Among (Looked number key value at) (served client)
-          → IsPeek client number key value at (histories (home_of heading client) (shard_of key heading.shards))
-      peeks number key value at among =
-          let shard = shard_of key heading.shards in
-          let within : shard_of key heading.shards < heading.shards = key_within key heading.shards head.heading.shards.0 in
+      peeks : (number : ℕ) (peek : Peek) → Among (Looked number peek) (served client)
+          → IsPeek client number peek (histories (home_of heading client) (shard_of peek.key heading.shards))
+      peeks number peek among =
+          let shard = shard_of peek.key heading.shards in
+          let within : shard_of peek.key heading.shards < heading.shards = key_within peek.key heading.shards head.heading.shards.0 in
           let fit = (a.sessions client stated).looks shard within in
-          let look = (a.sessions client stated).told number key value at among in
+          let look = (a.sessions client stated).told number peek among in
           record {
             within = look.within;
             value_is = look.value_is;
             late = λ deed past earlier o is less.
                 let get = older_get deed past (histories (home_of heading client) shard) o in
-                late_of client heading.shards shard number key value at refl
+                late_of client heading.shards shard number peek refl
                 (reverse (histories (home_of heading client) shard)) 0 0 1 (a.places (home_of heading client) shard (Client client))
                 (served client)
                 (own_stands shard within) fit numbered among (length past)
                 (own_place shard within (length past) earlier deed get is) deed earlier get is less;
           }
 
-      growing : (number earlier : ℕ) (key other : List ℕ) (value seen : Option (List Field)) (at place : ℕ)
-          → Among (Looked number key value at) (served client) → Among (Looked earlier other seen place) (served client)
-          → shard_of other heading.shards ≡ shard_of key heading.shards → earlier < number → place ≤ at
-      growing number earlier key other value seen at place among before same less =
-          let within : shard_of key heading.shards < heading.shards = key_within key heading.shards head.heading.shards.0 in
-          in_order heading.shards (shard_of key heading.shards) 0 1
-          (a.places (home_of heading client) (shard_of key heading.shards) (Client client)) (served client)
-          ((a.sessions client stated).looks (shard_of key heading.shards) within) numbered number earlier key other value seen at place
+      growing : (number earlier : ℕ) (peek other : Peek)
+          → Among (Looked number peek) (served client) → Among (Looked earlier other) (served client)
+          → shard_of other.key heading.shards ≡ shard_of peek.key heading.shards → earlier < number → other.at ≤ peek.at
+      growing number earlier peek other among before same less =
+          let within : shard_of peek.key heading.shards < heading.shards = key_within peek.key heading.shards head.heading.shards.0 in
+          in_order heading.shards (shard_of peek.key heading.shards) 0 1
+          (a.places (home_of heading client) (shard_of peek.key heading.shards) (Client client)) (served client)
+          ((a.sessions client stated).looks (shard_of peek.key heading.shards) within) numbered number earlier peek other
           refl (sym same) among before less

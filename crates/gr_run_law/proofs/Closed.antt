@@ -302,7 +302,7 @@ step_posted client shards shard to number ask reply change (Queried own asked re
     no : (one : QueryReply) → Call client to number ask reply (Some change) ≡ Asked client own asked one → ⊥
     no one e = cc
 step_posted client shards shard to number ask reply change (Queried own asked replies) key (inr a) = absurd a
-step_posted client shards shard to number ask reply change (Looked own key' value at) key a = absurd a
+step_posted client shards shard to number ask reply change (Looked own peek) key a = absurd a
 
 module _ (heading : Heading) (lines : List Line) (histories : Histories) (clients : List ClientRecord) (head : IsScript heading lines)
     (r : IsRun heading lines histories clients) (member shard : ℕ) (is_in : EndsReady heading lines member)

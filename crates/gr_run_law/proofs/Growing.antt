@@ -4,7 +4,6 @@ use Rattle.std.proofs.Common.{refl, sym, ap, ◌∙◌, subst, arith, inl, inr, 
 use Rattle.std.specs.Prelude.{slice_get}
 use Rattle.std.specs.List.{filter_map, cons_option}
 use Rattle.std.proofs.lemmas.Grind.{flat_map-append}
-use Rattle.gr_value.specs.declared.value.Field.{Field}
 use Rattle.gr_value.specs.Shard.{shard_of}
 use Rattle.gr_turn.specs.Views.{times}
 use Rattle.gr_history.specs.Asks.{key_of}
@@ -13,6 +12,7 @@ use Rattle.gr_history.specs.declared.deed.Deed.TheVariants.{Call, Asked, Taken, 
 use Rattle.gr_history.specs.declared.image.What.{What}
 use Rattle.gr_history.specs.Gifts.{own_changes}
 use Rattle.gr_law.specs.Grids.{Among, Older}
+use Rattle.gr_world.specs.Events.{Peek}
 use Rattle.gr_world.specs.Served.{Served, Called, Queried, Looked, deeds_of, all_deeds_of}
 use Rattle.gr_run_law.specs.Shares.{Stands, Owner, Client, Thread, Giver, AreShared, AreSharedSoFar, same_owner, with_owner}
 use Rattle.gr_run_law.specs.Duties.{gift_in, given_to, own_where}
@@ -154,66 +154,64 @@ module _ (client shards shard : ℕ) where
   looks_deed list from low [] qs (Queried number ask replies ∷ served) one stands fit last = absurd stands
   looks_deed list from low (p ∷ ps) qs (Queried number ask replies ∷ served) one stands fit last =
       looks_deed list (suc p) (max low (suc p)) ps qs served one stands.2 fit last
-  looks_deed list from low ps qs (Looked number key value at ∷ served) one stands fit last =
-      (fit.0, looks_deed list from (seen_if (shard == shard_of key shards) low at) ps qs served one stands fit.1 last)
+  looks_deed list from low ps qs (Looked number peek ∷ served) one stands fit last =
+      (fit.0, looks_deed list from (seen_if (shard == shard_of peek.key shards) low peek.at) ps qs served one stands fit.1 last)
 
 module _ (shards shard : ℕ) where
   -- one more peek, behind the own deeds and the earlier peeks
-  pub looks_peek : (low : ℕ) (ps : List ℕ) (served : List Served) (number : ℕ) (key : List ℕ) (value : Option (List Field)) (at : ℕ)
+  pub looks_peek : (low : ℕ) (ps : List ℕ) (served : List Served) (number : ℕ) (peek : Peek)
       → LooksFit shards shard low ps served
-      → (shard ≡ shard_of key shards → (low ≤ at) × ((p : ℕ) → 0 < times p ps → suc p ≤ at)
-      × ((n : ℕ) (k : List ℕ) (v : Option (List Field)) (place : ℕ) → Among (Looked n k v place) served → shard
-      ≡ shard_of k shards → place ≤ at))
-      → LooksFit shards shard low ps (served ++ Looked number key value at ∷ [])
-  looks_peek low ps [] number key value at fit late = (λ here. (late here).0, tt)
-  looks_peek low ps (Called n ask reply made to ∷ served) number key value at fit late =
+      → (shard ≡ shard_of peek.key shards → (low ≤ peek.at) × ((p : ℕ) → 0 < times p ps → suc p ≤ peek.at)
+      × ((n : ℕ) (other : Peek) → Among (Looked n other) served → shard ≡ shard_of other.key shards → other.at ≤ peek.at))
+      → LooksFit shards shard low ps (served ++ Looked number peek ∷ [])
+  looks_peek low ps [] number peek fit late = (λ here. (late here).0, tt)
+  looks_peek low ps (Called n ask reply made to ∷ served) number peek fit late =
       looks_peek (behind_first (shard == shard_of (key_of ask) shards) low ps) (rest_if (shard == shard_of (key_of ask) shards) ps) served
-      number key value at fit
+      number peek fit
       (λ here. (
         below (shard == shard_of (key_of ask) shards) ps (late here).0 (late here).1,
         less (shard == shard_of (key_of ask) shards) ps (late here).1,
-        λ n k v place a there. (late here).2 n k v place (inr a) there,
+        λ n other a there. (late here).2 n other (inr a) there,
       ))
     where
-      below : (b : Bool) (ps : List ℕ) → low ≤ at → ((p : ℕ) → 0 < times p ps → suc p ≤ at) → behind_first b low ps ≤ at
+      below : (b : Bool) (ps : List ℕ) → low ≤ peek.at → ((p : ℕ) → 0 < times p ps → suc p ≤ peek.at) → behind_first b low ps ≤ peek.at
       below true [] le all = le
       below true (p ∷ ps) le all = let k =
           all p (let e = same_number p in let f : cond {A = ℕ} (p == p) 1 0 ≡ 1 = rw e refl in omega arith) in omega arith
       below false ps le all = le
 
-      less : (b : Bool) (ps : List ℕ) → ((p : ℕ) → 0 < times p ps → suc p ≤ at) → (p : ℕ) → 0 < times p (rest_if b ps) → suc p ≤ at
+      less : (b : Bool) (ps : List ℕ) → ((p : ℕ) → 0 < times p ps → suc p ≤ peek.at) → (p : ℕ) → 0 < times p (rest_if b ps) → suc p ≤ peek.at
       less true [] all p t = all p t
       less true (q ∷ ps) all p t = all p (omega arith)
       less false ps all p t = all p t
-  looks_peek low ps (Queried n ask replies ∷ served) number key value at fit late =
-      looks_peek (behind_first true low ps) (rest_if true ps) served number key value at fit
+  looks_peek low ps (Queried n ask replies ∷ served) number peek fit late =
+      looks_peek (behind_first true low ps) (rest_if true ps) served number peek fit
       (λ here. (
         below ps (late here).0 (late here).1,
         less ps (late here).1,
-        λ n k v place a there. (late here).2 n k v place
-            (inr a) there,
+        λ n other a there. (late here).2 n other (inr a) there,
       ))
     where
-      below : (ps : List ℕ) → low ≤ at → ((p : ℕ) → 0 < times p ps → suc p ≤ at) → behind_first true low ps ≤ at
+      below : (ps : List ℕ) → low ≤ peek.at → ((p : ℕ) → 0 < times p ps → suc p ≤ peek.at) → behind_first true low ps ≤ peek.at
       below [] le all = le
       below (p ∷ ps) le all = let k = all p (let e = same_number p in let f : cond {A = ℕ} (p == p) 1 0 ≡ 1 = rw e refl in omega arith) in
           omega arith
 
-      less : (ps : List ℕ) → ((p : ℕ) → 0 < times p ps → suc p ≤ at) → (p : ℕ) → 0 < times p (rest_if true ps) → suc p ≤ at
+      less : (ps : List ℕ) → ((p : ℕ) → 0 < times p ps → suc p ≤ peek.at) → (p : ℕ) → 0 < times p (rest_if true ps) → suc p ≤ peek.at
       less [] all p t = all p t
       less (q ∷ ps) all p t = all p (omega arith)
-  looks_peek low ps (Looked n k v place ∷ served) number key value at fit late = (
+  looks_peek low ps (Looked n other ∷ served) number peek fit late = (
     fit.0,
-    looks_peek (seen_if (shard == shard_of k shards) low place) ps served number key value at fit.1
+    looks_peek (seen_if (shard == shard_of other.key shards) low other.at) ps served number peek fit.1
         (λ here. (
-          below (shard == shard_of k shards) refl (late here).0 (λ there. (late here).2 n k v place (inl refl) there),
+          below (shard == shard_of other.key shards) refl (late here).0 (λ there. (late here).2 n other (inl refl) there),
           (late here).1,
-          λ n' k' v' place' a there. (late here).2 n' k' v' place' (inr a) there,
+          λ n' other' a there. (late here).2 n' other' (inr a) there,
         )),
   )
     where
-      below : (b : Bool) → (shard == shard_of k shards) ≡ b → low ≤ at → (shard ≡ shard_of k shards → place ≤ at) → seen_if b low place ≤ at
-      below true e le all = all (eqb-true shard (shard_of k shards) e)
+      below : (b : Bool) → (shard == shard_of other.key shards) ≡ b → low ≤ peek.at → (shard ≡ shard_of other.key shards → other.at ≤ peek.at) → seen_if b low other.at ≤ peek.at
+      below true e le all = all (eqb-true shard (shard_of other.key shards) e)
       below false e le all = le
 
 -- ---- one gift

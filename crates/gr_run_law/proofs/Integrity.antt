@@ -215,7 +215,7 @@ module _ (heading : Heading) (lines : List Line) (histories : Histories) (served
       }
       at_step (Called number ask reply (Some change) to) in_ q (inr b) e = absurd b
       at_step (Queried number ask replies) in_ q b e = absurd b
-      at_step (Looked number key value at) in_ q b e = absurd b
+      at_step (Looked number peek) in_ q b e = absurd b
 
   pub member_posting : (other : ℕ) → IsMember heading other → (m : Mail)
       → Among m (map (λ (p : Posting). p.mail) (reports_posted heading other (filter_map round_of (a.works other))))

@@ -52,7 +52,7 @@ steps_all client shards shard P of served = all_flat P (deeds_of client shards s
     each : (one : Served) → AllByRecursion P (deeds_of client shards shard one)
     each (Called number ask reply made to) = at_shard (shard == shard_of (key_of ask) shards) number ask reply made to
     each (Queried number ask replies) = (of.asks number ask _, tt)
-    each (Looked number key value at) = tt
+    each (Looked number peek) = tt
 
 pub works_all : (shards shard : ℕ) (P : Deed → Type 0) → OfWorks P → (works : List Work)
     → AllByRecursion P (flat_map (work_at shards shard) works)

@@ -6,7 +6,6 @@ use Rattle.std.specs.List.{filter_map}
 use native.Mathlib.Decide.{ℕ_discrete}
 use mathlib.Core.Logic.{dite}
 use Rattle.gr_value.specs.Shard.{shard_of}
-use Rattle.gr_value.specs.declared.value.Field.{Field}
 use Rattle.gr_stamp.specs.declared.change.Change.{Change}
 use Rattle.gr_vector.specs.declared.report.Report.{Report}
 use Rattle.gr_turn.specs.Views.{times}
@@ -29,6 +28,7 @@ use Rattle.gr_post.specs.Plan.{delivered}
 use Rattle.gr_script.specs.Rules.{IsHeading, IsMember, IsScript, IsStated, IsWithin, home_of}
 use Rattle.gr_world.specs.Grids.{grid_from}
 use Rattle.gr_world.specs.Rows.{one_key}
+use Rattle.gr_world.specs.Events.{Peek}
 use Rattle.gr_world.specs.Served.{Called, Queried, Looked, all_deeds_of}
 use Rattle.gr_run_law.specs.Duties.{given_to, gift_due, duty_of}
 use Rattle.gr_run_law.specs.Plans.{draws_for, courier_of, reports_posted, changes_posted}
@@ -260,33 +260,34 @@ DeedsAt client member shard = small_owned member shard (Client client) ≡ all_d
 abbrev LooksAt : ℕ → ℕ → ℕ → Type 0
 LooksAt client member shard = LooksFit 2 shard 0 (small_places member shard (Client client)) (small_served client)
 
-not_called : (number : ℕ) (key : List ℕ) (value : Option (List Field)) (at own : ℕ) (ask : Ask) (reply : Reply)
+not_called : (number : ℕ) (peek : Peek) (own : ℕ) (ask : Ask) (reply : Reply)
     (made : Option Change) (to : ℕ)
-    → Looked number key value at ≡ Called own ask reply made to → ⊥
-not_called number key value at own ask reply made to e = cc
+    → Looked number peek ≡ Called own ask reply made to → ⊥
+not_called number peek own ask reply made to e = cc
 
-not_queried : (number : ℕ) (key : List ℕ) (value : Option (List Field)) (at own : ℕ) (ask : QueryAsk) (replies : List QueryReply)
-    → Looked number key value at ≡ Queried own ask replies → ⊥
-not_queried number key value at own ask replies e = cc
+not_queried : (number : ℕ) (peek : Peek) (own : ℕ) (ask : QueryAsk) (replies : List QueryReply)
+    → Looked number peek ≡ Queried own ask replies → ⊥
+not_queried number peek own ask replies e = cc
 
-the_peek : (number : ℕ) (key : List ℕ) (value : Option (List Field)) (at : ℕ) → Looked number key value at ≡ Looked 3 one_key (Some []) 2
-    → IsLook key value at (small_histories 1 (shard_of key 2))
-the_peek number key value at e =
-    let k : key ≡ one_key = cc in
-    let v : value ≡ Some [] = cc in
-    let a : at ≡ 2 = cc in
-    rw (k, v, a) (record { within = omega arith; value_is = refl })
+abbrev one_peek : Peek
+one_peek = record { key = one_key; value = Some []; at = 2 }
 
-first_told : (number : ℕ) (key : List ℕ) (value : Option (List Field)) (at : ℕ) → Among (Looked number key value at) (small_served 1)
-    → IsLook key value at (small_histories 1 (shard_of key 2))
-first_told number key value at (inl e) = absurd (not_called number key value at _ _ _ _ _ e)
-first_told number key value at (inr (inl e)) = absurd (not_queried number key value at _ _ _ e)
-first_told number key value at (inr (inr (inl e))) = the_peek number key value at e
-first_told number key value at (inr (inr (inr a))) = absurd a
+the_peek : (number : ℕ) (peek : Peek) → Looked number peek ≡ Looked 3 one_peek
+    → IsLook peek (small_histories 1 (shard_of peek.key 2))
+the_peek number peek e =
+    let is : peek ≡ one_peek = cc in
+    rw is (record { within = omega arith; value_is = refl })
 
-second_told : (number : ℕ) (key : List ℕ) (value : Option (List Field)) (at : ℕ) → Among (Looked number key value at) (small_served 2) → ⊥
-second_told number key value at (inl e) = not_called number key value at _ _ _ _ _ e
-second_told number key value at (inr a) = a
+first_told : (number : ℕ) (peek : Peek) → Among (Looked number peek) (small_served 1)
+    → IsLook peek (small_histories 1 (shard_of peek.key 2))
+first_told number peek (inl e) = absurd (not_called number peek _ _ _ _ _ e)
+first_told number peek (inr (inl e)) = absurd (not_queried number peek _ _ _ e)
+first_told number peek (inr (inr (inl e))) = the_peek number peek e
+first_told number peek (inr (inr (inr a))) = absurd a
+
+second_told : (number : ℕ) (peek : Peek) → Among (Looked number peek) (small_served 2) → ⊥
+second_told number peek (inl e) = not_called number peek _ _ _ _ _ e
+second_told number peek (inr a) = a
 
 first_session : SessionOf 1
 first_session = record {
@@ -318,7 +319,7 @@ second_session = record {
   replies = tt & tt;
   deeds = at_shards (DeedsAt 2 3) refl refl;
   looks = at_shards (LooksAt 2 3) tt tt;
-  told = λ number key value at a. absurd (second_told number key value at a);
+  told = λ number peek a. absurd (second_told number peek a);
   ready = λ shard within joins. at_shards ReadyAt ready_0 ready_1 shard within;
 }
 

@@ -21,7 +21,7 @@ change_posted shards (Some change) to = (record { mail = mail.Change (shard_of c
 abbrev pub posted_by : ℕ → Served → List Posting
 posted_by shards (Called number ask reply made to) = change_posted shards made to
 posted_by shards (Queried number ask replies) = []
-posted_by shards (Looked number key value at) = []
+posted_by shards (Looked number peek) = []
 
 abbrev pub changes_posted : ℕ → List Served → List Posting
 changes_posted shards served = flat_map (posted_by shards) served

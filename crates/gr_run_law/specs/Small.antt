@@ -87,7 +87,7 @@ small_histories _ _ = []
 abbrev pub small_served : ℕ → List Served
 small_served (suc zero) =
     Called 1 (ask.Put one_key []) reply.Null (Some (put 1 1 1)) 2 ∷ Queried 2 opens (rows_0 ∷ rows_1 ∷ [])
-    ∷ Looked 3 one_key (Some []) 2 ∷ []
+    ∷ Looked 3 (record { key = one_key; value = Some []; at = 2 }) ∷ []
 small_served (suc (suc zero)) = Called 1 (ask.Get one_key) (reply.Value []) None 0 ∷ []
 small_served _ = []
 

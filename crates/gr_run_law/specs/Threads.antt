@@ -3,7 +3,6 @@ use Rattle.std.specs.Prelude.{◌≡◌, ◌≢◌, ◌⊎◌, ℕ, suc, ◌+◌
 use Rattle.std.specs.Prelude.{length, map, max}
 use Rattle.std.specs.Prelude.{nat_lt, filter, reverse, slice_get, flat_map, if◌then◌else◌}
 use Rattle.std.specs.List.{AllByRecursion, filter_map}
-use Rattle.gr_value.specs.declared.value.Field.{Field}
 use Rattle.gr_value.specs.Shard.{shard_of}
 use Rattle.gr_stamp.specs.declared.change.Change.{Change}
 use Rattle.gr_vector.specs.declared.report.Report.{Report}
@@ -30,6 +29,7 @@ use Rattle.gr_script.specs.Steps.{steps_of, joins_of}
 use Rattle.gr_world.specs.Grids.{Histories, grid_from}
 use Rattle.gr_world.specs.Numbered.{numbers_from}
 use Rattle.gr_world.specs.Records.{HasRegions}
+use Rattle.gr_world.specs.Events.{Peek}
 use Rattle.gr_world.specs.Served.{histories_in, Served, Called, Queried, Looked, step_of, all_deeds_of, HasReplies, client_of}
 use Rattle.gr_run_law.specs.Shares.{Owner, Client, Thread, Giver, AreShared}
 use Rattle.gr_run_law.specs.Duties.{Duty, Reports, Sweeps, Joins, duty_of, gift_due, given_to}
@@ -63,14 +63,14 @@ LooksFit shards shard low ps (Called number ask reply made to ∷ served) =
     LooksFit shards shard (behind_first here low ps) (rest_if here ps) served
 LooksFit shards shard low ps (Queried number ask replies ∷ served) =
     LooksFit shards shard (behind_first true low ps) (rest_if true ps) served
-LooksFit shards shard low ps (Looked number key value at ∷ served) =
-    (shard ≡ shard_of key shards → low ≤ at)
-    × LooksFit shards shard (seen_if (shard == shard_of key shards) low at) ps served
+LooksFit shards shard low ps (Looked number peek ∷ served) =
+    (shard ≡ shard_of peek.key shards → low ≤ peek.at)
+    × LooksFit shards shard (seen_if (shard == shard_of peek.key shards) low peek.at) ps served
 
 -- A peek tells what was present at a place of the history.
-pub record IsLook (key : List ℕ) (value : Option (List Field)) (at : ℕ) (history : List Deed) : Type 0 where
-  pub within : at ≤ length history
-  pub value_is : value ≡ present key (at_place at history)
+pub record IsLook (peek : Peek) (history : List Deed) : Type 0 where
+  pub within : peek.at ≤ length history
+  pub value_is : peek.value ≡ present peek.key (at_place peek.at history)
 
 -- The history was ready at some place, and the session's deeds stand behind it.
 pub record IsReadyBefore (history : List Deed) (places : List ℕ) : Type 0 where
@@ -87,8 +87,8 @@ pub record IsSession (heading : Heading) (lines : List Line) (histories : Histor
   pub deeds : (shard : ℕ) → shard < heading.shards → owned shard ≡ all_deeds_of client heading.shards shard served
   -- Its peeks look behind its deeds, and tell what was present.
   pub looks : (shard : ℕ) → shard < heading.shards → LooksFit heading.shards shard 0 (places shard) served
-  pub told : (number : ℕ) (key : List ℕ) (value : Option (List Field)) (at : ℕ) → Among (Looked number key value at) served
-      → IsLook key value at (histories (home_of heading client) (shard_of key heading.shards))
+  pub told : (number : ℕ) (peek : Peek) → Among (Looked number peek) served
+      → IsLook peek (histories (home_of heading client) (shard_of peek.key heading.shards))
   -- At a member that joins it waited until the image was merged.
   pub ready : (shard : ℕ) → shard < heading.shards → joins_of (home_of heading client) lines ≢ 0
       → IsReadyBefore (histories (home_of heading client) shard) (places shard)

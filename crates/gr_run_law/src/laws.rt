@@ -1,6 +1,5 @@
-ghost use Rattle.std.specs.Prelude.{◌≡◌, ℕ, suc, ◌≤◌, ◌<◌, List, [], ◌∷◌, ◌++◌, true, length, Option};
+ghost use Rattle.std.specs.Prelude.{◌≡◌, ℕ, suc, ◌≤◌, ◌<◌, List, [], ◌∷◌, ◌++◌, true, length};
 ghost use Rattle.std.specs.List.{filter_map};
-ghost use Rattle.gr_value.specs.declared.value.Field.{Field};
 ghost use Rattle.gr_value.specs.Shard.{shard_of};
 ghost use Rattle.gr_turn.specs.Views.{times};
 ghost use Rattle.gr_history.specs.declared.deed.Deed.{Deed};
@@ -22,6 +21,7 @@ ghost use Rattle.gr_run_law.specs.Threads.{AreLeftByThreads, IsLeftByThreads, Lo
 ghost use Rattle.gr_run_law.specs.Duties.{gift_in, given_to, own_where};
 ghost use Rattle.gr_run_law.specs.Closed.{HasSameRows, EndsReady, TakesAll};
 ghost use Rattle.gr_run_law.specs.Runs.{AreRounds, DoesDuties, GivesGifts, HearsReports, IsLawfulRun, IsRun, TakesChanges, WaitsForImage};
+ghost use Rattle.gr_world.specs.Events.{Peek};
 ghost use Rattle.gr_world.specs.Served.{Looked, Served, all_deeds_of, client_of};
 ghost use Rattle.gr_run_law.specs.Shares.{AreShared, AreSharedSoFar, Owner, Stands, with_owner};
 ghost use Rattle.gr_run_law.specs.Small.{small_histories, small_lines, small_served, three};
@@ -90,12 +90,11 @@ pub fn what_threads_leave_grows()
     ensures deeds { (client shards shard : ℕ) (list : List Deed) (from low : ℕ) (ps qs : List ℕ) (served : List Served) (one : Served)
         → Stands list from ps (all_deeds_of client shards shard served) → LooksFit shards shard low ps served
         → ((l : ℕ) → LooksFit shards shard l qs (one ∷ [])) → LooksFit shards shard low (ps ++ qs) (served ++ one ∷ []) }
-    ensures peek { (shards shard low : ℕ) (ps : List ℕ) (served : List Served) (number : ℕ) (key : List ℕ)
-        (value : Option (List Field)) (at : ℕ) → LooksFit shards shard low ps served
-        → (shard ≡ shard_of key shards → (low ≤ at) × ((p : ℕ) → 0 < times p ps → suc p ≤ at)
-        × ((n : ℕ) (k : List ℕ) (v : Option (List Field)) (place : ℕ) → Among (Looked n k v place) served
-        → shard ≡ shard_of k shards → place ≤ at))
-        → LooksFit shards shard low ps (served ++ Looked number key value at ∷ []) }
+    ensures peek { (shards shard low : ℕ) (ps : List ℕ) (served : List Served) (number : ℕ) (peek : Peek)
+        → LooksFit shards shard low ps served
+        → (shard ≡ shard_of peek.key shards → (low ≤ peek.at) × ((p : ℕ) → 0 < times p ps → suc p ≤ peek.at)
+        × ((n : ℕ) (other : Peek) → Among (Looked n other) served → shard ≡ shard_of other.key shards → other.at ≤ peek.at))
+        → LooksFit shards shard low ps (served ++ Looked number peek ∷ []) }
     ensures gift { (joiner : ℕ) (gave : What) (past h : List Deed) → Older (Gave joiner gave ∷ past) h
         → filter_map (gift_in joiner) h ≡ gave ∷ [] → given_to joiner h ≡ own_where true gave (own_changes past) }
 {}

@@ -123,7 +123,7 @@ made_by_made heading client number (Did m s deed ∷ before) change h e =
     at_deed None is earlier e = more_made change.stamp.member (shard_of change.key heading.shards) change (Did m s deed) before (earlier
         e)
     at_deed (Some one) is earlier e = made_here heading m s deed before client number change h.0 (is ∙ e)
-made_by_made heading client number (Peeked own seq key value at ∷ before) change h e =
+made_by_made heading client number (Peeked own seq peek ∷ before) change h e =
     made_by_made heading client number before change h.1 e
 made_by_made heading client number (Gathered own seq replies ∷ before) change h e =
     made_by_made heading client number before change h.1 e

@@ -53,7 +53,7 @@ at_put P false deed past h more = h
 pub more_among : (i t : ℕ) (one : Deed) (event : Event) (before : List Event) → Among one (history i t before)
     → Among one (history i t (event ∷ before))
 more_among i t one (Did m s deed) before h = at_put (Among one) (t == s && i == m) deed (history i t before) h (λ a. inr a)
-more_among i t one (Peeked client number key value at) before h = h
+more_among i t one (Peeked client number peek) before h = h
 more_among i t one (Gathered client number replies) before h = h
 
 pub more_made : (i t : ℕ) (change : Change) (event : Event) (before : List Event) → Among change (made (history i t before))
@@ -61,7 +61,7 @@ pub more_made : (i t : ℕ) (change : Change) (event : Event) (before : List Eve
 more_made i t change (Did m s deed) before h =
     at_put (λ past. Among change (made past)) (t == s && i == m) deed (history i t before) h
     (λ a. among_right change (made_at deed) (made (history i t before)) a)
-more_made i t change (Peeked client number key value at) before h = h
+more_made i t change (Peeked client number peek) before h = h
 more_made i t change (Gathered client number replies) before h = h
 
 -- whether an image is merged at the member

@@ -1,17 +1,16 @@
 -- A peek sees a place of a history.
 use Rattle.std.proofs.Common.{suc, ◌≡◌, ℕ, ◌≤◌, List, [], ◌∷◌, true, false, ◌&&◌, ◌==◌, refl, sym, ap, ◌∙◌, subst, inl, inr}
 use Rattle.std.proofs.Common.{arith, length}
-use Rattle.std.specs.Prelude.{Option, nat_le}
+use Rattle.std.specs.Prelude.{nat_le}
 use Rattle.std.proofs.lemmas.Bool.Decides.{nat_tests}
 use Rattle.gr_value.specs.Shard.{shard_of}
-use Rattle.gr_value.specs.declared.value.Field.{Field}
 use Rattle.gr_history.specs.declared.deed.Deed.{Deed}
 use Rattle.gr_history.specs.Standing.{present}
 use Rattle.gr_law.specs.Grids.{Among, Older, at_place}
 use Rattle.gr_law.proofs.Made.{older_itself, older_trans}
 use Rattle.gr_script.specs.declared.line.Line.{Line}
 use Rattle.gr_script.specs.Rules.{Heading, IsHeading, home_of, AllStand}
-use Rattle.gr_world.specs.Events.{Event, Did, Peeked, Gathered, history}
+use Rattle.gr_world.specs.Events.{Event, Did, Peek, Peeked, Gathered, history}
 use Rattle.gr_world.specs.Courses.{course}
 use Rattle.gr_world.specs.Causes.{IsNextEvent, IsCausal}
 use Rattle.gr_world.proofs.Events.{at_put}
@@ -21,7 +20,7 @@ use Rattle.gr_world.proofs.Causal.{course_causal}
 pub older_event : (i t : ℕ) (event : Event) (before : List Event) → Older (history i t before) (history i t (event ∷ before))
 older_event i t (Did m s deed) before =
     at_put (Older (history i t before)) (t == s && i == m) deed (history i t before) (older_itself (history i t before)) (λ o. inr o)
-older_event i t (Peeked client number key value at) before = older_itself (history i t before)
+older_event i t (Peeked client number peek) before = older_itself (history i t before)
 older_event i t (Gathered client number replies) before = older_itself (history i t before)
 
 pub older_length : (q h : List Deed) → Older q h → length q ≤ length h
@@ -42,51 +41,49 @@ place_of q (deed ∷ past) (inr o) = let short : nat_le (suc (length past)) (len
     over n k h = grind (arith, nat_tests)
 
 -- what a peek saw is a place of the history
-pub record IsSeen (heading : Heading) (course : List Event) (client : ℕ) (key : List ℕ) (value : Option (List Field)) (at : ℕ)
+pub record IsSeen (heading : Heading) (course : List Event) (client : ℕ) (peek : Peek)
     (past : List Deed) : Type 0 where
-  pub older : Older past (history (home_of heading client) (shard_of key heading.shards) course)
-  pub value_is : value ≡ present key past
-  pub at_is : at ≡ length past
+  pub older : Older past (history (home_of heading client) (shard_of peek.key heading.shards) course)
+  pub value_is : peek.value ≡ present peek.key past
+  pub at_is : peek.at ≡ length past
 
 pub seen_at : (heading : Heading) (course : List Event) → IsCausal heading course
-    → (client number : ℕ) (key : List ℕ) (value : Option (List Field)) (at : ℕ)
-    → Among (Peeked client number key value at) course → (past : List Deed) × IsSeen heading course client key value at past
-seen_at heading [] h client number key value at a = absurd a
-seen_at heading (event ∷ before) h client number key value at (inl is) =
-    let next : IsNextEvent heading (Peeked client number key value at) before = subst (λ e. IsNextEvent heading e before) (sym is) h.0 in (
-      history (home_of heading client) (shard_of key heading.shards) before,
+    → (client number : ℕ) (peek : Peek)
+    → Among (Peeked client number peek) course → (past : List Deed) × IsSeen heading course client peek past
+seen_at heading [] h client number peek a = absurd a
+seen_at heading (event ∷ before) h client number peek (inl is) =
+    let next : IsNextEvent heading (Peeked client number peek) before = subst (λ e. IsNextEvent heading e before) (sym is) h.0 in (
+      history (home_of heading client) (shard_of peek.key heading.shards) before,
       record {
-        older = older_event (home_of heading client) (shard_of key heading.shards) event before;
+        older = older_event (home_of heading client) (shard_of peek.key heading.shards) event before;
         value_is = next.0;
-        at_is =
-            next.1;
+        at_is = next.1;
       },
     )
-seen_at heading (event ∷ before) h client number key value at (inr a) =
-    let earlier = seen_at heading before h.1 client number key value at a in (
+seen_at heading (event ∷ before) h client number peek (inr a) =
+    let earlier = seen_at heading before h.1 client number peek a in (
       earlier.0,
       record {
         older = older_trans earlier.0 _ _ earlier.1.older
-            (older_event (home_of heading client) (shard_of key heading.shards) event before);
+            (older_event (home_of heading client) (shard_of peek.key heading.shards) event before);
         value_is = earlier.1.value_is;
         at_is = earlier.1.at_is;
       },
     )
 
 -- what a peek tells is present at a place of the history
-pub record IsPlace (heading : Heading) (course : List Event) (client : ℕ) (key : List ℕ) (value : Option (List Field))
-    (at : ℕ) : Type 0 where
-  pub value_is : value ≡ present key (at_place at (history (home_of heading client) (shard_of key heading.shards) course))
-  pub within : at ≤ length (history (home_of heading client) (shard_of key heading.shards) course)
+pub record IsPlace (heading : Heading) (course : List Event) (client : ℕ) (peek : Peek) : Type 0 where
+  pub value_is : peek.value ≡ present peek.key (at_place peek.at (history (home_of heading client) (shard_of peek.key heading.shards) course))
+  pub within : peek.at ≤ length (history (home_of heading client) (shard_of peek.key heading.shards) course)
 
 -- Each peek was answered what is present at the place that it names, in the history as it is in the end.
 pub peeks_stand : (heading : Heading) (past : List Line) → IsHeading heading → AllStand heading past
-    → (client number : ℕ) (key : List ℕ) (value : Option (List Field)) (at : ℕ)
-    → Among (Peeked client number key value at) (course heading past) → IsPlace heading (course heading past) client key value at
-peeks_stand heading past is_heading stand client number key value at a =
-    let now : List Deed = history (home_of heading client) (shard_of key heading.shards) (course heading past) in
-    let found = seen_at heading (course heading past) (course_causal heading past is_heading stand) client number key value at a in
+    → (client number : ℕ) (peek : Peek)
+    → Among (Peeked client number peek) (course heading past) → IsPlace heading (course heading past) client peek
+peeks_stand heading past is_heading stand client number peek a =
+    let now : List Deed = history (home_of heading client) (shard_of peek.key heading.shards) (course heading past) in
+    let found = seen_at heading (course heading past) (course_causal heading past is_heading stand) client number peek a in
     record {
-      value_is = found.1.value_is ∙ ap (present key) (sym (ap (λ n. at_place n now) found.1.at_is ∙ place_of found.0 now found.1.older));
+      value_is = found.1.value_is ∙ ap (present peek.key) (sym (ap (λ n. at_place n now) found.1.at_is ∙ place_of found.0 now found.1.older));
       within = let l : length found.0 ≤ length now = older_length found.0 now found.1.older in omega (arith, l, found.1.at_is);
     }

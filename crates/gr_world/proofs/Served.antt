@@ -174,18 +174,18 @@ course_serves heading past is_heading stand client = record {
   steps = served_steps heading client past;
   replies = served_replies heading client past;
   deeds = λ shard within. served_deeds heading client shard within past;
-  peeks = λ number key value at a.
-      let peek = peek_stood heading client number key value at past a in
-      let place = peeks_stand heading past is_heading stand client number key value at peek in
+  peeks = λ number peek a.
+      let stood = peek_stood heading client number peek past a in
+      let place = peeks_stand heading past is_heading stand client number peek stood in
       record {
         within = place.within;
         value_is = place.value_is;
         late = λ deed before earlier o is less.
-            peeks_late heading past is_heading stand client number key value at peek earlier deed before is o less;
+            peeks_late heading past is_heading stand client number peek stood earlier deed before is o less;
       };
-  growing = λ number earlier key other value seen at place a b same less.
-      peeks_grow heading past is_heading stand client number earlier key other value seen at place
-      (peek_stood heading client number key value at past a) (peek_stood heading client earlier other seen place past b) same less;
+  growing = λ number earlier peek other a b same less.
+      peeks_grow heading past is_heading stand client number earlier peek other
+      (peek_stood heading client number peek past a) (peek_stood heading client earlier other past b) same less;
 }
 
 abbrev client_with : Heading → ℕ → List Answer → ClientRecord
@@ -230,9 +230,9 @@ served_same heading lines one other clients some same h = record {
     replies = s.replies;
     deeds = λ shard within. ap (λ past. filter (is_of_client client) (reverse past)) (sym (same (home_of heading client) shard within))
         ∙ s.deeds shard within;
-    peeks = λ number key value at a. subst (IsPeek client number key value at)
-        (same (home_of heading client) (shard_of key heading.shards) (below (key_hash key) heading.shards some))
-        (s.peeks number key value at a);
+    peeks = λ number peek a. subst (IsPeek client number peek)
+        (same (home_of heading client) (shard_of peek.key heading.shards) (below (key_hash peek.key) heading.shards some))
+        (s.peeks number peek a);
     growing = s.growing;
   };
   placed = λ member shard client number deed within a is.

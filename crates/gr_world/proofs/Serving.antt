@@ -8,7 +8,6 @@ use Rattle.std.proofs.lemmas.Grind.{reverse_onto, flat_map-append}
 use Rattle.std.proofs.lemmas.List.{append-nil, map-append}
 use Rattle.std.proofs.lemmas.List.Elements.{filter-append, filter_map-append}
 use Rattle.gr_value.specs.Shard.{shard_of}
-use Rattle.gr_value.specs.declared.value.Field.{Field}
 use Rattle.gr_stamp.specs.declared.change.Change.{Change}
 use Rattle.gr_history.specs.Asks.{key_of}
 use Rattle.gr_history.specs.Calls.{call_gives}
@@ -34,7 +33,7 @@ use Rattle.gr_script.specs.Steps.{step_of as step_on, steps_of}
 use Rattle.gr_world.specs.Clients.{add_some, Numbered, told}
 use Rattle.gr_world.specs.Courses.{identity_at, does, asks_at_each, replies_to, after, course}
 use Rattle.gr_world.specs.Doings.{Doing, Calls, Takes, Gives, Merges, Reports, Hears, Sweeps, Asks, deed_of}
-use Rattle.gr_world.specs.Events.{Event, Peeked, put_if, history}
+use Rattle.gr_world.specs.Events.{Event, Peek, Peeked, put_if, history}
 use Rattle.gr_world.specs.Served.{Served, Called, Queried, Looked, step_of, answer_of, deeds_of, all_deeds_of, HasReplies}
 use Rattle.gr_world.proofs.Asking.{answer_at, asked_there}
 use Rattle.gr_world.proofs.Causes.{each_keeps}
@@ -52,8 +51,11 @@ abbrev called : ℕ → Ask → Done → Served
 called number ask done = Called number ask done.reply done.made done.to
 
 -- what was seen in a history
+abbrev seen_in : List ℕ → List Deed → Peek
+seen_in key past = record { key = key; value = present key past; at = length past }
+
 abbrev looked : ℕ → List ℕ → List Deed → Served
-looked number key past = Looked number key (present key past) (length past)
+looked number key past = Looked number (seen_in key past)
 
 abbrev if_own : Bool → Served → Option Served
 if_own b one = if b then Some one else None
@@ -320,33 +322,32 @@ more_events heading one (Sweep of moment) before a =
 more_events heading one (Join joiner provider) before a =
     rest_keeps heading (Among one) (λ m s doing now quiet e. inr e) (Join joiner provider) before tt a
 
-module _ (heading : Heading) (client number : ℕ) (key : List ℕ) (value : Option (List Field)) (at : ℕ) where
+module _ (heading : Heading) (client number : ℕ) (peek : Peek) where
   -- another step is no peek
-  no_peek : (b : Bool) (one : Served) → (Looked number key value at ≡ one → ⊥)
-      → Among (Looked number key value at) (option_to_list (if_own b one)) → ⊥
+  no_peek : (b : Bool) (one : Served) → (Looked number peek ≡ one → ⊥)
+      → Among (Looked number peek) (option_to_list (if_own b one)) → ⊥
   no_peek true one apart (inl is) = apart is
   no_peek true one apart (inr a) = a
   no_peek false one apart a = a
 
   peek_at : (line : Line) (before : List Event)
-      → Among (Looked number key value at) (option_to_list (served_at heading client line before))
-      → Among (Peeked client number key value at) (after heading line before)
+      → Among (Looked number peek) (option_to_list (served_at heading client line before))
+      → Among (Peeked client number peek) (after heading line before)
   peek_at (Step own seq (act.Call ask)) before a =
       absurd (no_peek (own == client) (called seq ask (done_at heading own ask before)) (λ e. cc) a)
   peek_at (Step own seq (act.Query ask)) before a =
       absurd (no_peek (own == client) (Queried seq ask (replies_to heading own ask before)) (λ e. cc) a)
   peek_at (Step own seq (act.Peek which)) before a = at_own (own == client) refl a
     where
-      same : (v : Option (List Field)) (n : ℕ) → own ≡ client → Looked number key value at ≡ Looked seq which v n
-          → Peeked client number key value at ≡ Peeked own seq which v n
-      same v n own_is e = cc
+      same : (other : Peek) → own ≡ client → Looked number peek ≡ Looked seq other → Peeked client number peek ≡ Peeked own seq other
+      same other own_is e = cc
 
       at_own : (b : Bool) → (own == client) ≡ b
-          → Among (Looked number key value at) (option_to_list (if_own b (looked seq which (history (home_of heading own) (shard_of which
+          → Among (Looked number peek) (option_to_list (if_own b (looked seq which (history (home_of heading own) (shard_of which
           heading.shards) before))))
-          → Among (Peeked client number key value at) (after heading (Step own seq (act.Peek which)) before)
-      at_own true e (inl is) = inl (same (present which (history (home_of heading own) (shard_of which heading.shards) before))
-          (length (history (home_of heading own) (shard_of which heading.shards) before)) (equal_numbers own client e) is)
+          → Among (Peeked client number peek) (after heading (Step own seq (act.Peek which)) before)
+      at_own true e (inl is) = inl (same (seen_in which (history (home_of heading own) (shard_of which heading.shards) before))
+          (equal_numbers own client e) is)
       at_own true e (inr a) = absurd a
       at_own false e a = absurd a
   peek_at (Deliver to of seq) before a = absurd a
@@ -356,11 +357,11 @@ module _ (heading : Heading) (client number : ℕ) (key : List ℕ) (value : Opt
   peek_at (Join joiner provider) before a = absurd a
 
   -- What the client looked at is an event of the course.
-  pub peek_stood : (past : List Line) → Among (Looked number key value at) (served_in heading client past)
-      → Among (Peeked client number key value at) (course heading past)
+  pub peek_stood : (past : List Line) → Among (Looked number peek) (served_in heading client past)
+      → Among (Peeked client number peek) (course heading past)
   peek_stood [] a = absurd a
   peek_stood (line ∷ past) a =
-      ⊎_elim (λ earlier. more_events heading (Peeked client number key value at) line (course heading past) (peek_stood past earlier))
+      ⊎_elim (λ earlier. more_events heading (Peeked client number peek) line (course heading past) (peek_stood past earlier))
       (λ here. peek_at line (course heading past) here)
-      (among_either (Looked number key value at) (served_in heading client past)
+      (among_either (Looked number peek) (served_in heading client past)
       (option_to_list (served_at heading client line (course heading past))) a)

@@ -33,5 +33,5 @@ whole_course heading (Did m s deed ∷ before) h shard = at_test (shard == s) re
         (subst (λ k. IsNext (grid_at heading k before) m deed) (sym (equal_numbers shard s e)) h.0.0)
         (λ i. put_if (i == m) deed (history i shard before)) (λ i. put_same (i == m) deed (history i shard before))
     at_test false e whole = whole
-whole_course heading (Peeked client number key value at ∷ before) h shard = whole_course heading before h.1 shard
+whole_course heading (Peeked client number peek ∷ before) h shard = whole_course heading before h.1 shard
 whole_course heading (Gathered client number replies ∷ before) h shard = whole_course heading before h.1 shard

@@ -199,7 +199,7 @@ kept_found heading event events (Some place) made is = record {
         at_put (λ deeds. slice_get (reverse deeds) place.at ≡ Some is.deed) (place.site.shard == s && place.site.member == m) deed past
         is.found
         (λ h. ap (λ deeds. slice_get deeds place.at) (reverse_onto past deed []) ∙ kept_get (reverse past) deed is.deed place.at h)
-    still (Peeked client number key value at) = is.found
+    still (Peeked client number peek) = is.found
     still (Gathered client number replies) = is.found
 
 -- An event that makes nothing leaves the table right.
@@ -394,7 +394,7 @@ pub peek_plays : (heading : Heading) (old new : World) (member shard client seq 
 peek_plays heading old new member shard client seq key seen is stated at_home at_shard within is_seen grid_is tells made_is events world =
     let past = history member shard events in
     let looked : ℕ → ℕ → List Event =
-    λ m s. Peeked client seq key (present key (history m s events)) (length (history m s events)) ∷ events in
+    λ m s. Peeked client seq (record { key = key; value = present key (history m s events); at = length (history m s events) }) ∷ events in
     let deeds : (account_at old.grid member shard).deeds ≡ reverse past =
     ap (λ grid. (account_at grid member shard).deeds) world.grid_is
     ∙ ap (λ account. account.deeds) (cell_left heading events member shard is within) in
@@ -404,12 +404,12 @@ peek_plays heading old new member shard client seq key seen is stated at_home at
     ∙ ap (answer.Peeked (present key past)) (length-reverse past) in
     let tellings : new.tellings ≡ tellings_left heading (looked member shard) =
     tells ∙ ap (λ lists. told_also lists client seen) world.tellings_are ∙ ap (told_also (tellings_left heading events) client) seen_is
-    ∙ tellings_next heading events (Peeked client seq key (present key past) (length past)) client seq _ stated (λ c. refl) in
+    ∙ tellings_next heading events (Peeked client seq (record { key = key; value = present key past; at = length past })) client seq _ stated (λ c. refl) in
     let here : IsWorld heading (looked member shard) new = record {
       grid_is = grid_is ∙ world.grid_is;
       tellings_are = tellings;
       made_are = subst (HasMade heading (looked member shard)) (sym made_is)
-          (kept_made heading (Peeked client seq key (present key past) (length past)) events old.made (λ c number. refl) world.made_are);
+          (kept_made heading (Peeked client seq (record { key = key; value = present key past; at = length past })) events old.made (λ c number. refl) world.made_are);
     } in
     subst (λ s. IsWorld heading (looked (home_of heading client) s) new) at_shard
     (subst (λ m. IsWorld heading (looked m shard) new) at_home here)

@@ -42,9 +42,9 @@ pub record IsGathered (heading : Heading) (client number : ℕ) (replies : List 
 abbrev pub IsNextEvent : Heading → Event → List Event → Type 0
 IsNextEvent heading (Did member shard deed) before =
     IsNext (grid_at heading shard before) member deed × IsPlaced heading member shard deed
-IsNextEvent heading (Peeked client number key value at) before =
-    (value ≡ present key (history (home_of heading client) (shard_of key heading.shards) before))
-    × (at ≡ length (history (home_of heading client) (shard_of key heading.shards) before))
+IsNextEvent heading (Peeked client number peek) before =
+    (peek.value ≡ present peek.key (history (home_of heading client) (shard_of peek.key heading.shards) before))
+    × (peek.at ≡ length (history (home_of heading client) (shard_of peek.key heading.shards) before))
 IsNextEvent heading (Gathered client number replies) before = IsGathered heading client number replies before
 
 abbrev pub IsCausal : Heading → List Event → Type 0

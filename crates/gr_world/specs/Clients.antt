@@ -76,8 +76,8 @@ told_by_deed client _ = None
 
 abbrev pub told_by : ℕ → Event → Option Numbered
 told_by client (Did member shard deed) = told_by_deed client deed
-told_by client (Peeked own number key value at) =
-    if own == client then Some (record { number = number; answer = answer.Peeked value at }) else None
+told_by client (Peeked own number peek) =
+    if own == client then Some (record { number = number; answer = answer.Peeked peek.value peek.at }) else None
 told_by client (Gathered own number replies) =
     if own == client then Some (record { number = number; answer = answer.Asked replies }) else None
 

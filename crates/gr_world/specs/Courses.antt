@@ -42,7 +42,7 @@ does heading member shard doing before =
 abbrev pub looks : Heading → ℕ → ℕ → List ℕ → List Event → List Event
 looks heading client number key before =
     let past = history (home_of heading client) (shard_of key heading.shards) before in
-    Peeked client number key (present key past) (length past) ∷ before
+    Peeked client number (record { key = key; value = present key past; at = length past }) ∷ before
 
 -- for the numbers below n, in order
 abbrev pub for_each : ℕ → (ℕ → List Event → List Event) → List Event → List Event

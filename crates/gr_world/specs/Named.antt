@@ -19,7 +19,7 @@ or_else None rest = rest
 abbrev pub made_by : ℕ → ℕ → List Event → Option Change
 made_by client number [] = None
 made_by client number (Did m s deed ∷ before) = or_else (made_by_deed client number deed) (made_by client number before)
-made_by client number (Peeked own seq key value at ∷ before) = made_by client number before
+made_by client number (Peeked own seq peek ∷ before) = made_by client number before
 made_by client number (Gathered own seq replies ∷ before) = made_by client number before
 
 -- the reports of a history, the newest one first

@@ -51,7 +51,7 @@ concurrent = peeks 1 2 ∷ line.Deliver 2 1 1 ∷ line.Deliver 1 2 1 ∷ puts 2 
 
 abbrev pub concurrent_course : List Event
 concurrent_course =
-    Peeked 1 2 one_key (Some []) 2
+    Peeked 1 2 (record { key = one_key; value = Some []; at = 2 })
     ∷ Did 2 0 (deed.Taken (put 1 1 1) verdict.Discarded) ∷ Did 1 0 (deed.Taken (put 1 2 1) verdict.Applied)
     ∷ Did 2 0 (deed.Call 2 1 1 (ask.Put one_key []) reply.Null (Some (put 1 2 1)))
     ∷ Did 1 0 (deed.Call 1 2 1 (ask.Put one_key []) reply.Null (Some (put 1 1 1))) ∷ []

@@ -2,7 +2,6 @@
 use Rattle.std.specs.Prelude.{◌≡◌, ℕ, suc, ◌≤◌, ◌<◌, List, [], ◌∷◌, ◌==◌, Option, Some, None, length, map, filter, reverse, get_or}
 use Rattle.std.specs.Prelude.{flat_map, if◌then◌else◌}
 use Rattle.std.specs.List.{AllByRecursion}
-use Rattle.gr_value.specs.declared.value.Field.{Field}
 use Rattle.gr_value.specs.Shard.{shard_of}
 use Rattle.gr_stamp.specs.declared.change.Change.{Change}
 use Rattle.gr_history.specs.declared.ask.Ask.{Ask}
@@ -26,6 +25,7 @@ use Rattle.gr_script.specs.declared.line.Step.{Step}
 use Rattle.gr_script.specs.Rules.{Heading, IsStated, home_of}
 use Rattle.gr_script.specs.Steps.{steps_of}
 use Rattle.gr_world.specs.Clients.{askings, asked}
+use Rattle.gr_world.specs.Events.{Peek}
 use Rattle.gr_world.specs.Grids.{Histories}
 use Rattle.gr_world.specs.Histories.{history_at}
 use Rattle.gr_world.specs.Numbered.{numbers_from}
@@ -38,31 +38,31 @@ histories_in left member shard = history_at shard (map histories_of left.members
 -- ---- one step
 
 -- A step with what came of it, beside its number. A call: what was replied, the change that was made, and the members
--- that it goes to. A step on a query: what each shard answered, from shard 0 on. A peek: the value that was present, and
--- how long the history was then.
+-- that it goes to. A step on a query: what each shard answered, from shard 0 on. A peek: what
+-- was told.
 pub data Served : Type 0 where
   Called : ℕ → Ask → Reply → Option Change → ℕ → Served
   Queried : ℕ → QueryAsk → List QueryReply → Served
-  Looked : ℕ → List ℕ → Option (List Field) → ℕ → Served
+  Looked : ℕ → Peek → Served
 
 -- the step of the script
 abbrev pub step_of : Served → Step
 step_of (Called number ask reply made to) = record { seq = number; act = act.Call ask }
 step_of (Queried number ask replies) = record { seq = number; act = act.Query ask }
-step_of (Looked number key value at) = record { seq = number; act = act.Peek key }
+step_of (Looked number peek) = record { seq = number; act = act.Peek peek.key }
 
 -- what the client was told
 abbrev pub answer_of : Served → Answer
 answer_of (Called number ask reply made to) = answer.Reply reply
 answer_of (Queried number ask replies) = answer.Asked replies
-answer_of (Looked number key value at) = answer.Peeked value at
+answer_of (Looked number peek) = answer.Peeked peek.value peek.at
 
 -- The deeds that it leaves at a shard of its member: a call at the shard of its key, a step on a query at every shard.
 abbrev pub deeds_of : ℕ → ℕ → ℕ → Served → List Deed
 deeds_of client shards shard (Called number ask reply made to) =
     if shard == shard_of (key_of ask) shards then Call client to number ask reply made ∷ [] else []
 deeds_of client shards shard (Queried number ask replies) = Asked client number ask (get_or replies shard Unknown) ∷ []
-deeds_of client shards shard (Looked number key value at) = []
+deeds_of client shards shard (Looked number peek) = []
 
 abbrev pub all_deeds_of : ℕ → ℕ → ℕ → List Served → List Deed
 all_deeds_of client shards shard served = flat_map (deeds_of client shards shard) served
@@ -71,7 +71,7 @@ all_deeds_of client shards shard served = flat_map (deeds_of client shards shard
 abbrev pub HasReplies : ℕ → Served → Type 0
 HasReplies shards (Called number ask reply made to) = Unit {0}
 HasReplies shards (Queried number ask replies) = length replies ≡ shards
-HasReplies shards (Looked number key value at) = Unit {0}
+HasReplies shards (Looked number peek) = Unit {0}
 
 -- the number of a deed among the client's steps, where it is one of them
 abbrev pub number_in : ℕ → Deed → Option ℕ
@@ -86,11 +86,11 @@ number_in client (Swept moment expired) = None
 
 -- A peek of the client, over the history of its key's shard: it tells what was present at a place of that history, which
 -- is behind each deed of the client's earlier steps.
-pub record IsPeek (client number : ℕ) (key : List ℕ) (value : Option (List Field)) (at : ℕ) (history : List Deed) : Type 0 where
-  pub within : at ≤ length history
-  pub value_is : value ≡ present key (at_place at history)
+pub record IsPeek (client number : ℕ) (peek : Peek) (history : List Deed) : Type 0 where
+  pub within : peek.at ≤ length history
+  pub value_is : peek.value ≡ present peek.key (at_place peek.at history)
   pub late : (deed : Deed) (past : List Deed) (earlier : ℕ) → Older (deed ∷ past) history → number_in client deed ≡ Some earlier
-      → earlier < number → suc (length past) ≤ at
+      → earlier < number → suc (length past) ≤ peek.at
 
 -- ---- all steps
 
@@ -101,11 +101,11 @@ pub record IsServed (heading : Heading) (lines : List Line) (histories : Histori
   pub replies : AllByRecursion (HasReplies heading.shards) served
   pub deeds : (shard : ℕ) → shard < heading.shards
       → filter (is_of_client client) (reverse (histories (home_of heading client) shard)) ≡ all_deeds_of client heading.shards shard served
-  pub peeks : (number : ℕ) (key : List ℕ) (value : Option (List Field)) (at : ℕ) → Among (Looked number key value at) served
-      → IsPeek client number key value at (histories (home_of heading client) (shard_of key heading.shards))
-  pub growing : (number earlier : ℕ) (key other : List ℕ) (value seen : Option (List Field)) (at place : ℕ)
-      → Among (Looked number key value at) served → Among (Looked earlier other seen place) served
-      → shard_of other heading.shards ≡ shard_of key heading.shards → earlier < number → place ≤ at
+  pub peeks : (number : ℕ) (peek : Peek) → Among (Looked number peek) served
+      → IsPeek client number peek (histories (home_of heading client) (shard_of peek.key heading.shards))
+  pub growing : (number earlier : ℕ) (peek other : Peek)
+      → Among (Looked number peek) served → Among (Looked earlier other) served
+      → shard_of other.key heading.shards ≡ shard_of peek.key heading.shards → earlier < number → other.at ≤ peek.at
 
 -- Each client's step in a history is one of a client of the script, at its member.
 abbrev pub ArePlaced : Heading → Histories → Type 0
