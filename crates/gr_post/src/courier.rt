@@ -50,7 +50,7 @@ impl Courier {
         passes: SendPassList,
     ) -> Result<Courier, Memory>
         requires sender { (1 ≤ sender) × (sender ≤ 72) }
-        requires trouble { trouble ≤ 2147483646 }
+        requires trouble { trouble < 2 ^ 31 }
         requires members { length passes ≤ 8 }
         requires unused { All (λ p. p.sent ≡ []) passes }
         ensures { IfOk result (λ courier. courier ≡ begun passes (first_number trouble sender)) }

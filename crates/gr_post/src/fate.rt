@@ -1,4 +1,4 @@
-ghost use Rattle.std.specs.Prelude.{◌≡◌, ◌≤◌, IfOk};
+ghost use Rattle.std.specs.Prelude.{◌≡◌, ◌<◌, ◌^◌, IfOk};
 ghost use Rattle.gr_post.specs.Plan.{first_number, fate};
 
 use crate::mail::Mail;
@@ -23,7 +23,7 @@ pub enum Fate {
 
 // The number with which a courier begins. Without trouble every number is 0.
 pub(crate) fn first_number(trouble: u32, sender: u8) -> u32
-    requires { trouble ≤ 2147483646 }
+    requires { trouble < 2 ^ 31 }
     ensures { result ≡ first_number trouble sender }
 {
     if trouble == 0 {
