@@ -1,14 +1,8 @@
-//! Tests of the other crates, and nothing else: what no clause says, and values from outside.
+//! Tests of single calls, and nothing else: what no clause says, and values from outside.
 #![tactic(auto)]
 
 #[cfg(test)]
 mod lexing;
-#[cfg(test)]
-mod peek;
-#[cfg(test)]
-mod pictures;
-#[cfg(test)]
-mod post;
 #[cfg(test)]
 mod registry;
 #[cfg(test)]
@@ -26,10 +20,6 @@ mod steps;
 #[cfg(test)]
 mod streams;
 #[cfg(test)]
-mod turns;
-#[cfg(test)]
 mod values;
 #[cfg(test)]
 mod vectors;
-#[cfg(test)]
-mod words;

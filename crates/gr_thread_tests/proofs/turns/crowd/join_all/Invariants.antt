@@ -1,6 +1,6 @@
 use Rattle.std.proofs.Common.{◌≡◌}
 use Rattle.std.specs.Prelude.{All, IfSome}
-use Rattle.gr_tests.proofs.turns.crowd.join_all.Given as goal
+use Rattle.gr_thread_tests.proofs.turns.crowd.join_all.Given as goal
 
 abbrev pub invariant-loop : goal.invariant-loop
 invariant-loop l =

@@ -1,7 +1,7 @@
 use Rattle.std.proofs.Common.{◌≡◌}
 use Rattle.gr_post.specs.declared.stage.Stage.TheVariants.{Open}
 use Rattle.gr_post.specs.Couriers.{passes_of}
-use Rattle.gr_tests.proofs.post.delivered.Given as goal
+use Rattle.gr_thread_tests.proofs.post.delivered.Given as goal
 
 abbrev pub invariant-loop-at : goal.invariant-loop-at
 invariant-loop-at g l =

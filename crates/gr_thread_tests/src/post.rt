@@ -103,7 +103,7 @@ fn delivered<R: Wait + Sync>(
     posts: &[u8],
 ) -> Option<[Vec<u64>; 2]>
     requires sender { (1 ≤ sender) × (sender ≤ 72) }
-    requires trouble { trouble ≤ 2147483646 }
+    requires trouble { trouble < 2 ^ 31 }
 {
     let (first, first_pass, first_taker) = inbox_with_one(alloc, 16)?;
     let (second, second_pass, second_taker) = inbox_with_one(alloc, 16)?;
