@@ -1,281 +1,174 @@
--- Taking a number out of its range.
-use Rattle.std.proofs.Common.{◌≡◌, ℕ, zero, suc, ◌+◌, ◌-◌, ◌<◌, ◌≤◌, List, [], ◌∷◌, ◌++◌, length, get_or, take, drop, set, ◌≢◌, Option}
-use Rattle.std.proofs.Common.{None, Some, Bool, true, false, not, ◌&&◌, ◌||◌, ◌==◌, ltb, leb, refl, sym, ◌∙◌, subst, ap, arith}
-use Rattle.std.proofs.Common.{if◌then◌else◌}
-use Rattle.std.proofs.Math.Bool.{or_assoc}
-use Rattle.std.proofs.lemmas.Bool.Decides.{nat_tests}
-use Rattle.gr_vector.specs.declared.gap.Gap.{Gap}
+-- What an edit at a place of blocks in order leaves.
+use Rattle.std.proofs.Common.{◌≡◌, ℕ, zero, suc, ◌+◌, ◌-◌, ◌<◌, ◌≤◌, List, [], ◌∷◌, ◌++◌, length, get_or, set, take, drop, Bool, true, false}
+use Rattle.std.proofs.Common.{◌||◌, ◌==◌, ltb, refl, sym, ◌∙◌, subst, ap, arith, add-one, if◌then◌else◌}
 use Rattle.std.proofs.lemmas.List.{get_or_default}
-use Rattle.std.specs.List.{HoldsAt}
-use Rattle.std.specs.Option.{is_some, IfSome, MatchOption}
-use Rattle.gr_vector.specs.declared.gap.TheConstants.{END}
-use Rattle.gr_vector.specs.Gaps.{is_in, is_missing, AreApart, AreGaps, holds, front_of, back_of, without}
-use Rattle.gr_vector.proofs.Apart.{apart_sooner, none_below, holds_is}
+use Rattle.std.proofs.lemmas.Bool.Decides.{nat_tests}
+use Rattle.gr_vector.specs.declared.block.Block.{Block}
+use Rattle.gr_vector.specs.Blocks.{has, told, is_noted, AreAscending, AllAbove}
+use Rattle.gr_vector.proofs.Bits.{has_far}
+use Rattle.gr_vector.proofs.Places.{told-append, told_above, told_at, below_is, ascending_sooner}
 
-pub missing_append : (q : ℕ) (xs ys : List Gap) → is_missing q (xs ++ ys) ≡ (is_missing q xs || is_missing q ys)
-missing_append q [] ys = refl
-missing_append q (gap ∷ xs) ys = ap (λ b. is_in q gap || b) (missing_append q xs ys)
-    ∙ sym (or_assoc (is_in q gap) (is_missing q xs) (is_missing q ys))
+-- a block in another's place
+pub ascending_set : (low place : ℕ) (blocks : List Block) (b d : Block) → place < length blocks → b.first ≡ (get_or blocks place d).first
+    → AreAscending low blocks → AreAscending low (set blocks place b)
+ascending_set low place [] b d lt e h = absurd (omega (arith, lt))
+ascending_set low zero (x ∷ xs) b d lt e h = (omega (arith, e, h.0), ascending_sooner b.first x.first xs (omega (arith, e)) h.1)
+ascending_set low (suc place) (x ∷ xs) b d lt e h = (h.0, ascending_set x.first place xs b d (omega (arith, lt)) e h.1)
 
-front_missing : (q v : ℕ) (gap : Gap) → is_missing q (front_of v gap) ≡ (leb gap.first q && ltb q v)
-front_missing q v gap = at_test (ltb gap.first v) refl
+-- the last bit of a block is nobody's, where the next one begins behind its own numbers
+pub told_filled : (v : ℕ) (g : Bool) (place : ℕ) (blocks : List Block) (b d : Block) → suc place < length blocks
+    → b.first ≡ (get_or blocks place d).first → (get_or blocks (suc place) d).first ≡ (get_or blocks place d).first + 63
+    → (v < (get_or blocks place d).first + 63 → has v b ≡ has v (get_or blocks place d)) → told v g (set blocks place b) ≡ told v g blocks
+told_filled v g place [] b d lt e n same = absurd (omega (arith, lt))
+told_filled v g zero (x ∷ []) b d lt e n same = absurd (omega (arith, lt))
+told_filled v g zero (x ∷ y ∷ zs) b d lt e n same =
+    ap (λ t. told v t zs) (either b.first x.first y.first (has v b) (has v x) (has v y) e n same)
   where
-    some : (a : ℕ) → ltb a v ≡ true → ((leb a q && leb q (v - 1)) || false) ≡ (leb a q && ltb q v)
-    some a h = grind (arith, nat_tests)
+    either : (b x y : ℕ) (p q r : Bool) → b ≡ x → y ≡ x + 63 → (v < x + 63 → p ≡ q)
+        → (if ltb v y then (if ltb v b then g else p) else r) ≡ (if ltb v y then (if ltb v x then g else q) else r)
+    either b x y p q r e n same = grind (arith, nat_tests)
+told_filled v g (suc place) (x ∷ xs) b d lt e n same =
+    told_filled v (if ltb v x.first then g else has v x) place xs b d (omega (arith, lt)) e n same
 
-    none : (a : ℕ) → ltb a v ≡ false → false ≡ (leb a q && ltb q v)
-    none a h = grind (arith, nat_tests)
+-- a block that says what the one in front of it says
+pub ascending_remove : (low place : ℕ) (blocks : List Block) → AreAscending low blocks
+    → AreAscending low (take place blocks ++ drop (suc place) blocks)
+ascending_remove low zero [] h = tt
+ascending_remove low zero (x ∷ xs) h = ascending_sooner low x.first xs h.0 h.1
+ascending_remove low (suc place) [] h = tt
+ascending_remove low (suc place) (x ∷ xs) h = (h.0, ascending_remove x.first place xs h.1)
 
-    at_test : (b : Bool) → ltb gap.first v ≡ b
-        → is_missing q (if b then record { first = gap.first; last = v - 1 } ∷ [] else []) ≡ (leb gap.first q && ltb q v)
-    at_test true e = some gap.first e
-    at_test false e = none gap.first e
-
-back_missing : (q v : ℕ) (gap : Gap) → is_missing q (back_of v gap) ≡ (ltb v q && leb q gap.last)
-back_missing q v gap = at_test (ltb v gap.last) refl
+pub told_absorbed : (v : ℕ) (g : Bool) (place : ℕ) (blocks : List Block) (d : Block) → suc place < length blocks
+    → (get_or blocks place d).first ≤ (get_or blocks (suc place) d).first
+    → ((get_or blocks (suc place) d).first ≤ v → has v (get_or blocks (suc place) d) ≡ has v (get_or blocks place d))
+    → told v g (take (suc place) blocks ++ drop (suc (suc place)) blocks) ≡ told v g blocks
+told_absorbed v g place [] d lt le same = absurd (omega (arith, lt))
+told_absorbed v g zero (x ∷ []) d lt le same = absurd (omega (arith, lt))
+told_absorbed v g zero (x ∷ y ∷ zs) d lt le same = ap (λ t. told v t zs) (either x.first y.first (has v x) (has v y) le same)
   where
-    some : (b : ℕ) → ltb v b ≡ true → ((leb (v + 1) q && leb q b) || false) ≡ (ltb v q && leb q b)
-    some b h = grind (arith, nat_tests)
+    either : (x y : ℕ) (p q : Bool) → x ≤ y → (y ≤ v → q ≡ p)
+        → (if ltb v x then g else p) ≡ (if ltb v y then (if ltb v x then g else p) else q)
+    either x y p q le same = grind (arith, nat_tests)
+told_absorbed v g (suc place) (x ∷ xs) d lt le same =
+    told_absorbed v (if ltb v x.first then g else has v x) place xs d (omega (arith, lt)) le same
 
-    none : (b : ℕ) → ltb v b ≡ false → false ≡ (ltb v q && leb q b)
-    none b h = grind (arith, nat_tests)
+-- a new block between two
+first_least : (low k : ℕ) (blocks : List Block) (d : Block) → AreAscending low blocks → k < length blocks → low ≤ (get_or blocks k d).first
+first_least low k [] d h lt = absurd (omega (arith, lt))
+first_least low zero (x ∷ xs) d h lt = h.0
+first_least low (suc k) (x ∷ xs) d h lt =
+    let le = first_least x.first k xs d h.1 (omega (arith, lt)) in
+    omega (arith, h.0, le)
 
-    at_test : (b : Bool) → ltb v gap.last ≡ b
-        → is_missing q (if b then record { first = v + 1; last = gap.last } ∷ [] else []) ≡ (ltb v q && leb q gap.last)
-    at_test true e = some gap.last e
-    at_test false e = none gap.last e
+ascending_later : (low first v : ℕ) (blocks : List Block) → first ≤ v → AllAbove v blocks → AreAscending low blocks → AreAscending first blocks
+ascending_later low first v [] le above h = tt
+ascending_later low first v (x ∷ xs) le above h = (omega (arith, le, above.0), h.1)
 
-left_missing : (q v : ℕ) (gap : Gap) (rest : List Gap) → is_in v gap ≡ true → (q ≡ v → is_missing q rest ≡ false)
-    → is_missing q (front_of v gap ++ (back_of v gap ++ rest)) ≡ ((is_in q gap || is_missing q rest) && not (q == v))
-left_missing q v gap rest h none =
-    missing_append q (front_of v gap) (back_of v gap ++ rest)
-    ∙ ap (λ b. is_missing q (front_of v gap) || b) (missing_append q (back_of v gap) rest)
-    ∙ ap (λ a. a || (is_missing q (back_of v gap) || is_missing q rest)) (front_missing q v gap)
-    ∙ ap (λ a. (leb gap.first q && ltb q v) || (a || is_missing q rest)) (back_missing q v gap)
-    ∙ joined gap.first gap.last (is_missing q rest) h none
+pub ascending_insert : (low v count : ℕ) (blocks : List Block) (b d : Block) → count ≤ length blocks → AllAbove v (drop count blocks)
+    → b.first ≤ v → low ≤ b.first → ((k : ℕ) → k + 1 ≡ count → (get_or blocks k d).first ≤ b.first) → AreAscending low blocks
+    → AreAscending low (take count blocks ++ b ∷ drop count blocks)
+ascending_insert low v zero blocks b d le above at sooner behind h = (sooner, ascending_later low b.first v blocks at above h)
+ascending_insert low v (suc count) [] b d le above at sooner behind h = absurd (omega (arith, le))
+ascending_insert low v (suc zero) (x ∷ xs) b d le above at sooner behind h =
+    (h.0, ascending_insert x.first v zero xs b d (omega arith) above at (behind 0 (omega arith)) (λ k e. absurd (omega (arith, e))) h.1)
+ascending_insert low v (suc (suc k)) (x ∷ xs) b d le above at sooner behind h =
+    let before : (get_or xs k d).first ≤ b.first = behind (suc k) (omega arith) in
+    let first = first_least x.first k xs d h.1 (omega (arith, le)) in (
+      h.0,
+      ascending_insert x.first v (suc k) xs b d (omega (arith, le)) above at (omega (arith, before, first))
+          (λ j e. behind (suc j) (omega (arith, e))) h.1,
+    )
+
+-- a number that isn't there yet
+one_more : (q v : ℕ) (ys : List Block) (t : Bool) → AllAbove v ys → told q ((q == v) || t) ys ≡ ((q == v) || told q t ys)
+one_more q v ys t above = at_test (q == v) refl
   where
-    joined : (a b : ℕ) (m : Bool) → (leb a v && leb v b) ≡ true → (q ≡ v → m ≡ false)
-        → ((leb a q && ltb q v) || ((ltb v q && leb q b) || m)) ≡ (((leb a q && leb q b) || m) && not (q == v))
-    joined a b m h none = grind (arith, nat_tests)
+    equal : (a b : ℕ) → (a == b) ≡ true → a ≡ b
+    equal a b e = grind (arith, nat_tests)
 
-pub without_missing : (q v low end : ℕ) (gaps : List Gap) → AreApart low end gaps
-    → is_missing q (without v gaps) ≡ (is_missing q gaps && not (q == v))
-without_missing q v low end [] h = refl
-without_missing q v low end (gap ∷ rest) h = at_test (is_in v gap) refl (without_missing q v (gap.last + 2) end rest h.2)
+    at_test : (b : Bool) → (q == v) ≡ b → told q (b || t) ys ≡ (b || told q t ys)
+    at_test true e = subst (λ z. told z true ys ≡ true) (sym (equal q v e)) (told_above v true ys above)
+    at_test false e = refl
+
+pub told_own : (q v : ℕ) (g : Bool) (place : ℕ) (blocks : List Block) (b d : Block) → place < length blocks
+    → b.first ≡ (get_or blocks place d).first → (get_or blocks place d).first ≤ v → AllAbove v (drop (suc place) blocks)
+    → ((get_or blocks place d).first ≤ q → has q b ≡ (q == v || has q (get_or blocks place d)))
+    → told q g (set blocks place b) ≡ (q == v || told q g blocks)
+told_own q v g place [] b d lt e le above more = absurd (omega (arith, lt))
+told_own q v g zero (x ∷ xs) b d lt e le above more =
+    ap (λ t. told q t xs) (either b.first x.first (has q b) (has q x) e le more)
+    ∙ one_more q v xs (if ltb q x.first then g else has q x) above
   where
-    upto : (a b : ℕ) → (leb a v && leb v b) ≡ true → v < b + 2
-    upto a b h = grind (arith, nat_tests)
+    either : (b x : ℕ) (p r : Bool) → b ≡ x → x ≤ v → (x ≤ q → p ≡ (q == v || r))
+        → (if ltb q b then g else p) ≡ ((q == v) || (if ltb q x then g else r))
+    either b x p r e le more = grind (arith, nat_tests)
+told_own q v g (suc place) (x ∷ xs) b d lt e le above more =
+    told_own q v (if ltb q x.first then g else has q x) place xs b d (omega (arith, lt)) e le above more
 
-    other : (a b : ℕ) (m n : Bool) → (leb a v && leb v b) ≡ false → m ≡ (n && not (q == v))
-        → ((leb a q && leb q b) || m) ≡ (((leb a q && leb q b) || n) && not (q == v))
-    other a b m n h k = grind (arith, nat_tests)
-
-    at_test : (b : Bool) → is_in v gap ≡ b → is_missing q (without v rest) ≡ (is_missing q rest && not (q == v))
-        → is_missing q (if b then front_of v gap ++ (back_of v gap ++ rest) else gap ∷ without v rest)
-        ≡ ((is_in q gap || is_missing q rest) && not (q == v))
-    at_test true e next = left_missing q v gap rest e
-        (λ is. none_below q (gap.last + 2) end rest h.2 (subst (λ z. z < gap.last + 2) (sym is) (upto gap.first gap.last e)))
-    at_test false e next = other gap.first gap.last (is_missing q (without v rest)) (is_missing q rest) e next
-
-left_apart : (v low end : ℕ) (gap : Gap) (rest : List Gap) → is_in v gap ≡ true → AreApart low end (gap ∷ rest)
-    → AreApart low end (front_of v gap ++ (back_of v gap ++ rest))
-left_apart v low end gap rest e h = at_front (ltb gap.first v) refl
+pub told_inserted : (q v : ℕ) (xs ys : List Block) (b : Block) → AllAbove v ys → b.first ≤ v
+    → (b.first ≤ q → told q false xs ≡ false) → (b.first ≤ q → has q b ≡ (q == v))
+    → is_noted q (xs ++ b ∷ ys) ≡ (q == v || is_noted q (xs ++ ys))
+told_inserted q v xs ys b above le none own =
+    told-append q false xs (b ∷ ys)
+    ∙ ap (λ t. told q t ys) (either b.first (told q false xs) (has q b) le none own)
+    ∙ one_more q v ys (told q false xs) above
+    ∙ ap (λ t. q == v || t) (sym (told-append q false xs ys))
   where
-    least : (a b : ℕ) → (leb a v && leb v b) ≡ true → a ≤ v
-    least a b h = grind (arith, nat_tests)
+    either : (b : ℕ) (t p : Bool) → b ≤ v → (b ≤ q → t ≡ false) → (b ≤ q → p ≡ (q == v)) → (if ltb q b then t else p) ≡ ((q == v) || t)
+    either b t p le none own = grind (arith, nat_tests)
 
-    most : (a b : ℕ) → (leb a v && leb v b) ≡ true → v ≤ b
-    most a b h = grind (arith, nat_tests)
+-- beyond a block's own numbers, where it told that one is missing
+pub told_taken : (q : ℕ) (g : Bool) (k : ℕ) (blocks : List Block) (d : Block) → k < length blocks → (get_or blocks k d).first ≤ q
+    → told q g (take (suc k) blocks) ≡ has q (get_or blocks k d)
+told_taken q g k [] d lt h = absurd (omega (arith, lt))
+told_taken q g zero (x ∷ xs) d lt h = below_is q x.first g (has q x) h
+told_taken q g (suc k) (x ∷ xs) d lt h = told_taken q (if ltb q x.first then g else has q x) k xs d (omega (arith, lt)) h
 
-    below : (a b : ℕ) → ltb a b ≡ true → a < b
-    below a b h = grind (arith, nat_tests)
+pub missing_beyond : (q v count low : ℕ) (blocks : List Block) (d : Block) → count ≤ length blocks → AllAbove v (drop count blocks)
+    → is_noted v blocks ≡ false → ((k : ℕ) → k + 1 ≡ count → (get_or blocks k d).first + 63 ≤ low) → low ≤ v → low ≤ q
+    → told q false (take count blocks) ≡ false
+missing_beyond q v zero low blocks d le above fresh behind h k = refl
+missing_beyond q v (suc count) low blocks d le above fresh behind h k =
+    let far : (get_or blocks count d).first + 63 ≤ low = behind count (omega arith) in
+    told_taken q false count blocks d (omega (arith, le)) (omega (arith, far, k))
+    ∙ has_far q v (get_or blocks count d) (omega (arith, far, k)) (omega (arith, far, h))
+    ∙ sym (told_at v false count blocks d (omega (arith, le)) (omega (arith, far, h)) above) ∙ fresh
 
-    at_back : (less : ℕ) → less ≤ v + 1 → (b : Bool) → ltb v gap.last ≡ b
-        → AreApart less end ((if b then record { first = v + 1; last = gap.last } ∷ [] else []) ++ rest)
-    at_back less k true f = let p = below v gap.last f in (k, omega (arith, p), h.2)
-    at_back less k false f = let p = most gap.first gap.last e in apart_sooner less (gap.last + 2) end rest (omega (arith, k, p)) h.2
+-- two numbers that the same block tells of, beyond its own
+pub above_sooner : (v w : ℕ) (blocks : List Block) → v ≤ w → AllAbove w blocks → AllAbove v blocks
+above_sooner v w [] le h = tt
+above_sooner v w (x ∷ xs) le h = (omega (arith, le, h.0), above_sooner v w xs le h.1)
 
-    at_front : (b : Bool) → ltb gap.first v ≡ b
-        → AreApart low end ((if b then record { first = gap.first; last = v - 1 } ∷ [] else []) ++ (back_of v gap ++ rest))
-    at_front true f = let p = below gap.first v f in (h.0, omega (arith, p), at_back (v - 1 + 2) (omega (arith, p)) (ltb v gap.last) refl)
-    at_front false f = let p = least gap.first gap.last e in at_back low (omega (arith, h.0, p)) (ltb v gap.last) refl
+pub steady : (v count : ℕ) (blocks : List Block) (d : Block) → count ≤ length blocks → AllAbove (suc v) (drop count blocks)
+    → ((k : ℕ) → k + 1 ≡ count → (get_or blocks k d).first + 63 ≤ v) → is_noted v blocks ≡ is_noted (suc v) blocks
+steady v zero blocks d le above far =
+    told_above v false blocks (above_sooner v (suc v) blocks (omega arith) above) ∙ sym (told_above (suc v) false blocks above)
+steady v (suc count) blocks d le above far =
+    let behind : (get_or blocks count d).first + 63 ≤ v = far count (omega arith) in
+    told_at v false count blocks d (omega (arith, le)) (omega (arith, behind))
+    (above_sooner v (suc v) (drop (suc count) blocks) (omega arith) above)
+    ∙ has_far v (suc v) (get_or blocks count d) behind (omega (arith, behind))
+    ∙ sym (told_at (suc v) false count blocks d (omega (arith, le)) (omega (arith, behind)) above)
 
-pub without_apart : (v low end : ℕ) (gaps : List Gap) → AreApart low end gaps → AreApart low end (without v gaps)
-without_apart v low end [] h = h
-without_apart v low end (gap ∷ rest) h = at_test (is_in v gap) refl (without_apart v (gap.last + 2) end rest h.2)
-  where
-    at_test : (b : Bool) → is_in v gap ≡ b → AreApart (gap.last + 2) end (without v rest)
-        → AreApart low end (if b then front_of v gap ++ (back_of v gap ++ rest) else gap ∷ without v rest)
-    at_test true e next = left_apart v low end gap rest e h
-    at_test false e next = (h.0, h.1, next)
+-- what the code reads at two places
+pub next_begins : (place : ℕ) (blocks : List Block) (x y : Block) → x ≡ get_or blocks place x → y ≡ get_or blocks (place + 1) y
+    → place + 1 < length blocks → y.first - x.first ≡ 63 → (get_or blocks (suc place) x).first ≡ (get_or blocks place x).first + 63
+next_begins place blocks x y is next lt e =
+    let there : y ≡ get_or blocks (suc place) x = subst (λ n. y ≡ get_or blocks n y) (add-one place) next
+    ∙ get_or_default blocks (suc place) y x (omega (arith, lt)) in
+    let a : y.first ≡ (get_or blocks (suc place) x).first = ap (λ b. b.first) there in
+    let b : x.first ≡ (get_or blocks place x).first = ap (λ b. b.first) is in
+    omega (arith, a, b, e)
 
--- a range that has a number stands past those that end before it
-pub there_missing : (v place : ℕ) (gap : Gap) (gaps : List Gap) → is_in v gap ≡ true → place < length gaps → gap ≡ get_or gaps place gap
-    → is_missing v gaps ≡ true
-there_missing v place gap [] h lt is = absurd (omega (arith, lt))
-there_missing v zero gap (first ∷ rest) h lt is = here (is_in v first) (is_missing v rest) (subst (λ z. is_in v z ≡ true) is h)
-  where
-    here : (a b : Bool) → a ≡ true → (a || b) ≡ true
-    here a b h = grind arith
-there_missing v (suc place) gap (first ∷ rest) h lt is =
-    later (is_in v first) (is_missing v rest) (there_missing v place gap rest h (omega (arith, lt)) is)
-  where
-    later : (a b : Bool) → b ≡ true → (a || b) ≡ true
-    later a b h = grind arith
-
--- an edit at the place of the range that has the number
-pub at_place : (f : List Gap → ℕ → List Gap) (v low end place : ℕ) (gap : Gap) (gaps : List Gap) → is_in v gap ≡ true
-    → ((first : Gap) (rest : List Gap) (k : ℕ) → f (first ∷ rest) (suc k) ≡ first ∷ f rest k)
-    → ((rest : List Gap) → f (gap ∷ rest) 0 ≡ front_of v gap ++ (back_of v gap ++ rest))
-    → AreApart low end gaps → place < length gaps → gap ≡ get_or gaps place gap → f gaps place ≡ without v gaps
-at_place f v low end place gap [] h along at apart lt is = absurd (omega (arith, lt))
-at_place f v low end zero gap (first ∷ rest) h along at apart lt is =
-    subst (λ z. f (z ∷ rest) 0 ≡ without v (z ∷ rest)) is (at rest ∙ sym (here (is_in v gap) h))
-  where
-    here : (b : Bool) → b ≡ true → (if b then front_of v gap ++ (back_of v gap ++ rest) else gap ∷ without v rest)
-        ≡ front_of v gap ++ (back_of v gap ++ rest)
-    here true e = refl
-    here false e = absurd (cc)
-at_place f v low end (suc place) gap (first ∷ rest) h along at apart lt is =
-    along first rest place ∙ ap (λ xs. first ∷ xs)
-    (at_place f v (first.last + 2) end place gap rest h along at apart.2 (omega (arith, lt)) is)
-    ∙ sym (past (is_in v first) (apart_from (is_in v first) refl))
-  where
-    upto : (a b : ℕ) → (leb a v && leb v b) ≡ true → v < b + 2
-    upto a b h = grind (arith, nat_tests)
-
-    apart_from : (b : Bool) → is_in v first ≡ b → b ≡ false
-    apart_from false e = refl
-    apart_from true e = sym (there_missing v place gap rest h (omega (arith, lt)) is)
-        ∙ none_below v (first.last + 2) end rest apart.2 (upto first.first first.last e)
-
-    past : (b : Bool) → b ≡ false → (if b then front_of v first ++ (back_of v first ++ rest) else first ∷ without v rest)
-        ≡ first ∷ without v rest
-    past false e = refl
-    past true e = absurd (cc)
-
-one_if : (b : Bool) (gap : Gap) → b ≡ true → (if b then gap ∷ [] else []) ≡ gap ∷ []
-one_if true gap e = refl
-one_if false gap e = absurd (cc)
-
-pub none_if : (b : Bool) (gap : Gap) → b ≡ false → (if b then gap ∷ [] else []) ≡ []
-none_if false gap e = refl
-none_if true gap e = absurd (cc)
-
-ltb_when : (a b : ℕ) → a < b → ltb a b ≡ true
-ltb_when a b h = grind (arith, nat_tests)
-
-ltb_unless : (a b : ℕ) → b ≤ a → ltb a b ≡ false
-ltb_unless a b h = grind (arith, nat_tests)
-
-bounds : (v a b : ℕ) → (leb a v && leb v b) ≡ true → (a ≤ v) × (v ≤ b)
-bounds v a b h = (low v a b h, high v a b h)
-  where
-    low : (v a b : ℕ) → (leb a v && leb v b) ≡ true → a ≤ v
-    low v a b h = grind (arith, nat_tests)
-
-    high : (v a b : ℕ) → (leb a v && leb v b) ≡ true → v ≤ b
-    high v a b h = grind (arith, nat_tests)
-
-front_none : (v : ℕ) (gap : Gap) → v ≤ gap.first → front_of v gap ≡ []
-front_none v gap h = none_if (ltb gap.first v) (record { first = gap.first; last = v - 1 }) (ltb_unless gap.first v h)
-
-front_some : (v : ℕ) (gap : Gap) → gap.first < v → front_of v gap ≡ record { first = gap.first; last = v - 1 } ∷ []
-front_some v gap h = one_if (ltb gap.first v) (record { first = gap.first; last = v - 1 }) (ltb_when gap.first v h)
-
-back_none : (v : ℕ) (gap : Gap) → gap.last ≤ v → back_of v gap ≡ []
-back_none v gap h = none_if (ltb v gap.last) (record { first = v + 1; last = gap.last }) (ltb_unless v gap.last h)
-
-back_some : (v : ℕ) (gap : Gap) → v < gap.last → back_of v gap ≡ record { first = v + 1; last = gap.last } ∷ []
-back_some v gap h = one_if (ltb v gap.last) (record { first = v + 1; last = gap.last }) (ltb_when v gap.last h)
-
--- what stands at a place and has a number
-pub record IsAt (v place : ℕ) (gap : Gap) (gaps : List Gap) : Type 0 where
-  pub is : gap ≡ get_or gaps place gap
-  pub lt : place < length gaps
-  pub has : is_in v (get_or gaps place gap) ≡ true
-
-pub is_at : (v place : ℕ) (gap : Gap) (gaps : List Gap) → gap ≡ get_or gaps place gap → place < length gaps
-    → HoldsAt (λ g. is_in v g ≡ true) gaps place → IsAt v place gap gaps
-is_at v place gap gaps is lt has = record { is = is; lt = lt; has = has gap }
-
-its_own : (v place : ℕ) (gap : Gap) (gaps : List Gap) → IsAt v place gap gaps → is_in v gap ≡ true
-its_own v place gap gaps at = subst (λ g. is_in v g ≡ true) (sym at.is) at.has
-
-none_left : (v : ℕ) (gap : Gap) (rest : List Gap) → v ≤ gap.first → gap.last ≤ v → rest ≡ front_of v gap ++ (back_of v gap ++ rest)
-none_left v gap rest h k = rw (front_none v gap h, back_none v gap k) refl
-
-back_left : (v : ℕ) (gap : Gap) (rest : List Gap) → v ≤ gap.first → v < gap.last
-    → record { first = v + 1; last = gap.last } ∷ rest ≡ front_of v gap ++ (back_of v gap ++ rest)
-back_left v gap rest h k = rw (front_none v gap h, back_some v gap k) refl
-
-front_left : (v : ℕ) (gap : Gap) (rest : List Gap) → gap.first < v → gap.last ≤ v
-    → record { first = gap.first; last = v - 1 } ∷ rest ≡ front_of v gap ++ (back_of v gap ++ rest)
-front_left v gap rest h k = rw (front_some v gap h, back_none v gap k) refl
-
-both_left : (v : ℕ) (gap : Gap) (rest : List Gap) → gap.first < v → v < gap.last
-    → record { first = gap.first; last = v - 1 } ∷ record { first = v + 1; last = gap.last } ∷ rest
-    ≡ front_of v gap ++ (back_of v gap ++ rest)
-both_left v gap rest h k = rw (front_some v gap h, back_some v gap k) refl
-
-pub out_whole : (v low end place : ℕ) (gap : Gap) (gaps : List Gap) → AreApart low end gaps → IsAt v place gap gaps → gap.first ≡ gap.last
-    → take place gaps ++ drop (suc place) gaps ≡ without v gaps
-out_whole v low end place gap gaps h at e =
-    let own = its_own v place gap gaps at in
-    let b = bounds v gap.first gap.last own in
-    at_place (λ xs k. take k xs ++ drop (suc k) xs) v low end place gap gaps own (λ first rest k. refl)
-    (λ rest. none_left v gap rest (omega (arith, b.1, e)) (omega (arith, b.0, e))) h at.lt at.is
-
-pub out_first : (v low end place : ℕ) (gap : Gap) (gaps : List Gap) → AreApart low end gaps → IsAt v place gap gaps → gap.first ≢ gap.last
-    → gap.first ≡ v → set gaps place (record { first = v + 1; last = gap.last }) ≡ without v gaps
-out_first v low end place gap gaps h at ne e =
-    let own = its_own v place gap gaps at in
-    let b = bounds v gap.first gap.last own in
-    at_place (λ xs k. set xs k (record { first = v + 1; last = gap.last })) v low end place gap gaps own (λ first rest k. refl)
-    (λ rest. back_left v gap rest (omega (arith, e)) (omega (arith, b.1, e, ne))) h at.lt at.is
-
-pub out_last : (v low end place : ℕ) (gap : Gap) (gaps : List Gap) → AreApart low end gaps → IsAt v place gap gaps → gap.first ≢ v
-    → gap.last ≡ v → set gaps place (record { first = gap.first; last = v - 1 }) ≡ without v gaps
-out_last v low end place gap gaps h at ne e =
-    let own = its_own v place gap gaps at in
-    let b = bounds v gap.first gap.last own in
-    at_place (λ xs k. set xs k (record { first = gap.first; last = v - 1 })) v low end place gap gaps own (λ first rest k. refl)
-    (λ rest. front_left v gap rest (omega (arith, b.0, ne)) (omega (arith, e))) h at.lt at.is
-
-pub out_middle : (v low end place : ℕ) (gap : Gap) (gaps : List Gap) → AreApart low end gaps → IsAt v place gap gaps → gap.first ≢ v
-    → gap.last ≢ v
-    → set (take (suc place) gaps ++ record { first = v + 1; last = gap.last } ∷ drop (suc place) gaps) place
-    (record { first = gap.first; last = v - 1 })
-    ≡ without v gaps
-out_middle v low end place gap gaps h at ne nl =
-    let own = its_own v place gap gaps at in
-    let b = bounds v gap.first gap.last own in
-    at_place (λ xs k. set (take (suc k) xs ++ record { first = v + 1; last = gap.last } ∷ drop (suc k) xs) k
-    (record { first = gap.first; last = v - 1 }))
-    v low end place gap gaps own (λ first rest k. refl)
-    (λ rest. both_left v gap rest (omega (arith, b.0, ne)) (omega (arith, b.1, nl))) h at.lt at.is
-
-pub without_gaps : (v : ℕ) (gaps : List Gap) → AreGaps gaps → v < END → AreGaps (without v gaps)
-without_gaps v gaps h lt = (without_apart v 1 END gaps h.0, without_missing END v 1 END gaps h.0 ∙ still (is_missing END gaps) h.1 lt)
-  where
-    still : (m : Bool) → m ≡ true → v < END → (m && not (END == v)) ≡ true
-    still m h lt = grind (arith, nat_tests)
-
-pub without_holds : (q v : ℕ) (gaps : List Gap) → AreGaps gaps → 1 ≤ v → v < END → is_missing v gaps ≡ true
-    → holds q (without v gaps) ≡ (q == v || holds q gaps)
-without_holds q v gaps h some lt there =
-    one_more END (is_missing q (without v gaps)) (is_missing q gaps) (holds q (without v gaps)) (holds q gaps)
-    (without_missing q v 1 END gaps h.0) (holds_is q (without v gaps) (without_gaps v gaps h lt)) (holds_is q gaps h) lt
-  where
-    one_more : (end : ℕ) (n m x y : Bool) → n ≡ (m && not (q == v)) → x ≡ (ltb 0 q && (leb q end && not n))
-        → y ≡ (ltb 0 q && (leb q end && not m)) → v < end → x ≡ (q == v || y)
-    one_more end n m x y h p r lt = grind (arith, nat_tests)
-
--- an answer of the place of the range that has a number
-pub found : (r : Option ℕ) (v : ℕ) (gaps : List Gap) → IfSome r (λ place. place < length gaps)
-    → MatchOption r (is_missing v gaps ≡ false) (HoldsAt (λ gap. is_in v gap ≡ true) gaps) → is_some r ≡ is_missing v gaps
-found None v gaps lt h = sym h
-found (Some place) v gaps lt h =
-    let gap : Gap = get_or gaps place (record { first = 0; last = 0 }) in
-    sym (there_missing v place gap gaps (h (record { first = 0; last = 0 })) lt
-    (get_or_default gaps place (record { first = 0; last = 0 }) gap lt))
+pub absorbed_at : (v place : ℕ) (blocks : List Block) (x y : Block) → 0 < place → place < length blocks → x ≡ get_or blocks (place - 1) x
+    → y ≡ get_or blocks place y → x.first ≤ y.first → ((w : ℕ) → y.first ≤ w → has w y ≡ has w x)
+    → is_noted v (take place blocks ++ drop (suc place) blocks) ≡ is_noted v blocks
+absorbed_at v zero blocks x y some lt is next le same = absurd (omega (arith, some))
+absorbed_at v (suc k) blocks x y some lt is next le same =
+    let before : suc k - 1 ≡ k = omega arith in
+    let front : x ≡ get_or blocks k x = subst (λ n. x ≡ get_or blocks n x) before is in
+    let back : y ≡ get_or blocks (suc k) x = next ∙ get_or_default blocks (suc k) y x lt in
+    told_absorbed v false k blocks x lt
+    (subst (λ a. a.first ≤ (get_or blocks (suc k) x).first) front (subst (λ b. x.first ≤ b.first) back le))
+    (subst (λ a. (get_or blocks (suc k) x).first ≤ v → has v (get_or blocks (suc k) x) ≡ has v a) front
+    (subst (λ b. b.first ≤ v → has v b ≡ has v x) back (same v)))

@@ -1,10 +1,11 @@
-pub mod Apart
-pub mod Common
+pub mod Bits
+pub mod Counts
 pub mod Edits
-pub mod Ends
+pub mod Kept
 pub mod Members
 pub mod Order
 pub mod Places
 pub mod Same
 pub mod Tops
 pub mod Views
+pub mod Walk

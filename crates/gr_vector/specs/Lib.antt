@@ -1,4 +1,4 @@
-pub mod Gaps
+pub mod Blocks
 pub mod Ids
 pub mod Order
 pub mod Views

@@ -1,10 +1,13 @@
 //! Which changes of which member have come, as a set of ids.
 #![tactic(auto)]
 
+mod block;
+mod blocks;
 mod gap;
-mod missing;
+mod numbers;
 mod report;
 mod shared;
+mod united;
 mod vector;
 
 pub use report::{Report, ReportList};

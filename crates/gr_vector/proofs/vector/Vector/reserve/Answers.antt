@@ -1,13 +1,13 @@
 use Rattle.std.proofs.Common.{◌≡◌, ℕ, ap, ◌∙◌, ◌++◌, List, take, drop, length, arith}
 use Rattle.std.proofs.lemmas.List.{take_all, drop_all, append-nil}
 use Rattle.std.proofs.lemmas.Result.{err_from_is_err_and}
-use Rattle.gr_vector.specs.Gaps.{Missing}
+use Rattle.gr_vector.specs.Blocks.{Numbers}
 use Rattle.gr_vector.specs.Views.{is_held, view_of}
 use Rattle.gr_vector.proofs.Views.{same_ids}
 use Rattle.gr_vector.proofs.vector.Vector.reserve.Goals as goal
 
 -- a slice of all that was lent
-lent : (n : ℕ) (new old : List Missing) → length new ≡ length old → n ≡ length old → take n (new ++ drop (length new) old) ≡ new
+lent : (n : ℕ) (new old : List Numbers) → length new ≡ length old → n ≡ length old → take n (new ++ drop (length new) old) ≡ new
 lent n new old same is =
     ap (λ xs. take n (new ++ xs)) (drop_all (length new) old (omega (arith, same))) ∙ ap (take n) (append-nil new)
     ∙ take_all n new (omega (arith, same, is))

@@ -1,10 +1,10 @@
 use Rattle.std.proofs.Common.{◌≡◌, ℕ, ap, ◌∙◌, ◌||◌, List}
-use Rattle.gr_vector.specs.Gaps.{Missing}
+use Rattle.gr_vector.specs.Blocks.{Numbers}
 use Rattle.gr_vector.specs.Views.{is_held}
 use Rattle.gr_vector.proofs.Views.{united_ids}
 use Rattle.gr_vector.proofs.vector.Vector.unite.Goals as goal
 
-either : (k v : ℕ) (xs ys ps qs : List Missing) → xs ≡ ps → ys ≡ qs → (is_held k v xs || is_held k v ys)
+either : (k v : ℕ) (xs ys ps qs : List Numbers) → xs ≡ ps → ys ≡ qs → (is_held k v xs || is_held k v ys)
     ≡ (is_held k v ps || is_held k v qs)
 either k v xs ys ps qs h e = ap (λ zs. is_held k v zs || is_held k v ys) h ∙ ap (λ zs. is_held k v ps || is_held k v zs) e
 
