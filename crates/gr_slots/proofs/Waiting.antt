@@ -11,7 +11,7 @@ use Rattle.std.proofs.lemmas.Map.Lookups.{exact_bytes}
 use Rattle.std.proofs.lemmas.Slice.Eq.{bytes_eq-Decides}
 use Rattle.gr_slots.specs.declared.slot.Slot.{Slot}
 use Rattle.gr_slots.specs.Slots.{Entries, slot_at, with_slot, without}
-use Rattle.gr_slots.specs.Late.{Row, with_late, late_at, IsApart}
+use Rattle.gr_slots.specs.Late.{Row, with_late, late_at, IsApart, IsReady}
 use Rattle.gr_slots.proofs.Found.{slot_at-with_slot, at-with_slot, at-without, sorted-with_slot, sorted-without}
 use Rattle.gr_slots.proofs.Ordered.{one_order}
 use Rattle.gr_slots.proofs.Timed.{key_order, one_key}
@@ -52,6 +52,14 @@ found_late q (Some row) rows apart = slot_at-with_slot q row.0 row.1 rows ∙ at
         let none : slot_at q rows ≡ None = ap (λ k. slot_at k rows) (sym ((bytes_eq-Decides row.0 q).0 k)) ∙ apart in
         ap (λ o. either o (Some row.1)) (sym none)
     at_key false k = or_none (slot_at q rows)
+
+-- Where nothing waits, and nothing does afterwards, there is room as before.
+pub still_ready : (room : Option ℕ) (late next_late : Option Row) (unlisted next_unlisted : Option (List ℕ)) (count : ℕ)
+    → (late ≡ None → next_late ≡ None) → (unlisted ≡ None → next_unlisted ≡ None) → IsReady room late unlisted count
+    → IsReady room next_late next_unlisted count
+still_ready None late next_late unlisted next_unlisted count none_late none_unlisted ready = tt
+still_ready (Some at) late next_late unlisted next_unlisted count none_late none_unlisted ready =
+    (none_late ready.0, none_unlisted ready.1, ready.2)
 
 -- ---- a key leaves
 

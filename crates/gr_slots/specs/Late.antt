@@ -1,5 +1,6 @@
 -- A row that isn't entered among the others yet, and a removal that isn't listed yet.
-use Rattle.std.specs.Prelude.{◌≡◌, ◌<◌, ◌+◌, ◌^◌, ℕ, List, Option, Some, None, IfSome, bytes_eq, if◌then◌else◌, ⊤}
+use Rattle.std.specs.Prelude.{◌≡◌, ◌<◌, ◌+◌, ◌^◌, ℕ, List, bytes_eq, if◌then◌else◌, ⊤}
+use Rattle.std.specs.Prelude.{Option, Some, None, IfSome}
 use Rattle.gr_slots.specs.declared.slot.Slot.{Slot}
 use Rattle.gr_slots.specs.Slots.{Entries, slot_at, with_slot, tombstones}
 use Rattle.gr_slots.specs.Removals.{Moments, AreIndexed}

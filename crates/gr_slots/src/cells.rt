@@ -67,9 +67,9 @@ impl Cells {
         rows_in(alloc, &self.places, self.cells.as_slice())
     }
 
-    /// Sets what stands at a key that has no slot. A place beyond 32 bits is refused as memory is.
+    // Sets what stands at a key that has no slot. A place beyond 32 bits is refused as memory is.
     #[inline(never)]
-    pub fn enter(&mut self, alloc: Global, key: &Key, slot: Slot) -> Result<(), Memory>
+    fn enter(&mut self, alloc: Global, key: &Key, slot: Slot) -> Result<(), Memory>
         requires { slot_at key.now self.old ≡ None }
         ensures ok { OnOk result (self.new ≡ with_slot key.now slot self.old) }
         ensures err { OnErr result (self.new ≡ self.old) }
@@ -96,6 +96,19 @@ impl Cells {
         match place_of(&self.places, self.cells.as_slice(), &self.seats, key) {
             Some(place) => Ok(put_in(&mut self.cells, place, slot)),
             None => Err(slot),
+        }
+    }
+
+    /// Sets what stands at the key, and tells when what stood there came in, where it was a removal.
+    #[inline(always)]
+    pub fn set(&mut self, alloc: Global, key: &Key, slot: Slot) -> (Option<u64>, Result<(), Memory>)
+        ensures before { result.0 ≡ removed_at (slot_at key.now self.old) }
+        ensures ok { OnOk result.1 (self.new ≡ with_slot key.now slot self.old) }
+        ensures err { OnErr result.1 (self.new ≡ self.old) }
+    {
+        match self.put(key, slot) {
+            Ok(before) => (before, Ok(())),
+            Err(slot) => (None, self.enter(alloc, key, slot)),
         }
     }
 

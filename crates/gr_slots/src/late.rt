@@ -121,6 +121,7 @@ fn list_unlisted(
     requires { AreIndexed unlisted.old cells.now removals.old }
     ensures indexed { AreIndexed unlisted.new cells.now removals.new }
     ensures ok { OnOk result (unlisted.new ≡ None) }
+    ensures none { unlisted.old ≡ None → unlisted.new ≡ None }
 {
     let Some(key) = &*unlisted else {
         return Ok(());
@@ -128,6 +129,28 @@ fn list_unlisted(
     note(alloc, removals, removed_at(cells.find(key)), key)?;
     *unlisted = None;
     Ok(())
+}
+
+/// Sets what stands at a key and lists it where it is a removal. Tells when what stood there came in,
+/// where it was one.
+#[inline(always)]
+pub fn set_listed(
+    alloc: Global,
+    cells: &mut Cells,
+    removals: &mut BTreeMap<u64, Vec<Key>>,
+    key: &Key,
+    slot: Slot,
+) -> Result<Option<u64>, Memory>
+    requires { AreIndexed None cells.old removals.old }
+    ensures before { IfOk result (λ before. before ≡ removed_at (slot_at key.now cells.old)) }
+    ensures ok { OnOk result (cells.new ≡ with_slot key.now slot cells.old) }
+    ensures err { OnErr result (cells.new ≡ cells.old) }
+    ensures indexed { AreIndexed None cells.new removals.new }
+{
+    note(alloc, removals, removed_at(Some(&slot)), key)?;
+    let (before, set) = cells.set(alloc, key, slot);
+    set?;
+    Ok(before)
 }
 
 // Enters the late row among the others, and lists it where it is a removal.
@@ -143,17 +166,18 @@ fn enter_late(
     ensures apart { IsApart late.new cells.new }
     ensures rows { with_late late.new cells.new ≡ with_late late.old cells.old }
     ensures ok { OnOk result (late.new ≡ None) }
+    ensures none { late.old ≡ None → late.new ≡ None }
 {
     let Some((key, slot)) = &*late else {
         return Ok(());
     };
-    note(alloc, removals, removed_at(Some(slot)), key)?;
-    cells.enter(alloc, key, slot.copy(alloc)?)?;
+    set_listed(alloc, cells, removals, key, slot.copy(alloc)?)?;
     *late = None;
     Ok(())
 }
 
-/// Leaves nothing late and nothing unlisted.
+/// Leaves nothing late and nothing unlisted. Mostly nothing is.
+#[inline(always)]
 pub fn settle(
     alloc: Global,
     cells: &mut Cells,
@@ -168,6 +192,33 @@ pub fn settle(
     ensures rows { with_late late.new cells.new ≡ with_late late.old cells.old }
     ensures late { OnOk result (late.new ≡ None) }
     ensures listed { OnOk result (unlisted.new ≡ None) }
+    ensures none_late { late.old ≡ None → late.new ≡ None }
+    ensures none_unlisted { unlisted.old ≡ None → unlisted.new ≡ None }
+{
+    if late.is_none() && unlisted.is_none() {
+        return Ok(());
+    }
+    Ok(settle_both(alloc, cells, removals, late, unlisted)?)
+}
+
+// The same where something is.
+#[inline(never)]
+fn settle_both(
+    alloc: Global,
+    cells: &mut Cells,
+    removals: &mut BTreeMap<u64, Vec<Key>>,
+    late: &mut Option<(Key, Slot)>,
+    unlisted: &mut Option<Key>,
+) -> Result<(), Memory>
+    requires indexed { AreIndexed unlisted.old cells.old removals.old }
+    requires apart { IsApart late.old cells.old }
+    ensures indexed { AreIndexed unlisted.new cells.new removals.new }
+    ensures apart { IsApart late.new cells.new }
+    ensures rows { with_late late.new cells.new ≡ with_late late.old cells.old }
+    ensures late { OnOk result (late.new ≡ None) }
+    ensures listed { OnOk result (unlisted.new ≡ None) }
+    ensures none_late { late.old ≡ None → late.new ≡ None }
+    ensures none_unlisted { unlisted.old ≡ None → unlisted.new ≡ None }
 {
     list_unlisted(alloc, cells, removals, unlisted)?;
     Ok(enter_late(alloc, cells, removals, late)?)

@@ -30,6 +30,7 @@ pub fn removed_at(slot: Option<&Slot>) -> Option<u64>
 }
 
 // Puts a key last in the list of a moment.
+#[inline(always)]
 fn append(
     alloc: Global,
     removals: &mut BTreeMap<u64, Vec<Key>>,
@@ -53,6 +54,7 @@ fn append(
 }
 
 /// Lists a key at the moment when its removal came in, if that is what is to stand there.
+#[inline(always)]
 pub fn note(
     alloc: Global,
     removals: &mut BTreeMap<u64, Vec<Key>>,

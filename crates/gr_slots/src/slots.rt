@@ -8,7 +8,7 @@ ghost use Rattle.gr_slots.specs.Slots.{slot_at, with_slot, without, timed_out, t
 
 use crate::Slot;
 use crate::cells::Cells;
-use crate::late::{find_either, leave_either, put_or_wait, settle};
+use crate::late::{find_either, leave_either, put_or_wait, set_listed, settle};
 use crate::merging::merge;
 use crate::removals::{late_moments, listed, removed_at};
 use crate::sifting::sift_all;
@@ -20,7 +20,7 @@ use std::marker::Model;
 // A slot comes in where there is room for it, and room takes no key: std's ordered map has no room to
 // reserve, so a slot whose key has no cell is late, and is entered when room is made for the next one.
 // A removal whose key has a cell is unlisted until then. Room is thus made by leaving nothing late and
-// nothing unlisted.
+// nothing unlisted. Where memory may be refused, a slot is entered and listed at once.
 // A removal puts its key last in the list of its moment. What is listed may be stale, and only what isn't
 // listed would be missed: a sweep looks each listed key up, takes out of the lists that it looks at what is
 // stale or stands twice, and lets go of empty ones, so a stale key is looked at by one sweep. Moments are
@@ -97,6 +97,7 @@ impl Slots {
     }
 
     /// Makes room for one slot more, of whatever key, that comes in at this moment.
+    #[inline(always)]
     pub fn reserve(&mut self, taken_at: u64) -> Result<(), Memory>
         ensures entries { self.new.entries ≡ self.old.entries }
         ensures ok { OnOk result (self.new.room ≡ Some taken_at) }
@@ -105,7 +106,6 @@ impl Slots {
         if self.count == u64::MAX {
             return Err(Memory);
         }
-        self.room = None;
         settle(
             self.alloc,
             &mut self.cells,
@@ -140,7 +140,10 @@ impl Slots {
         ensures err { OnErr result (self.new.entries ≡ self.old.entries) }
     {
         self.reserve(slot.taken_at)?;
-        self.set_reserved(key, slot);
+        let after = removed_at(Some(&slot));
+        let before = set_listed(self.alloc, &mut self.cells, &mut self.removals, &key, slot)?;
+        self.count = counted(self.count, before.is_some(), after.is_some());
+        self.room = None;
         Ok(())
     }
 
@@ -158,13 +161,12 @@ impl Slots {
     }
 
     /// The keys whose removal came in 600 seconds or more before the clock, in order. Only the lists of
-    /// such moments are looked at, and they are rid of what is stale. Room stays no longer.
+    /// such moments are looked at, and they are rid of what is stale.
     pub fn timed_out(&mut self, alloc: Global, clock: u64) -> Result<KeyList, Memory>
         ensures keys { IfOk result (λ keys. keys ≡ timed_out clock self.old.entries) }
         ensures ordered { IsStrictlySortedBy (slice_cmp nat_cmp) (keys_of self.old.entries) }
-        ensures same { self.new ≡ record { entries = self.old.entries; room = None } }
+        ensures same { self.new ≡ self.old }
     {
-        self.room = None;
         settle(
             self.alloc,
             &mut self.cells,
