@@ -1,9 +1,7 @@
 -- A sweep that is prepared can be committed.
-use Rattle.std.proofs.Common.{◌≡◌, ◌≤◌, ◌∙◌, ap, sym, refl, subst, ℕ, List, [], ◌∷◌, ◌++◌}
-use Rattle.std.proofs.Common.{reverse, true, false, max, None, Some, map, filter}
+use Rattle.std.proofs.Common.{◌≡◌, ◌≤◌, ◌∙◌, ap, sym, refl, subst, ℕ, List, [], ◌∷◌}
+use Rattle.std.proofs.Common.{reverse, true, false, max, None, Some, map}
 use Rattle.std.proofs.Common.{bytes_eq, ◌||◌, Bool}
-use Rattle.std.proofs.lemmas.List.{map-append}
-use Rattle.std.proofs.lemmas.List.Elements.{filter-append}
 use Rattle.std.proofs.lemmas.Slice.Eq.{bytes_eq-Decides}
 use Rattle.gr_stamp.specs.declared.stamp.TheConstants.{LIMIT}
 use Rattle.gr_history.specs.declared.identity.Identity.{Identity}
@@ -15,27 +13,12 @@ use Rattle.gr_history.specs.Stable.{due}
 use Rattle.gr_history.specs.Standing.{names, present}
 use Rattle.gr_history.specs.Turned.{turned, turned_at}
 use Rattle.gr_law.proofs.Turns.{swept_absent, swept_keys}
-use Rattle.gr_slots.specs.declared.slot.Slot.{Slot}
-use Rattle.gr_slots.specs.Slots.{Entries, is_timed_out, timed_out}
 use Rattle.gr_shard.specs.declared.effect.SlotsAfter.TheVariants as slots_
 use Rattle.gr_shard.specs.Effects.{unchanged}
 use Rattle.gr_shard.specs.Prepared.{IsFit}
 use Rattle.gr_shard.specs.Sweeps.{risen, valueless, without_all}
 use Rattle.gr_shard.specs.View.{Account, IsKept}
 use Rattle.gr_shard.proofs.Sweeps.{floor_swept, kept_swept}
-
--- One slot more, last.
-pub late-push : (clock : ℕ) (entries : Entries) (entry : List ℕ × Slot)
-    → timed_out clock (entries ++ entry ∷ []) ≡ timed_out clock entries ++ timed_out clock (entry ∷ [])
-late-push clock entries entry =
-    ap (map key) (filter-append is_late entries (entry ∷ []))
-    ∙ map-append key (filter is_late entries) (filter is_late (entry ∷ []))
-  where
-    key : List ℕ × Slot → List ℕ
-    key e = e.0
-
-    is_late : List ℕ × Slot → Bool
-    is_late e = is_timed_out clock e.1
 
 -- ---- what a sweep turns
 

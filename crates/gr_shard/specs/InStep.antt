@@ -20,8 +20,8 @@ kept_in (Halted opening stop) waits = Some (record { question = opening.question
 
 -- Of each client and name the state and the waiting events are kept that the history gives.
 abbrev pub IsInStep : List Entry → List Deed → Type 0
-IsInStep entries past = (client : ℕ) (name : List ℕ) → find client name entries ≡ kept_in (state client name past) (waiting client name
-    past)
+IsInStep entries past =
+    (client : ℕ) (name : List ℕ) → find client name entries ≡ kept_in (state client name past) (waiting client name past)
 
 -- a deed that asks nothing of any query
 abbrev pub IsUnasked : Deed → Type 0
@@ -78,8 +78,8 @@ served client (Fetch name) entries = where_found (find client name entries) (cha
 abbrev pub opened : List Deed → List Entry
 opened [] = []
 opened (deeds.Call client to seq ask reply None ∷ past) = opened past
-opened (deeds.Call client to seq ask reply (Some made) ∷ past) = noted (turned (deeds.Call client to seq ask reply (Some made)) past) (opened
-    past)
+opened (deeds.Call client to seq ask reply (Some made) ∷ past) =
+    noted (turned (deeds.Call client to seq ask reply (Some made)) past) (opened past)
 opened (deeds.Taken change told ∷ past) = noted (turned (deeds.Taken change told) past) (opened past)
 opened (deeds.Asked client seq ask reply ∷ past) = served client ask (opened past)
 opened (deeds.Imaged image ∷ past) = noted (turned (deeds.Imaged image) past) (opened past)

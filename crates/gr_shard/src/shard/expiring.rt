@@ -10,7 +10,7 @@ ghost use Rattle.gr_shard.specs.View.{with_spare};
 
 use super::Shard;
 use crate::effect::{Effect, SlotsAfter};
-use crate::sweeping::{risen, timed_out, valueless};
+use crate::sweeping::{risen, valueless};
 use crate::{Came, Prepared};
 use gr_history::Deed;
 use gr_value::{Copied, Key, KeyList, Memory};
@@ -33,14 +33,14 @@ impl Shard {
         risen(&self.slots, self.floor, expired)
     }
 
-    // The keys that are due at a moment, in order. Where there is room it stays.
+    // The keys that are due at a moment, in order.
     fn due(&mut self, alloc: Global, moment: u64) -> Result<KeyList, Memory>
         ensures same { self.new ≡ self.old }
         ensures due { IfOk result (λ keys. keys ≡ due self.old.id moment (reverse self.old.deeds)) }
     {
         self.slots.has_keys_in_order();
         let clock = moment.max(self.clock);
-        let late = timed_out(alloc, &mut self.slots, self.roomy, clock)?;
+        let late = self.slots.timed_out(alloc, clock)?;
         Ok(self.stable_among(alloc, late.as_slice())?)
     }
 
