@@ -1,7 +1,7 @@
 -- What is found at a key after a slot was set.
-use Rattle.std.proofs.Common.{◌≡◌, ◌∙◌, ap, sym, subst, refl, Result, Ok, Err, ℕ, List, [], ◌∷◌, Bool, true, false, if◌then◌else◌}
+use Rattle.std.proofs.Common.{◌≡◌, ◌∙◌, ap, sym, refl, ℕ, List, [], ◌∷◌, Bool, true, false, if◌then◌else◌}
 use Rattle.std.proofs.Common.{Option, Some, None, bytes_eq}
-use Rattle.std.specs.Prelude.{cond, OnOk, OnErr}
+use Rattle.std.specs.Prelude.{cond}
 use Rattle.std.specs.BTreeMap.{is_at}
 use Rattle.std.specs.List.{AllByRecursion}
 use Rattle.std.specs.List.Sorted.{IsStrictlySortedBy}
@@ -155,12 +155,3 @@ without-none key (e ∷ es) none = at_key (is_key key e.0) refl (without-none ke
     at_key : (b : Bool) → is_key key e.0 ≡ b → (slot_at key es ≡ None → without key es ≡ es) → without key (e ∷ es) ≡ e ∷ es
     at_key true k rest = absurd (let f : Some e.1 ≡ None = sym (lookup_head (is_key key) e es k) ∙ none in cc)
     at_key false k rest = rw k (ap (λ es. e ∷ es) (rest (sym (lookup_tail (is_key key) e es k) ∙ none)))
-
--- They stay so, whether one is set or not.
-pub sorted_either : {T E : Type 0} (result : Result T E) (key : List ℕ) (slot : Slot) (old new : Entries)
-    → OnOk result (new ≡ with_slot key slot old) → OnErr result (new ≡ old)
-    → IsStrictlySortedBy (slice_cmp nat_cmp) (keys_of old) → IsStrictlySortedBy (slice_cmp nat_cmp) (keys_of new)
-sorted_either (Ok x) key slot old new ok err sorted =
-    subst (λ es. IsStrictlySortedBy (slice_cmp nat_cmp) (keys_of es)) (sym ok) (sorted-with_slot key slot old sorted)
-sorted_either (Err x) key slot old new ok err sorted =
-    subst (λ es. IsStrictlySortedBy (slice_cmp nat_cmp) (keys_of es)) (sym err) sorted

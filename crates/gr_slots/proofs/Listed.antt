@@ -11,7 +11,7 @@ use Rattle.std.proofs.lemmas.List.Folds.{list_any-append}
 use Rattle.gr_slots.specs.declared.slot.Slot.{Slot}
 use Rattle.gr_slots.specs.Slots.{Entries, slot_at, with_slot, without, removed_at}
 use Rattle.gr_slots.specs.Removals.{Moments, keys_at, is_listed, is_moment, is_removed_at, is_one, AreIndexed}
-use Rattle.gr_slots.proofs.Found.{at-with_slot, at-without}
+use Rattle.gr_slots.proofs.Found.{at-with_slot, at-without, sorted-with_slot}
 use Rattle.gr_slots.proofs.Timed.{one_key, key_itself}
 
 abbrev is_key : List ℕ → List ℕ → Bool
@@ -96,16 +96,16 @@ put_listed slots next removals key slot unlisted are set ordered waits = record 
         or_second (is_one unlisted q) (is_listed q (keys_at removals at))
         (are.listed q at (ap (is_removed_at at) (sym (found q false k)) ∙ e))
 
--- where a slot was set, or not
-pub set_listed : {T E : Type 0} (result : Result T E) (slots next : Entries) (removals : Moments) (key : List ℕ) (slot : Slot)
-    → AreIndexed None slots removals
-    → ((at : ℕ) → is_moment at (removed_at (Some slot)) ≡ true → is_listed key (keys_at removals at) ≡ true)
-    → OnOk result (next ≡ with_slot key slot slots) → OnErr result (next ≡ slots) → IsStrictlySortedBy (slice_cmp nat_cmp) (keys_of next)
-    → AreIndexed None next removals
-set_listed (Err e) slots next removals key slot are new set err ordered = subst (λ slots. AreIndexed None slots removals) (sym err) are
-set_listed (Ok u) slots next removals key slot are new set err ordered = record {
-  ordered = ordered;
-  in_time = are.in_time;
+-- where a slot was listed, if it is a removal, and then set, or not
+pub set_listed : {T E : Type 0} (result : Result T E) (slots next : Entries) (before after : Moments) (key : List ℕ) (slot : Slot)
+    → AreIndexed None slots before → StaysListed before after → IsOrdered nat_cmp after
+    → ((at : ℕ) → is_moment at (removed_at (Some slot)) ≡ true → is_listed key (keys_at after at) ≡ true)
+    → OnOk result (next ≡ with_slot key slot slots) → OnErr result (next ≡ slots) → AreIndexed None next after
+set_listed (Err e) slots next before after key slot are stays in_time new set err =
+    subst (λ slots. AreIndexed None slots after) (sym err) (more_listed None slots before after are stays in_time)
+set_listed (Ok u) slots next before after key slot are stays in_time new set err = record {
+  ordered = subst (λ es. IsStrictlySortedBy (slice_cmp nat_cmp) (keys_of es)) (sym set) (sorted-with_slot key slot slots are.ordered);
+  in_time = in_time;
   listed = λ q at e. at_key q at (is_key key q) refl e;
 }
   where
@@ -113,15 +113,16 @@ set_listed (Ok u) slots next removals key slot are new set err ordered = record 
     found q b k = ap (slot_at q) set ∙ at-with_slot q key slot slots ∙ ap (λ b. cond b (Some slot) (slot_at q slots)) k
 
     at_key : (q : List ℕ) (at : ℕ) (b : Bool) → is_key key q ≡ b → is_removed_at at (slot_at q next) ≡ true
-        → is_listed q (keys_at removals at) ≡ true
+        → is_listed q (keys_at after at) ≡ true
     at_key q at true k e =
-        subst (λ q. is_listed q (keys_at removals at) ≡ true) (one_key key q k)
+        subst (λ q. is_listed q (keys_at after at) ≡ true) (one_key key q k)
         (new at (ap (is_removed_at at) (sym (found q true k)) ∙ e))
-    at_key q at false k e = are.listed q at (ap (is_removed_at at) (sym (found q false k)) ∙ e)
+    at_key q at false k e = stays q at (are.listed q at (ap (is_removed_at at) (sym (found q false k)) ∙ e))
 
 -- where a slot was dropped
-pub drop_listed : (unlisted : Option (List ℕ)) (slots next : Entries) (removals : Moments) (key : List ℕ) → AreIndexed unlisted slots removals → next ≡ without key slots
-    → IsStrictlySortedBy (slice_cmp nat_cmp) (keys_of next) → AreIndexed unlisted next removals
+pub drop_listed : (unlisted : Option (List ℕ)) (slots next : Entries) (removals : Moments) (key : List ℕ)
+    → AreIndexed unlisted slots removals → next ≡ without key slots → IsStrictlySortedBy (slice_cmp nat_cmp) (keys_of next)
+    → AreIndexed unlisted next removals
 drop_listed unlisted slots next removals key are drop ordered = record {
   ordered = ordered;
   in_time = are.in_time;

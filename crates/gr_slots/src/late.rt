@@ -1,4 +1,4 @@
-ghost use Rattle.std.specs.Prelude.{◌≡◌, ℕ, List, Option, Some, None, OnOk, OnErr, IfOk, is_some, if◌then◌else◌, option_copied, option_map};
+ghost use Rattle.std.specs.Prelude.{◌≡◌, ◌<◌, ◌+◌, ◌^◌, ℕ, List, Option, Some, None, OnOk, OnErr, IfOk, is_some, if◌then◌else◌, option_copied, option_map};
 ghost use Rattle.std.specs.Ordering.{nat_cmp};
 ghost use Rattle.std.specs.Cmp.Lexicographic.{slice_cmp};
 ghost use Rattle.std.specs.List.Sorted.{IsStrictlySortedBy};
@@ -199,6 +199,34 @@ pub fn settle(
         return Ok(());
     }
     Ok(settle_both(alloc, cells, removals, late, unlisted)?)
+}
+
+/// The same, where one removal more can be counted.
+#[inline(always)]
+pub fn make_ready(
+    alloc: Global,
+    cells: &mut Cells,
+    removals: &mut BTreeMap<u64, Vec<Key>>,
+    late: &mut Option<(Key, Slot)>,
+    unlisted: &mut Option<Key>,
+    count: u64,
+) -> Result<(), Memory>
+    requires indexed { AreIndexed unlisted.old cells.old removals.old }
+    requires apart { IsApart late.old cells.old }
+    ensures indexed { AreIndexed unlisted.new cells.new removals.new }
+    ensures apart { IsApart late.new cells.new }
+    ensures rows { with_late late.new cells.new ≡ with_late late.old cells.old }
+    ensures late { OnOk result (late.new ≡ None) }
+    ensures listed { OnOk result (unlisted.new ≡ None) }
+    ensures counted { OnOk result (count + 1 < 2 ^ 64) }
+    ensures none_late { late.old ≡ None → late.new ≡ None }
+    ensures none_unlisted { unlisted.old ≡ None → unlisted.new ≡ None }
+{
+    // One more could not be counted. There is never memory for so many.
+    if count == u64::MAX {
+        return Err(Memory);
+    }
+    Ok(settle(alloc, cells, removals, late, unlisted)?)
 }
 
 // The same where something is.

@@ -8,7 +8,7 @@ ghost use Rattle.gr_slots.specs.Slots.{slot_at, with_slot, without, timed_out, t
 
 use crate::Slot;
 use crate::cells::Cells;
-use crate::late::{find_either, leave_either, put_or_wait, set_listed, settle};
+use crate::late::{find_either, leave_either, make_ready, put_or_wait, set_listed, settle};
 use crate::merging::merge;
 use crate::removals::{late_moments, listed, removed_at};
 use crate::sifting::sift_all;
@@ -97,21 +97,17 @@ impl Slots {
     }
 
     /// Makes room for one slot more, of whatever key, that comes in at this moment.
-    #[inline(always)]
     pub fn reserve(&mut self, taken_at: u64) -> Result<(), Memory>
         ensures entries { self.new.entries ≡ self.old.entries }
         ensures ok { OnOk result (self.new.room ≡ Some taken_at) }
     {
-        // One more could not be counted. There is never memory for so many.
-        if self.count == u64::MAX {
-            return Err(Memory);
-        }
-        settle(
+        make_ready(
             self.alloc,
             &mut self.cells,
             &mut self.removals,
             &mut self.late,
             &mut self.unlisted,
+            self.count,
         )?;
         self.room = Some(taken_at);
         Ok(())
@@ -139,7 +135,14 @@ impl Slots {
         ensures ok { OnOk result (self.new ≡ record { entries = with_slot key slot self.old.entries; room = None }) }
         ensures err { OnErr result (self.new.entries ≡ self.old.entries) }
     {
-        self.reserve(slot.taken_at)?;
+        make_ready(
+            self.alloc,
+            &mut self.cells,
+            &mut self.removals,
+            &mut self.late,
+            &mut self.unlisted,
+            self.count,
+        )?;
         let after = removed_at(Some(&slot));
         let before = set_listed(self.alloc, &mut self.cells, &mut self.removals, &key, slot)?;
         self.count = counted(self.count, before.is_some(), after.is_some());

@@ -1,5 +1,5 @@
-use Rattle.std.proofs.Common.{◌∙◌, ap, sym, subst, None}
-use Rattle.gr_slots.specs.Slots.{slot_at, with_slot}
+use Rattle.std.proofs.Common.{◌∙◌, ap, sym, subst}
+use Rattle.gr_slots.specs.Slots.{with_slot}
 use Rattle.gr_slots.specs.Late.{with_late, IsApart}
 use Rattle.gr_slots.proofs.late.enter_late.Goals as goal
 
