@@ -82,7 +82,7 @@ turned_all deed p q told n h e = record {
 }
 
 -- no turn more
-pub turned_some : {X : Type 0} (deed : X → Deed) (p q : List Place) (told : List X) (n : ℕ) → Turned deed p q told n → n ≤ length p
+pub turned_some : {X : Type 0} (deed : X → Deed) (p q : List Place) (told : List X) (n : ℕ) → Turned deed p q told n → n < length p
     → TurnsSome deed p q
 turned_some deed p q told n h b = record {
   many = h.count;

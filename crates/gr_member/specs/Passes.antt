@@ -60,11 +60,11 @@ pub record TurnsAll {X : Type 0} (deed : X → Deed) (p : List Place) (told : Li
   pub each : (k : ℕ) (x : X) (s : Place) → k < length p
       → Adds (slice_index_or p k s) (deed (slice_index_or told k x)) (slice_index_or q k s)
 
--- At the first shards a deed was added each, of what was told there, and at the others none.
+-- At the first shards, but not at all, a deed was added each, of what was told there, and at the others none.
 pub record TurnsSome {X : Type 0} (deed : X → Deed) (p q : List Place) : Type 0 where
   pub many : length q ≡ length p
   pub told : List X
-  pub upto : length told ≤ length p
+  pub upto : length told < length p
   pub each : (k : ℕ) (x : X) (s : Place) → k < length told
       → Adds (slice_index_or p k s) (deed (slice_index_or told k x)) (slice_index_or q k s)
   pub others : (k : ℕ) (s : Place) → length told ≤ k → k < length p → Looks (slice_index_or p k s) (slice_index_or q k s)

@@ -1,5 +1,6 @@
-// What goes from shard to shard.
-ghost use Rattle.std.specs.Prelude.{◌≡◌, true, false, IfOk, OnErr};
+// What goes from shard to shard. The room for answers is made before the first turn, so that none can be
+// refused once its deed is there.
+ghost use Rattle.std.specs.Prelude.{◌≡◌, ◌≤◌, vec_len, true, false, IfOk, OnErr};
 ghost use Rattle.gr_history.specs.declared.deed.Deed.TheVariants as deed;
 ghost use Rattle.gr_member.specs.Passes.{AreTheirs, StaysAll, LooksAll, TurnsAll, TurnsSome, SweepsAll, AreReadyBy, OneWaitsBy};
 
@@ -21,17 +22,18 @@ pub(crate) fn query_each<R: Wait + Sync>(
     seq: u32,
     ask: &QueryAsk,
 ) -> Result<QueryReplyList, Memory>
-    requires { AreTheirs locks.now shards.old.items }
+    requires its { AreTheirs locks.now shards.old.items }
+    requires some { 1 ≤ vec_len shards.old }
     ensures stays { StaysAll shards.old.items shards.new.items }
     ensures done { IfOk result (λ replies. TurnsAll (λ reply. deed.Asked client seq ask.now reply) shards.old.items replies shards.new.items) }
     ensures refused { OnErr result (TurnsSome (λ reply. deed.Asked client seq ask.now reply) shards.old.items shards.new.items) }
 {
-    let mut replies = QueryReplyList::new(alloc)?;
+    let mut replies = Vec::with_capacity(alloc, shards.len())?;
     for k in 0..shards.len() {
         let reply = shards[k].query(rt, alloc, &locks[k], client, seq, ask)?;
-        replies.push(reply)?;
+        replies.push_reserved(reply);
     }
-    Ok(replies)
+    Ok(QueryReplyList::from_vec(replies))
 }
 
 pub(crate) fn report_each<R: Wait + Sync>(
@@ -40,17 +42,18 @@ pub(crate) fn report_each<R: Wait + Sync>(
     locks: &[TurnLock<Replica>],
     shards: &mut Vec<ShardPass>,
 ) -> Result<ReportList, Memory>
-    requires { AreTheirs locks.now shards.old.items }
+    requires its { AreTheirs locks.now shards.old.items }
+    requires some { 1 ≤ vec_len shards.old }
     ensures stays { StaysAll shards.old.items shards.new.items }
     ensures done { IfOk result (λ reports. TurnsAll deed.Reported shards.old.items reports shards.new.items) }
     ensures refused { OnErr result (TurnsSome deed.Reported shards.old.items shards.new.items) }
 {
-    let mut reports = ReportList::new(alloc)?;
+    let mut reports = Vec::with_capacity(alloc, shards.len())?;
     for k in 0..shards.len() {
         let report = shards[k].report(rt, alloc, &locks[k])?;
-        reports.push(report)?;
+        reports.push_reserved(report);
     }
-    Ok(reports)
+    Ok(ReportList::from_vec(reports))
 }
 
 pub(crate) fn sweep_each<R: Wait + Sync>(
@@ -60,7 +63,8 @@ pub(crate) fn sweep_each<R: Wait + Sync>(
     shards: &mut Vec<ShardPass>,
     moment: u64,
 ) -> Result<u64, Memory>
-    requires { AreTheirs locks.now shards.old.items }
+    requires its { AreTheirs locks.now shards.old.items }
+    requires some { 1 ≤ vec_len shards.old }
     ensures stays { StaysAll shards.old.items shards.new.items }
     ensures done { IfOk result (λ count. SweepsAll moment count shards.old.items shards.new.items) }
     ensures refused { OnErr result (TurnsSome (deed.Swept moment) shards.old.items shards.new.items) }

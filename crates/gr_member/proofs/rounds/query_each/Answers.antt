@@ -1,15 +1,22 @@
-use Rattle.std.proofs.Common.{◌++◌, ◌∷◌, [], ◌<◌, length, refl, arith}
+use Rattle.std.proofs.Common.{List, [], ◌<◌, length, refl, sym, subst, arith}
 use Rattle.gr_history.specs.declared.deed.Deed.TheVariants.{Asked}
+use Rattle.gr_member.specs.Passes.{TurnsAll}
 use Rattle.gr_member.proofs.Going.{turned_none, turned_more, turned_stays, turned_all, turned_refused, turned_some, turned_until, on_err}
 use Rattle.gr_member.proofs.rounds.query_each.Goals as goal
 
 pub returns-in_err-replies-clause-refused : goal.returns-in_err-replies-clause-refused
-returns-in_err-replies-clause-refused g c = on_err c.from_residual.result _
+returns-in_err-replies-clause-refused g c =
+    let ok = c.args.shards.now.ok in
+    let some = c.requires.some in
+    on_err c.from_residual.result _
     (turned_some (Asked c.args.client c.args.seq c.args.ask.now) c.args.shards.now.items c.args.shards.now.items [] 0
     (turned_none (Asked c.args.client c.args.seq c.args.ask.now) c.args.shards.now.items [] refl) (omega arith))
 
 pub loop-k-init : goal.loop-k-init
-loop-k-init g c = turned_none (Asked c.args.client c.args.seq c.args.ask.now) c.args.shards.now.items _ c.in_ok-replies.ensures
+loop-k-init g c = record {
+  held = let room = c.in_ok-replies.ensures.capacity in let long = c.len.ensures in omega arith;
+  turned = turned_none (Asked c.args.client c.args.seq c.args.ask.now) c.args.shards.now.items _ c.in_ok-replies.ensures.items;
+}
 
 pub loop-k-preserved : goal.loop-k-preserved
 loop-k-preserved g c =
@@ -17,9 +24,22 @@ loop-k-preserved g c =
     let end = c.len-k-end.ensures in
     let test = c.loop-k-test.true in
     let below : c.loop-k.k < length c.args.shards.now.items = omega arith in
-    turned_more (Asked c.args.client c.args.seq c.args.ask.now) c.args.shards.now.items c.loop-k.shards.items c.loop-k.replies
-    c.push.new.self c.loop-k.k c.in_ok-reply.reply c.index_mut.result.now c.query.new.self below
-    c.loop-k.invariant c.index_mut.ensures.value c.in_ok-push.ensures.ok c.in_ok-reply.ensures.done
+    record {
+      held = let room = c.loop-k.invariant.held in let same = c.push_reserved.ensures.capacity in omega arith;
+      turned = turned_more (Asked c.args.client c.args.seq c.args.ask.now) c.args.shards.now.items c.loop-k.shards.items c.loop-k.replies.items
+          c.push_reserved.new.self.items c.loop-k.k c.in_ok-reply.reply c.index_mut.result.now c.query.new.self below
+          c.loop-k.invariant.turned c.index_mut.ensures.value c.push_reserved.ensures.items c.in_ok-reply.ensures.done;
+    }
+
+pub push_reserved-requires : goal.push_reserved-requires
+push_reserved-requires g c =
+    let ok = c.args.shards.now.ok in
+    let mine = c.loop-k.replies.ok in
+    let end = c.len-k-end.ensures in
+    let test = c.loop-k-test.true in
+    let room = c.loop-k.invariant.held in
+    let many = c.loop-k.invariant.turned.told_so_far in
+    omega arith
 
 pub returns-in_err-reply-clause-stays : goal.returns-in_err-reply-clause-stays
 returns-in_err-reply-clause-stays g c =
@@ -27,8 +47,8 @@ returns-in_err-reply-clause-stays g c =
     let end = c.len-k-end.ensures in
     let test = c.loop-k-test.true in
     let below : c.loop-k.k < length c.args.shards.now.items = omega arith in
-    turned_refused (Asked c.args.client c.args.seq c.args.ask.now) c.args.shards.now.items c.loop-k.shards.items c.loop-k.replies c.loop-k.k
-    c.index_mut.result.now c.query.new.self below c.loop-k.invariant
+    turned_refused (Asked c.args.client c.args.seq c.args.ask.now) c.args.shards.now.items c.loop-k.shards.items c.loop-k.replies.items c.loop-k.k
+    c.index_mut.result.now c.query.new.self below c.loop-k.invariant.turned
     c.index_mut.ensures.value c.query.ensures.stays
 
 pub returns-in_err-reply-clause-refused : goal.returns-in_err-reply-clause-refused
@@ -38,34 +58,12 @@ returns-in_err-reply-clause-refused g c =
     let test = c.loop-k-test.true in
     let below : c.loop-k.k < length c.args.shards.now.items = omega arith in
     on_err c.from_residual-in_err-reply.result _ (turned_until (Asked c.args.client c.args.seq c.args.ask.now) c.args.shards.now.items
-    c.loop-k.shards.items c.loop-k.replies c.loop-k.k c.index_mut.result.now c.query.new.self below c.loop-k.invariant
+    c.loop-k.shards.items c.loop-k.replies.items c.loop-k.k c.index_mut.result.now c.query.new.self below c.loop-k.invariant.turned
     c.index_mut.ensures.value c.in_err-reply.ensures.refused)
-
-pub returns-in_err-push-clause-stays : goal.returns-in_err-push-clause-stays
-returns-in_err-push-clause-stays g c =
-    let ok = c.args.shards.now.ok in
-    let end = c.len-k-end.ensures in
-    let test = c.loop-k-test.true in
-    let below : c.loop-k.k < length c.args.shards.now.items = omega arith in
-    turned_refused (Asked c.args.client c.args.seq c.args.ask.now) c.args.shards.now.items c.loop-k.shards.items c.loop-k.replies c.loop-k.k
-    c.index_mut.result.now c.query.new.self below c.loop-k.invariant
-    c.index_mut.ensures.value c.query.ensures.stays
-
-pub returns-in_err-push-clause-refused : goal.returns-in_err-push-clause-refused
-returns-in_err-push-clause-refused g c =
-    let ok = c.args.shards.now.ok in
-    let end = c.len-k-end.ensures in
-    let test = c.loop-k-test.true in
-    let below : c.loop-k.k < length c.args.shards.now.items = omega arith in
-    on_err c.from_residual-in_err-push.result _ (turned_some (Asked c.args.client c.args.seq c.args.ask.now) c.args.shards.now.items _
-    (c.loop-k.replies ++ c.in_ok-reply.reply ∷ []) _
-    (turned_more (Asked c.args.client c.args.seq c.args.ask.now) c.args.shards.now.items c.loop-k.shards.items c.loop-k.replies _ c.loop-k.k
-    c.in_ok-reply.reply c.index_mut.result.now c.query.new.self below
-    c.loop-k.invariant c.index_mut.ensures.value refl c.in_ok-reply.ensures.done) (omega arith))
 
 pub returns-clause-stays : goal.returns-clause-stays
 returns-clause-stays g c = turned_stays (Asked c.args.client c.args.seq c.args.ask.now) c.args.shards.now.items c.loop-k.shards.items
-    c.loop-k.replies c.loop-k.k c.loop-k.invariant
+    c.loop-k.replies.items c.loop-k.k c.loop-k.invariant.turned
 
 pub returns-clause-done : goal.returns-clause-done
 returns-clause-done g c =
@@ -73,5 +71,6 @@ returns-clause-done g c =
     let end = c.len-k-end.ensures in
     let test = c.loop-k-test.false in
     let upto = c.loop-k.auto.k-end in
-    turned_all (Asked c.args.client c.args.seq c.args.ask.now) c.args.shards.now.items c.loop-k.shards.items c.loop-k.replies c.loop-k.k
-    c.loop-k.invariant (omega arith)
+    subst (λ (told : List _). TurnsAll (Asked c.args.client c.args.seq c.args.ask.now) c.args.shards.now.items told c.loop-k.shards.items) (sym c.from_vec.ensures)
+    (turned_all (Asked c.args.client c.args.seq c.args.ask.now) c.args.shards.now.items c.loop-k.shards.items c.loop-k.replies.items c.loop-k.k
+    c.loop-k.invariant.turned (omega arith))

@@ -1,15 +1,22 @@
-use Rattle.std.proofs.Common.{◌++◌, ◌∷◌, [], ◌<◌, length, refl, arith}
+use Rattle.std.proofs.Common.{List, [], ◌<◌, length, refl, sym, subst, arith}
 use Rattle.gr_history.specs.declared.deed.Deed.TheVariants.{Reported}
+use Rattle.gr_member.specs.Passes.{TurnsAll}
 use Rattle.gr_member.proofs.Going.{turned_none, turned_more, turned_stays, turned_all, turned_refused, turned_some, turned_until, on_err}
 use Rattle.gr_member.proofs.rounds.report_each.Goals as goal
 
 pub returns-in_err-reports-clause-refused : goal.returns-in_err-reports-clause-refused
-returns-in_err-reports-clause-refused g c = on_err c.from_residual.result _
-    (turned_some Reported c.args.shards.now.items c.args.shards.now.items [] 0 (turned_none Reported c.args.shards.now.items [] refl)
-    (omega arith))
+returns-in_err-reports-clause-refused g c =
+    let ok = c.args.shards.now.ok in
+    let some = c.requires.some in
+    on_err c.from_residual.result _
+    (turned_some Reported c.args.shards.now.items c.args.shards.now.items [] 0
+    (turned_none Reported c.args.shards.now.items [] refl) (omega arith))
 
 pub loop-k-init : goal.loop-k-init
-loop-k-init g c = turned_none Reported c.args.shards.now.items _ c.in_ok-reports.ensures
+loop-k-init g c = record {
+  held = let room = c.in_ok-reports.ensures.capacity in let long = c.len.ensures in omega arith;
+  turned = turned_none Reported c.args.shards.now.items _ c.in_ok-reports.ensures.items;
+}
 
 pub loop-k-preserved : goal.loop-k-preserved
 loop-k-preserved g c =
@@ -17,9 +24,22 @@ loop-k-preserved g c =
     let end = c.len-k-end.ensures in
     let test = c.loop-k-test.true in
     let below : c.loop-k.k < length c.args.shards.now.items = omega arith in
-    turned_more Reported c.args.shards.now.items c.loop-k.shards.items c.loop-k.reports c.push.new.self c.loop-k.k c.in_ok-report.report
-    c.index_mut.result.now c.report.new.self below
-    c.loop-k.invariant c.index_mut.ensures.value c.in_ok-push.ensures.ok c.in_ok-report.ensures.done
+    record {
+      held = let room = c.loop-k.invariant.held in let same = c.push_reserved.ensures.capacity in omega arith;
+      turned = turned_more Reported c.args.shards.now.items c.loop-k.shards.items c.loop-k.reports.items
+          c.push_reserved.new.self.items c.loop-k.k c.in_ok-report.report c.index_mut.result.now c.report.new.self below
+          c.loop-k.invariant.turned c.index_mut.ensures.value c.push_reserved.ensures.items c.in_ok-report.ensures.done;
+    }
+
+pub push_reserved-requires : goal.push_reserved-requires
+push_reserved-requires g c =
+    let ok = c.args.shards.now.ok in
+    let mine = c.loop-k.reports.ok in
+    let end = c.len-k-end.ensures in
+    let test = c.loop-k-test.true in
+    let room = c.loop-k.invariant.held in
+    let many = c.loop-k.invariant.turned.told_so_far in
+    omega arith
 
 pub returns-in_err-report-clause-stays : goal.returns-in_err-report-clause-stays
 returns-in_err-report-clause-stays g c =
@@ -27,8 +47,8 @@ returns-in_err-report-clause-stays g c =
     let end = c.len-k-end.ensures in
     let test = c.loop-k-test.true in
     let below : c.loop-k.k < length c.args.shards.now.items = omega arith in
-    turned_refused Reported c.args.shards.now.items c.loop-k.shards.items c.loop-k.reports c.loop-k.k c.index_mut.result.now
-    c.report.new.self below c.loop-k.invariant
+    turned_refused Reported c.args.shards.now.items c.loop-k.shards.items c.loop-k.reports.items c.loop-k.k
+    c.index_mut.result.now c.report.new.self below c.loop-k.invariant.turned
     c.index_mut.ensures.value c.report.ensures.stays
 
 pub returns-in_err-report-clause-refused : goal.returns-in_err-report-clause-refused
@@ -37,35 +57,13 @@ returns-in_err-report-clause-refused g c =
     let end = c.len-k-end.ensures in
     let test = c.loop-k-test.true in
     let below : c.loop-k.k < length c.args.shards.now.items = omega arith in
-    on_err c.from_residual-in_err-report.result _ (turned_until Reported c.args.shards.now.items c.loop-k.shards.items c.loop-k.reports
-    c.loop-k.k c.index_mut.result.now c.report.new.self below c.loop-k.invariant
+    on_err c.from_residual-in_err-report.result _ (turned_until Reported c.args.shards.now.items
+    c.loop-k.shards.items c.loop-k.reports.items c.loop-k.k c.index_mut.result.now c.report.new.self below c.loop-k.invariant.turned
     c.index_mut.ensures.value c.in_err-report.ensures.refused)
 
-pub returns-in_err-push-clause-stays : goal.returns-in_err-push-clause-stays
-returns-in_err-push-clause-stays g c =
-    let ok = c.args.shards.now.ok in
-    let end = c.len-k-end.ensures in
-    let test = c.loop-k-test.true in
-    let below : c.loop-k.k < length c.args.shards.now.items = omega arith in
-    turned_refused Reported c.args.shards.now.items c.loop-k.shards.items c.loop-k.reports c.loop-k.k c.index_mut.result.now
-    c.report.new.self below c.loop-k.invariant
-    c.index_mut.ensures.value c.report.ensures.stays
-
-pub returns-in_err-push-clause-refused : goal.returns-in_err-push-clause-refused
-returns-in_err-push-clause-refused g c =
-    let ok = c.args.shards.now.ok in
-    let end = c.len-k-end.ensures in
-    let test = c.loop-k-test.true in
-    let below : c.loop-k.k < length c.args.shards.now.items = omega arith in
-    on_err c.from_residual-in_err-push.result _ (turned_some Reported c.args.shards.now.items _ (c.loop-k.reports ++ c.in_ok-report.report ∷
-    []) _
-    (turned_more Reported c.args.shards.now.items c.loop-k.shards.items c.loop-k.reports _ c.loop-k.k c.in_ok-report.report
-    c.index_mut.result.now c.report.new.self below
-    c.loop-k.invariant c.index_mut.ensures.value refl c.in_ok-report.ensures.done) (omega arith))
-
 pub returns-clause-stays : goal.returns-clause-stays
-returns-clause-stays g c = turned_stays Reported c.args.shards.now.items c.loop-k.shards.items c.loop-k.reports c.loop-k.k
-    c.loop-k.invariant
+returns-clause-stays g c = turned_stays Reported c.args.shards.now.items c.loop-k.shards.items
+    c.loop-k.reports.items c.loop-k.k c.loop-k.invariant.turned
 
 pub returns-clause-done : goal.returns-clause-done
 returns-clause-done g c =
@@ -73,4 +71,6 @@ returns-clause-done g c =
     let end = c.len-k-end.ensures in
     let test = c.loop-k-test.false in
     let upto = c.loop-k.auto.k-end in
-    turned_all Reported c.args.shards.now.items c.loop-k.shards.items c.loop-k.reports c.loop-k.k c.loop-k.invariant (omega arith)
+    subst (λ (told : List _). TurnsAll Reported c.args.shards.now.items told c.loop-k.shards.items) (sym c.from_vec.ensures)
+    (turned_all Reported c.args.shards.now.items c.loop-k.shards.items c.loop-k.reports.items c.loop-k.k
+    c.loop-k.invariant.turned (omega arith))
