@@ -218,7 +218,7 @@ impl Shard {
 
     /// Merges an image that another member gave of this shard, and adds that to the history. From then
     /// on calls are answered here. Each row and each slot takes the logarithm of the slots, or of the
-    /// ranges that the image's vector lacks.
+    /// blocks of the image's vector.
     pub fn merge(&mut self, alloc: Global, image: &Image) -> Result<(), Memory>
         requires { IsImageFor self.old.id image.now }
         ensures added { OnOk result (self.new ≡ after_deed self.old (deed.Imaged image.now)) }
