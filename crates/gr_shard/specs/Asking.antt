@@ -1,5 +1,5 @@
 -- What a client is answered by what a shard keeps.
-use Rattle.std.specs.Prelude.{◌≡◌, ℕ, List, Bool, true, false, Option, Some, None, option_map}
+use Rattle.std.specs.Prelude.{◌≡◌, ℕ, List, Bool, true, false, Option, Some, None, option_map, unwrap_or}
 use Rattle.std.specs.List.{filter_map}
 use Rattle.gr_stamp.specs.Winner.{put_value}
 use Rattle.gr_oql.specs.Events.{where_matching}
@@ -36,6 +36,11 @@ refusal Unknown = Some reply.Unknown
 refusal Taken = Some reply.Taken
 refusal NotRunning = Some reply.NotRunning
 refusal Memory = None
+
+-- what is answered where this refuses, and else this
+abbrev pub refused_or : Option QueryEnd → QueryReply → QueryReply
+refused_or None granted = granted
+refused_or (Some end) granted = unwrap_or (refusal end) granted
 
 -- what is answered where a query is to be stopped, or closed, by whether it runs, if it is open
 abbrev pub stop_said : Option Bool → QueryReply

@@ -1,6 +1,7 @@
 -- The open queries of a shard, and what keeps them in step with its history.
-use Rattle.std.specs.Prelude.{◌≡◌, ℕ, List, [], ◌∷◌, Bool, true, false, Option, Some, None, if◌then◌else◌}
+use Rattle.std.specs.Prelude.{◌≡◌, ℕ, List, [], ◌∷◌, Bool, true, false, Option, Some, None, option_map, if◌then◌else◌}
 use Rattle.gr_oql.specs.declared.event.Event.{Event}
+use Rattle.gr_cq.specs.Ends.{enrol_end, known_end, waiting_of}
 use Rattle.gr_cq.specs.Entries.{Kept, Entry, find, enrolled, changed_at, kept_stopped, kept_taken, closed, noted}
 use Rattle.gr_history.specs.declared.query_ask.QueryAsk.{QueryAsk}
 use Rattle.gr_history.specs.declared.query_ask.QueryAsk.TheVariants.{Enrol, Stop, Close, Fetch}
@@ -10,7 +11,12 @@ use Rattle.gr_history.specs.declared.query_reply.Row.{Row}
 use Rattle.gr_history.specs.declared.deed.Deed.{Deed}
 use Rattle.gr_history.specs.declared.deed.Deed.TheVariants as deeds
 use Rattle.gr_history.specs.Turned.{turned}
+use Rattle.gr_shard.specs.Asking.{close_said, refused_or, stop_said}
 use Rattle.gr_history.specs.Queries.{State, Neither, Running, Halted, state, asked_of, waiting, rows_of}
+
+-- whether a query that is found runs
+abbrev pub runs_in : Option Kept → Option Bool
+runs_in found = option_map (λ kept. kept.runs) found
 
 -- what is kept of a query in this state, with these waiting events
 abbrev pub kept_in : State → List Event → Option Kept
@@ -27,22 +33,6 @@ IsInStep entries past =
 abbrev pub IsUnasked : Deed → Type 0
 IsUnasked deed = (client : ℕ) (name : List ℕ) → asked_of client name deed ≡ None
 
-abbrev pub enrol_reply : List Row → Option Kept → QueryReply
-enrol_reply rows None = reply.Opened rows
-enrol_reply rows (Some kept) = reply.Taken
-
-abbrev pub stop_reply : Option Kept → QueryReply
-stop_reply None = reply.Unknown
-stop_reply (Some kept) = if kept.runs then reply.Stopped else reply.NotRunning
-
-abbrev pub close_reply : Option Kept → QueryReply
-close_reply None = reply.Unknown
-close_reply (Some kept) = reply.Closed
-
-abbrev pub fetch_reply : Option Kept → QueryReply
-fetch_reply None = reply.Unknown
-fetch_reply (Some kept) = reply.Fetched kept.waiting
-
 -- the rows of a query that is opened
 abbrev pub rows_of_ask : QueryAsk → List Deed → List Row
 rows_of_ask (Enrol name question) past = rows_of question past
@@ -52,10 +42,10 @@ rows_of_ask (Fetch name) past = []
 
 -- what is answered by the query that is found; the rows are those of a query that is opened
 abbrev pub reply_by : QueryAsk → List Row → Option Kept → QueryReply
-reply_by (Enrol name question) rows found = enrol_reply rows found
-reply_by (Stop name) rows found = stop_reply found
-reply_by (Close name) rows found = close_reply found
-reply_by (Fetch name) rows found = fetch_reply found
+reply_by (Enrol name question) rows found = refused_or (enrol_end found) (reply.Opened rows)
+reply_by (Stop name) rows found = stop_said (runs_in found)
+reply_by (Close name) rows found = close_said (runs_in found)
+reply_by (Fetch name) rows found = refused_or (known_end found) (reply.Fetched (waiting_of found))
 
 -- one list where a query is found, and another where none is
 abbrev pub where_found : Option Kept → List Entry → List Entry → List Entry

@@ -1,4 +1,4 @@
-ghost use Rattle.std.specs.Prelude.{◌≡◌, ◌≤◌, ◌+◌, List, Some, IfOk, OnOk, OnErr, option_map};
+ghost use Rattle.std.specs.Prelude.{◌≡◌, ◌≤◌, ◌+◌, List, [], Some, IfOk, OnOk, OnErr, option_map};
 ghost use Rattle.gr_cq.specs.Entries.{find};
 ghost use Rattle.gr_history.specs.declared.deed.Deed.{Deed};
 ghost use Rattle.gr_history.specs.declared.query_ask.QueryAsk.TheVariants as asks;
@@ -6,7 +6,7 @@ ghost use Rattle.gr_history.specs.Queries.{name_of, rows_of};
 ghost use Rattle.gr_shard.specs.declared.effect.QueriesAfter.TheVariants as queries_;
 ghost use Rattle.gr_shard.specs.Asking.{Hold, close_said, refusal, stop_said, twice};
 ghost use Rattle.gr_shard.specs.Effects.{IsMadeAt, needs, queries_after};
-ghost use Rattle.gr_shard.specs.InStep.{rows_of_ask, reply_by, enrol_reply, stop_reply, close_reply, fetch_reply, served};
+ghost use Rattle.gr_shard.specs.InStep.{rows_of_ask, reply_by, runs_in, served};
 
 use crate::committing::carry_out;
 use crate::effect::QueriesAfter;
@@ -86,7 +86,7 @@ fn enrol(
     ensures entries { queries.new.entries ≡ queries.old.entries }
     ensures grows { queries.old.spare ≤ queries.new.spare }
     ensures replies { IfOk result (λ told. (past : List Deed) → Hold slots.now.entries past
-        → told.replies ≡ twice (enrol_reply (rows_of query.now past) (find client name.now queries.old.entries))) }
+        → told.replies ≡ twice (reply_by (asks.Enrol name.now query.now) (rows_of query.now past) (find client name.now queries.old.entries))) }
     ensures after { IfOk result
         (λ told. queries_after told.after queries.old.entries ≡ served client (asks.Enrol name.now query.now) queries.old.entries) }
     ensures made { IfOk result (λ told. IsMadeAt queries.old.entries told.after) }
@@ -115,7 +115,7 @@ fn enrol(
 
 // Stops a query. Its waiting events stay.
 fn stop(alloc: Global, queries: &Registry, client: u8, name: &Key) -> Result<Foretold, Memory>
-    ensures replies { IfOk result (λ told. told.replies ≡ twice (stop_reply (find client name.now queries.now.entries))) }
+    ensures replies { IfOk result (λ told. told.replies ≡ twice (stop_said (runs_in (find client name.now queries.now.entries)))) }
     ensures after { IfOk result
         (λ told. queries_after told.after queries.now.entries ≡ served client (asks.Stop name.now) queries.now.entries) }
     ensures made { IfOk result (λ told. IsMadeAt queries.now.entries told.after) }
@@ -147,7 +147,7 @@ fn stop_said(runs: Option<bool>) -> QueryReply
 
 // Closes a query and drops its waiting events.
 fn close(alloc: Global, queries: &Registry, client: u8, name: &Key) -> Result<Foretold, Memory>
-    ensures replies { IfOk result (λ told. told.replies ≡ twice (close_reply (find client name.now queries.now.entries))) }
+    ensures replies { IfOk result (λ told. told.replies ≡ twice (close_said (runs_in (find client name.now queries.now.entries)))) }
     ensures after { IfOk result
         (λ told. queries_after told.after queries.now.entries ≡ served client (asks.Close name.now) queries.now.entries) }
     ensures made { IfOk result (λ told. IsMadeAt queries.now.entries told.after) }
@@ -180,7 +180,7 @@ fn close_said(runs: Option<bool>) -> QueryReply
 fn fetch(alloc: Global, queries: &mut Registry, client: u8, name: &Key) -> Result<Foretold, Memory>
     ensures entries { queries.new.entries ≡ queries.old.entries }
     ensures grows { queries.old.spare ≤ queries.new.spare }
-    ensures replies { IfOk result (λ told. told.replies ≡ twice (fetch_reply (find client name.now queries.old.entries))) }
+    ensures replies { IfOk result (λ told. told.replies ≡ twice (reply_by (asks.Fetch name.now) [] (find client name.now queries.old.entries))) }
     ensures after { IfOk result
         (λ told. queries_after told.after queries.old.entries ≡ served client (asks.Fetch name.now) queries.old.entries) }
     ensures made { IfOk result (λ told. IsMadeAt queries.old.entries told.after) }
