@@ -8,10 +8,10 @@ use Rattle.gr_history.specs.declared.deed.Deed.{Deed}
 use Rattle.std.proofs.lemmas.List.Sums.{sum_by_push}
 use Rattle.std.specs.Prelude.{◌-◌, ◌^◌, min, sum_by, Result, Ok, Err, OnErr}
 use Rattle.gr_history.specs.declared.deed.Deed.TheVariants.{Swept}
-use Rattle.gr_member.specs.Seats.{Place, Stays, Looks, Adds, Meets}
+use Rattle.gr_member.specs.Seats.{Place, Stays, Looks, LooksUp, Adds, Meets}
 use Rattle.gr_member.specs.declared.replica.Origin.{Origin}
 use Rattle.gr_member.specs.Bases.{IsReadyBy}
-use Rattle.gr_member.specs.Passes.{StaysAll, LooksAll, TurnsAll, TurnsSome, SweepsAll, MeetsAll, AreReadyBy, OneWaitsBy}
+use Rattle.gr_member.specs.Passes.{StaysAll, LooksAll, LooksUpAll, TurnsAll, TurnsSome, SweepsAll, MeetsAll, AreReadyBy, OneWaitsBy}
 use Rattle.gr_member.proofs.Passing.{stays_same, looks_same}
 
 -- after n shards: a deed was added at each of them, of what was told there, and nothing at the others
@@ -281,3 +281,31 @@ met_more p r q rest less n o t x e l b h f a =
 
 pub met_all : (p r q rest : List Place) → Met p r q rest → length rest ≡ 0 → MeetsAll p r q
 met_all p r q rest h e = record { many = h.count; each = λ k s t b. h.met k s t (omega arith) b }
+
+-- after n shards, at each of which the eye went to all that is published
+pub record LookedUp (p q : List Place) (n : ℕ) : Type 0 where
+  pub count : length q ≡ length p
+  pub done : (j : ℕ) (s : Place) → j < n → LooksUp (get_or p j s) (get_or q j s)
+  pub others : (j : ℕ) (s : Place) → n ≤ j → get_or q j s ≡ get_or p j s
+
+pub up_none : (p : List Place) → LookedUp p p 0
+up_none p = record { count = refl; done = λ j s b. absurd (omega arith); others = λ j s b. refl }
+
+pub up_more : (p q : List Place) (n : ℕ) (o t : Place) → n < length p → LookedUp p q n → o ≡ get_or q n o → LooksUp o t
+    → LookedUp p (set q n t) (n + 1)
+up_more p q n o t b h r a =
+    let c : n < length q = subst (λ (i : ℕ). n < i) (sym h.count) b in
+    let first : (s : Place) → o ≡ get_or p n s = first_seat p q n o c r (λ s. h.others n s (omega arith)) in
+    record {
+      count = length-set q n t ∙ h.count;
+      done = λ j s d. dite (ℕ_discrete j n)
+          (λ (e : j ≡ n). subst (λ (i : ℕ). LooksUp (get_or p i s) (get_or (set q n t) i s)) (sym e)
+          (subst (LooksUp (get_or p n s)) (sym (get_or-set_same q n t s c)) (subst (λ (z : Place). LooksUp z t) (first s) a)))
+          (λ (ne : j ≢ n).
+          let f : j < n = omega arith in
+          subst (LooksUp (get_or p j s)) (sym (get_or-set_other q n j t s ne)) (h.done j s f));
+      others = λ j s d. get_or-set_other q n j t s (λ (e : j ≡ n). omega arith) ∙ h.others j s (omega arith);
+    }
+
+pub up_all : (p q : List Place) (n : ℕ) → LookedUp p q n → n ≡ length p → LooksUpAll p q
+up_all p q n h e = record { many = h.count; each = λ k s b. h.done k s (omega arith) }

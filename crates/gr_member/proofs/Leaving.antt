@@ -13,12 +13,11 @@ use Rattle.gr_history.specs.declared.identity.Identity.{Identity}
 use Rattle.gr_history.specs.Lawful.{IsLawful, IsOfShard}
 use Rattle.gr_history.specs.Recipients.{NamesMembers}
 use Rattle.gr_history.specs.Regions.{IsRegionOf}
-use Rattle.gr_shard.specs.View.{Account}
-use Rattle.gr_shard.specs.Records.{IsRecordOf}
-use Rattle.gr_member.specs.Replicas.{origin_in}
 use Rattle.gr_member.specs.Plans.{identity_of}
-use Rattle.gr_member.specs.Seats.{Place, nowhere, seat_in}
+use Rattle.gr_member.specs.Replicas.{Replicated}
+use Rattle.gr_member.specs.Seats.{Place}
 use Rattle.gr_member.specs.Passes.{House, IsPassOf, HaveAll}
+use Rattle.gr_member.proofs.Passing.{lock_at}
 use Rattle.gr_member.specs.Left.{IsEndOf, IsLeftBy, IsOneMore, AreEndsOf, AreLeftBy}
 
 abbrev pub Ends : List Place → List ShardRecord → Type 0
@@ -88,38 +87,37 @@ pub left_by_pass : (house : House) (p : List Place) (left : MemberRecord) → Is
 left_by_pass house p left i m e = record {
   member = m;
   many = e.many;
-  each = λ k s r b. e.each k s r b (identity_of house.plan k) house.plan.floor (i.each k nowhere.lock s b).based;
+  each = λ k s r b. e.each k s r b (identity_of house.plan k) house.plan.floor (i.each k (lock_at s) s b).based;
 }
 
 pub empty_of : {X : Type 0} (xs : List X) → length xs ≡ 0 → xs ≡ []
 empty_of [] e = refl
 empty_of (x ∷ xs) e = absurd (omega arith)
 
-end_here : (s : Place) (x : Account) (left : ShardRecord) → StartsWith x.deeds s.view.seen → MadeAll s.view (length x.deeds)
-    → IsRecordOf x left
-    → IsLawful x.id x.opening (reverse x.deeds) → IsOfShard x.id (reverse x.deeds) → AllByRecursion (NamesMembers x.id) (reverse x.deeds)
-    → IsLeftBy x.id x.opening s left
-end_here s x left k m r l o n =
-    let e = sym r.deeds in
+end_here : (s : Place) (x : Replicated) (left : ShardRecord) → StartsWith x.deeds s.view.seen → MadeAll s.view (length x.deeds)
+    → left.history.deeds ≡ x.deeds → IsRegionOf x.origin.opening (reverse x.deeds) left.region
+    → IsLawful x.origin.id x.origin.opening (reverse x.deeds) → IsOfShard x.origin.id (reverse x.deeds)
+    → AllByRecursion (NamesMembers x.origin.id) (reverse x.deeds)
+    → IsLeftBy x.origin.id x.origin.opening s left
+end_here s x left k m d r l o n =
+    let e = sym d in
     record {
       seen = subst (λ (d : List Deed). StartsWith d s.view.seen) e k;
       made = subst (λ (d : List Deed). MadeAll s.view (length d)) e m;
-      lawful = subst (λ (d : List Deed). IsLawful x.id x.opening (reverse d)) e l;
-      of_shard = subst (λ (d : List Deed). IsOfShard x.id (reverse d)) e o;
-      named = subst (λ (d : List Deed). AllByRecursion (NamesMembers x.id) (reverse d)) e n;
-      region = subst (λ (d : List Deed). IsRegionOf x.opening (reverse d) left.region) e r.region;
+      lawful = subst (λ (d : List Deed). IsLawful x.origin.id x.origin.opening (reverse d)) e l;
+      of_shard = subst (λ (d : List Deed). IsOfShard x.origin.id (reverse d)) e o;
+      named = subst (λ (d : List Deed). AllByRecursion (NamesMembers x.origin.id) (reverse d)) e n;
+      region = subst (λ (d : List Deed). IsRegionOf x.origin.opening (reverse d) left.region) e r;
     }
 
 -- what is left of the shard that the seat's lock hands out
-pub end_of : {Y : Type 0} (o : Option Place) (pass s : Place) (x : Account) (r : Result ShardRecord Y) → o ≡ Some s → seat_in o ≡ pass
-    → s.view.base ≡ Some (origin_in x) → StartsWith x.deeds s.view.seen → MadeAll s.view (length x.deeds) → IfOk r (IsRecordOf x)
-    → OnOk r (IsLawful x.id x.opening (reverse x.deeds)) → OnOk r (IsOfShard x.id (reverse x.deeds))
-    → OnOk r (AllByRecursion (NamesMembers x.id) (reverse x.deeds)) → IfOk r (IsEndOf pass)
-end_of o pass s x (Ok left) e f b k m r l h n =
-    let p : s ≡ pass = ap seat_in (sym e) ∙ f in
-    λ id opening i.
-    let same = i (origin_in x) (subst (λ (z : Place). z.view.base ≡ Some (origin_in x)) p b) in
-    subst (λ (z : Place). IsLeftBy id opening z left) p
-    (subst (λ (q : Identity). IsLeftBy q opening s left) same.0
-    (subst (λ (q : ℕ). IsLeftBy x.id q s left) same.1 (end_here s x left k m r l h n)))
-end_of o pass s x (Err y) e f b k m r l h n = tt
+pub end_of : {Y : Type 0} (pass : Place) (x : Replicated) (r : Result ShardRecord Y) → pass.view.base ≡ Some x.origin
+    → StartsWith x.deeds pass.view.seen → MadeAll pass.view (length x.deeds) → IfOk r (λ left. left.history.deeds ≡ x.deeds)
+    → IfOk r (λ left. IsRegionOf x.origin.opening (reverse x.deeds) left.region)
+    → OnOk r (IsLawful x.origin.id x.origin.opening (reverse x.deeds)) → OnOk r (IsOfShard x.origin.id (reverse x.deeds))
+    → OnOk r (AllByRecursion (NamesMembers x.origin.id) (reverse x.deeds)) → IfOk r (IsEndOf pass)
+end_of pass x (Ok left) b k m d e l h n = λ id opening i.
+    let same = i x.origin b in
+    subst (λ (q : Identity). IsLeftBy q opening pass left) same.0
+    (subst (λ (q : ℕ). IsLeftBy x.origin.id q pass left) same.1 (end_here pass x left k m d e l h n))
+end_of pass x (Err y) b k m d e l h n = tt

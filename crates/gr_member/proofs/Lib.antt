@@ -1,5 +1,9 @@
+pub mod Watching
 pub mod Passing
 pub mod Turning
+pub mod Publishing
+pub mod Acting
 pub mod Going
 pub mod Dealt
+pub mod Handing
 pub mod Leaving

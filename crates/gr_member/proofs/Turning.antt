@@ -1,122 +1,181 @@
--- What one turn leaves of a seat.
-use Rattle.std.proofs.Common.{◌≡◌, ℕ, ◌-◌, List, [], ◌∷◌, ◌++◌, length, reverse, Option, Some, sym, ap, ◌∙◌, subst, arith, length-append}
-use Rattle.std.specs.Prelude.{◌<◌, ◌^◌, Result, Ok, Err, IfOk}
-use Rattle.std.specs.List.{AllByRecursion}
-use Rattle.std.specs.Option.{option_to_list}
-use Rattle.gr_value.specs.Shard.{shard_of}
-use Rattle.gr_stamp.specs.declared.change.Change.{Change}
-use Rattle.gr_history.specs.declared.done.Done.{Done}
-use Rattle.gr_member.specs.Bases.{IsKeyBy, NamesFew}
-use Rattle.gr_turn.specs.declared.view.View.{View}
-use Rattle.gr_value.specs.Lists.{StartsWith}
-use Rattle.gr_turn.specs.Views.{count_from, left_by, won_by, with_lost}
-use Rattle.gr_history.specs.declared.deed.Deed.{Deed}
-use Rattle.gr_member.specs.declared.replica.Origin.{Origin}
+-- What one turn leaves of a seat with its eye.
+use Rattle.std.proofs.Common.{◌≡◌, ℕ, ◌+◌, ◌-◌, ◌≤◌, List, [], ◌∷◌, ◌++◌, length, reverse, Option, Some, refl, sym, ap, ◌∙◌, subst, arith, length-append, append-nil, Bool, true, false, cond}
+use Rattle.std.specs.Prelude.{Result, Ok, Err, OnErr}
+use Rattle.std.proofs.Math.Dec.{leb}
+use Rattle.std.proofs.lemmas.List.{length-reverse}
+use Rattle.gr_peek_law.proofs.Shown.{count}
 use Rattle.atomic_table.specs.Seated.{TableId}
-use Rattle.gr_history.specs.declared.deed.Deed.TheVariants.{Gave}
-use Rattle.gr_history.specs.declared.image.Gift.{Gift}
-use Rattle.gr_history.specs.declared.image.What.{What}
-use Rattle.gr_history.specs.Gifts.{IsGiftOf}
-use Rattle.gr_shard.specs.Merges.{IsGiftFor}
-use Rattle.gr_shard.specs.View.{Account}
-use Rattle.gr_history.specs.declared.identity.Identity.{Identity}
-use Rattle.gr_history.specs.Room.{HasNoRoom}
-use Rattle.gr_member.specs.Replicas.{IsBaseOf, origin_in}
-use Rattle.gr_member.specs.Seats.{Place, AddsBehind, Gives, seat_in}
+use Rattle.gr_history.specs.declared.deed.Deed.{Deed}
+use Rattle.gr_oql.specs.declared.event.Turned.{Turned}
+use Rattle.gr_peek.specs.Entering.{Follows}
+use Rattle.gr_peek.specs.Views.{Watching}
+use Rattle.gr_peek_law.specs.Turns.{turned_each}
+use Rattle.gr_shard.specs.declared.next.Came.{Came}
+use Rattle.gr_shard.specs.declared.next.Next.{Next}
+use Rattle.gr_turn.specs.declared.view.View.{View}
+use Rattle.gr_turn.specs.Views.{Seated, IsAccounted, both, count_from, found, left_by, longer, won_by, with_lost}
+use Rattle.gr_value.specs.Lists.{StartsWith}
+use Rattle.gr_member.specs.declared.replica.Origin.{Origin}
+use Rattle.gr_member.specs.Replicas.{Replicated, Does, Watched, IsWatchOf}
+use Rattle.gr_member.specs.Seats.{Place, placed, seat_in, is_there, Stays, Looks, LooksUp, AddsBehind, Acts, Meets}
 
 one_more : {E : Type 0} (xs : List E) (d : E) → length (xs ++ d ∷ []) - length xs ≡ 1
 one_more xs d = let l = length-append xs (d ∷ []) in omega arith
 
--- a turn in which one deed was added
-pub adds_by : (s t : Place) (lost word : ℕ) (before after : List Deed) (d : Deed) → t.lock ≡ s.lock → StartsWith before s.view.seen
-    → after ≡ before ++ d ∷ [] → t.view ≡ left_by (won_by (with_lost s.view lost word) before) after → AddsBehind before s d t
-adds_by s t lost word before after d l k a e = record {
-  stays = record {
-    its = l;
-    based = ap (λ (v : View Deed Origin). v.base) e;
-    counted = ap (λ (v : View Deed Origin). v.seats) e;
-    began = ap (λ (v : View Deed Origin). v.opening) e;
-    numbers = ap (λ (v : View Deed Origin). v.parts) e;
-  };
-  known = k;
-  seen = ap (λ (v : View Deed Origin). v.seen) e ∙ a;
-  made = ap (λ (v : View Deed Origin). v.made) e
-      ∙ ap (λ (list : List Deed). s.view.made ++ count_from (length before) (length list - length before)) a
-      ∙ ap (λ (n : ℕ). s.view.made ++ count_from (length before) n) (one_more before d);
-}
+none_more : {E : Type 0} (xs : List E) → length xs - length xs ≡ 0
+none_more xs = omega arith
+
+-- the note of a turn is of the seat's copy
+pub turn_copy : (s : Seated Deed Origin) (x z : Replicated) (watch : Watched) → s.view.base ≡ Some x.origin → IsWatchOf s.view watch
+    → z.origin ≡ x.origin → z.origin.copy ≡ watch.eye.copy
+turn_copy s x z watch b h e = ap (λ (o : Origin). o.copy) e ∙ h.copied x.origin b
+
+-- One turn of the seat s: the value x was taken out with this view, and given back as z.
+pub record Turns (s t : Seated Deed Origin) (lock : TableId) (view : View Deed Origin) (x z : Replicated) : Type 0 where
+  pub its : lock ≡ s.lock
+  pub won : view ≡ won_by (with_lost s.view view.lost view.word) x.deeds
+  pub based : s.view.base ≡ Some x.origin
+  pub known : StartsWith x.deeds s.view.seen
+  pub back : t.lock ≡ lock
+  pub left : t.view ≡ left_by view z.deeds
+
+module _ (s t : Seated Deed Origin) (lock : TableId) (view : View Deed Origin) (x z : Replicated) (turns : Turns s t lock view x z) where
+  -- the view afterwards, by the view before
+  left_is : t.view ≡ left_by (won_by (with_lost s.view view.lost view.word) x.deeds) z.deeds
+  left_is = turns.left ∙ ap (λ (v : View Deed Origin). left_by v z.deeds) turns.won
+
+  pub turn_stays : (eye after : Watching) → Follows eye after → Stays (placed s eye) (placed t after)
+  turn_stays eye after f = record {
+    its = turns.back ∙ turns.its;
+    based = ap (λ (v : View Deed Origin). v.base) left_is;
+    counted = ap (λ (v : View Deed Origin). v.seats) left_is;
+    began = ap (λ (v : View Deed Origin). v.opening) left_is;
+    numbers = ap (λ (v : View Deed Origin). v.parts) left_is;
+    watches = f;
+  }
+
+  pub turn_won : t.view.won ≡ s.view.won + 1
+  turn_won = ap (λ (v : View Deed Origin). v.won) left_is
+
+  pub turn_seen : t.view.seen ≡ z.deeds
+  turn_seen = ap (λ (v : View Deed Origin). v.seen) left_is
+
+  -- a turn in which no deed was added
+  pub turn_looks : (eye after : Watching) → Follows eye after → z.deeds ≡ x.deeds → Looks (placed s eye) (placed t after)
+  turn_looks eye after f e = record {
+    stays = turn_stays eye after f;
+    seen = subst (λ (l : List Deed). StartsWith l s.view.seen) (sym (ap (λ (v : View Deed Origin). v.seen) left_is ∙ e)) turns.known;
+    made = ap (λ (v : View Deed Origin). v.made) left_is
+        ∙ ap (λ (list : List Deed). s.view.made ++ count_from (length x.deeds) (length list - length x.deeds)) e
+        ∙ ap (λ (n : ℕ). s.view.made ++ count_from (length x.deeds) n) (none_more x.deeds)
+        ∙ append-nil s.view.made;
+    won = let w = turn_won in omega arith;
+  }
+
+  -- a turn in which the eye went to all that is published
+  pub turn_up : (eye after : Watching) → Follows eye after → z.deeds ≡ x.deeds → after.known ≡ turned_each (reverse z.deeds)
+      → LooksUp (placed s eye) (placed t after)
+  turn_up eye after f e k = record {
+    looks = turn_looks eye after f e;
+    known = k ∙ ap (λ (l : List Deed). turned_each (reverse l)) (sym turn_seen);
+  }
+
+  -- a turn in which one deed was added
+  turn_adds : (d : Deed) (eye after : Watching) → Follows eye after → z.deeds ≡ x.deeds ++ d ∷ []
+      → AddsBehind x.deeds (placed s eye) d (placed t after)
+  turn_adds d eye after f e = record {
+    stays = turn_stays eye after f;
+    known = turns.known;
+    seen = ap (λ (v : View Deed Origin). v.seen) left_is ∙ e;
+    made = ap (λ (v : View Deed Origin). v.made) left_is
+        ∙ ap (λ (list : List Deed). s.view.made ++ count_from (length x.deeds) (length list - length x.deeds)) e
+        ∙ ap (λ (n : ℕ). s.view.made ++ count_from (length x.deeds) n) (one_more x.deeds d);
+  }
+
+  pub turn_acts : (to_do : Next) (came : Came) (eye after : Watching) → Follows eye after → Does x to_do came z
+      → Acts (placed s eye) to_do came (placed t after)
+  turn_acts to_do came eye after f d = record {
+    origin = x.origin;
+    based = turns.based;
+    before = x.deeds;
+    deed = d.deed;
+    adds = turn_adds d.deed eye after f d.added;
+    gives = d.gives;
+    named = d.named;
+  }
+
+  -- the note of the turn was kept
+  pub turn_kept : (old new : Watched) → IsWatchOf s.view old → new.noted ≡ turned_each (reverse z.deeds) → Follows old.eye new.eye
+      → IsWatchOf t.view new
+  turn_kept old new h n f = record {
+    copied = λ o e. h.copied o (sym (ap (λ (v : View Deed Origin). v.base) left_is) ∙ e) ∙ sym f.copy_is;
+    noted = n ∙ ap (λ (l : List Deed). turned_each (reverse l)) (sym (ap (λ (v : View Deed Origin). v.seen) left_is));
+  }
 
 -- the seat that was taken out is the one that the pass showed
-pub seat_is : (o r : Option Place) (s t : Place) → r ≡ Some s → r ≡ o → seat_in o ≡ t → s ≡ t
-seat_is o r s t a b e = ap seat_in (sym a ∙ b) ∙ e
+pub seat_is : (o r : Option (Seated Deed Origin)) (s : Seated Deed Origin) → r ≡ Some s → r ≡ o → seat_in o ≡ s
+seat_is o r s a b = ap seat_in (sym b ∙ a)
 
--- the base of the value that is lent
-pub base_here : (s t : Place) (x y : Account) → s ≡ t → s.view.base ≡ Some (origin_in x) → y ≡ x → t.view.base ≡ Some (origin_in y)
-base_here s t x y e b m = ap (λ (p : Place). p.view.base) (sym e) ∙ b ∙ ap (λ (a : Account). Some (origin_in a)) (sym m)
-
--- One turn: the seat s that the pass showed as self, the value x that it took out, which was lent as y and was z at the end.
-pub turn_adds : (s self t : Place) (lock : TableId) (view : View Deed Origin) (lost word : ℕ) (x y z : Account) (d : Deed) → s ≡ self
-    → lock ≡ s.lock → view ≡ won_by (with_lost s.view lost word) x.deeds → StartsWith x.deeds s.view.seen → y ≡ x
-    → z.deeds ≡ y.deeds ++ d ∷ []
-    → t.lock ≡ lock → t.view ≡ left_by view z.deeds → AddsBehind x.deeds self d t
-turn_adds s self t lock view lost word x y z d e l v k m a o f = subst (λ (p : Place). AddsBehind x.deeds p d t) e
-    (adds_by s t lost word x.deeds z.deeds d (o ∙ l) k (a ∙ ap (λ (c : Account). c.deeds ++ d ∷ []) m)
-    (f ∙ ap (λ (w : View Deed Origin). left_by w z.deeds) v))
-
--- the gift of the deeds before
-pub turn_gives : (self t : Place) (x y : Account) (to : ℕ) (what : What) (gift : Gift) (id : Identity) (opening : ℕ)
-    → AddsBehind x.deeds self (Gave to what) t
-    → self.view.base ≡ Some (origin_in y) → y ≡ x → IsGiftOf y.id.member y.opening (reverse y.deeds) what gift → IsGiftFor y.id gift
-    → HasNoRoom gift → IsBaseOf id opening self.view.base → Gives id opening self to what gift t
-turn_gives self t x y to what gift id opening a b m g f r h =
-    let same = h (origin_in y) b in
-    record {
-      before = x.deeds;
-      adds = a;
-      given = subst (λ (i : Identity). IsGiftOf i.member opening (reverse x.deeds) what gift) same.0
-          (subst (λ (o : ℕ). IsGiftOf y.id.member o (reverse x.deeds) what gift) same.1
-          (subst (λ (c : Account). IsGiftOf y.id.member y.opening (reverse c.deeds) what gift) m g));
-      fits = subst (λ (i : Identity). IsGiftFor i gift) same.0 f;
-      room = r;
-    }
-
-pub all_four : {X Y : Type 0} (r : Result X Y) (P : Type 0) (Q R S T : X → Type 0) → ((x : X) → P → Q x → R x → S x → T x)
-    → IfOk r (λ _. P) → IfOk r Q → IfOk r R → IfOk r S → IfOk r T
-all_four (Ok x) P Q R S T f p q s t = f x p q s t
-all_four (Err e) P Q R S T f p q s t = tt
+pub place_is : (o r : Option (Seated Deed Origin)) (s : Seated Deed Origin) (eye : Watching) (self : Place) → r ≡ Some s → r ≡ o
+    → placed (seat_in o) eye ≡ self → placed s eye ≡ self
+place_is o r s eye self a b e = ap (λ (x : Seated Deed Origin). placed x eye) (sym (seat_is o r s a b)) ∙ e
 
 -- the seat is put back
-pub put_back : (P : Place → Type 0) (o : Option Place) (t : Place) → o ≡ Some t → P t → P (seat_in o)
-put_back P o t e h = subst (λ (x : Option Place). P (seat_in x)) (sym e) h
+pub put_back : (P : Seated Deed Origin → Type 0) (o : Option (Seated Deed Origin)) (t : Seated Deed Origin) → o ≡ Some t → P t
+    → P (seat_in o)
+put_back P o t e h = subst (λ (x : Option (Seated Deed Origin)). P (seat_in x)) (sym e) h
 
--- what holds of the shard holds where the seat says whose it is
-pub few_all : {Y : Type 0} (r : Result Done Y) (s : Place) (x : Account) → s.view.base ≡ Some (origin_in x)
-    → IfOk r (λ done. done.to < 2 ^ x.id.members)
-    → IfOk r (λ done. NamesFew s.view.base done.to)
-few_all (Ok done) s x b h = λ id opening i. subst (λ (q : Identity). done.to < 2 ^ q.members) (i (origin_in x) b).0 h
-few_all (Err y) s x b h = tt
+-- a list that was found begins with itself
+pub same_list : (view old : View Deed Origin) (l : List Deed) → view ≡ won_by old l → StartsWith l (found view)
+same_list view old l e = ([], sym (append-nil l) ∙ ap (λ (v : View Deed Origin). found v ++ []) (sym e))
 
-keys_all : (changes : List Change) (s : Place) (x : Account) → s.view.base ≡ Some (origin_in x)
-    → AllByRecursion (λ change. shard_of change.key x.id.shards ≡ x.id.shard) changes
-    → AllByRecursion (λ change. IsKeyBy s.view.base change.key) changes
-keys_all [] s x b h = tt
-keys_all (change ∷ changes) s x b h =
-    (λ id opening i. subst (λ (q : Identity). shard_of change.key q.shards ≡ q.shard) (i (origin_in x) b).0 h.0, keys_all changes s x b h.1)
+pub err_weaker : {X Y : Type 0} (r : Result X Y) (P Q : Type 0) → (P → Q) → OnErr r P → OnErr r Q
+err_weaker (Ok x) P Q f p = p
+err_weaker (Err y) P Q f p = f p
 
-pub here_all : {Y : Type 0} (r : Result Done Y) (s : Place) (x : Account) → s.view.base ≡ Some (origin_in x)
-    → IfOk r (λ done. AllByRecursion (λ change. shard_of change.key x.id.shards ≡ x.id.shard) (option_to_list done.made))
-    → IfOk r (λ done. AllByRecursion (λ change. IsKeyBy s.view.base change.key) (option_to_list done.made))
-here_all (Ok done) s x b h = keys_all (option_to_list done.made) s x b h
-here_all (Err y) s x b h = tt
+-- what is there is put back
+pub there_again : (o : Option (Seated Deed Origin)) (t : Seated Deed Origin) → o ≡ Some t → is_there o ≡ true
+there_again o t e = ap is_there e
 
--- the same of the identity itself
-keys_here : (changes : List Change) (base : Option Origin) (id : Identity) (opening n : ℕ) → IsBaseOf id opening base → id.shard ≡ n
-    → AllByRecursion (λ change. IsKeyBy base change.key) changes → AllByRecursion (λ change. shard_of change.key id.shards ≡ n) changes
-keys_here [] base id opening n i e h = tt
-keys_here (change ∷ changes) base id opening n i e h = (h.0 id opening i ∙ e, keys_here changes base id opening n i e h.1)
+-- ---- the meeting of two seats
 
-pub made_here : {Y : Type 0} (r : Result Done Y) (base : Option Origin) (id : Identity) (opening n : ℕ) → IsBaseOf id opening base
-    → id.shard ≡ n
-    → IfOk r (λ done. AllByRecursion (λ change. IsKeyBy base change.key) (option_to_list done.made))
-    → IfOk r (λ done. AllByRecursion (λ change. shard_of change.key id.shards ≡ n) (option_to_list done.made))
-made_here (Ok done) base id opening n i e h = keys_here (option_to_list done.made) base id opening n i e h
-made_here (Err y) base id opening n i e h = tt
+cond_of : {A B : Type 0} (f : A → B) (b : Bool) (x y : A) → cond b (f x) (f y) ≡ f (cond b x y)
+cond_of f true x y = refl
+cond_of f false x y = refl
+
+as_long : (l : List Deed) → length (turned_each (reverse l)) ≡ length l
+as_long l = count (reverse l) ∙ length-reverse l
+
+-- the longer note is that of the longer list
+longer_note : (xs ys : List Deed) → longer (turned_each (reverse xs)) (turned_each (reverse ys)) ≡ turned_each (reverse (longer xs ys))
+longer_note xs ys =
+    ap (λ (n : ℕ). cond (leb n (length (turned_each (reverse ys)))) (turned_each (reverse ys)) (turned_each (reverse xs))) (as_long xs)
+    ∙ ap (λ (n : ℕ). cond (leb (length xs) n) (turned_each (reverse ys)) (turned_each (reverse xs))) (as_long ys)
+    ∙ cond_of (λ (l : List Deed). turned_each (reverse l)) (leb (length xs) (length ys)) ys xs
+
+pub seats_meet : (s r t : Seated Deed Origin) (eye other after : Watching) → t.lock ≡ s.lock → t.view ≡ both s.view r.view
+    → IsAccounted t.view → StartsWith t.view.seen s.view.seen × StartsWith t.view.seen r.view.seen → Follows eye after
+    → Meets (placed s eye) (placed r other) (placed t after)
+seats_meet s r t eye other after l e a k f = record {
+  its = l;
+  based = ap (λ (v : View Deed Origin). v.base) e;
+  counted = ap (λ (v : View Deed Origin). v.seats) e;
+  began = ap (λ (v : View Deed Origin). v.opening) e;
+  numbers = ap (λ (v : View Deed Origin). v.parts) e;
+  made = ap (λ (v : View Deed Origin). v.made) e;
+  first = k.0;
+  second = k.1;
+  once = a.0;
+  all = a.1;
+  watches = f;
+}
+
+pub watches_meet : (s r t : Seated Deed Origin) (one two after : Watched) → IsWatchOf s.view one → IsWatchOf r.view two
+    → t.view ≡ both s.view r.view → after.noted ≡ longer one.noted two.noted → Follows one.eye after.eye → IsWatchOf t.view after
+watches_meet s r t one two after h i e n f = record {
+  copied = λ o b. h.copied o (sym (ap (λ (v : View Deed Origin). v.base) e) ∙ b) ∙ sym f.copy_is;
+  noted = n ∙ ap (λ (l : List (List Turned)). longer l two.noted) h.noted
+      ∙ ap (λ (l : List (List Turned)). longer (turned_each (reverse s.view.seen)) l) i.noted
+      ∙ longer_note s.view.seen r.view.seen
+      ∙ ap (λ (v : View Deed Origin). turned_each (reverse v.seen)) (sym e);
+}

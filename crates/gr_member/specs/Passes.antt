@@ -1,36 +1,41 @@
 -- A member, and what its passes do.
 use Rattle.std.specs.Prelude.{◌≡◌, ℕ, ◌-◌, ◌^◌, ◌≤◌, ◌<◌, min, true, false, List, length, reverse, sum_by, slice_index_or, slice_set}
-use Rattle.atomic_table.specs.Seated.{TableId}
 use Rattle.gr_history.specs.declared.deed.Deed.{Deed}
 use Rattle.gr_history.specs.declared.deed.Deed.TheVariants.{Swept}
 use Rattle.gr_history.specs.Recipients.{is_ready}
 use Rattle.gr_turn.specs.Views.{HasAll}
+use Rattle.gr_member.specs.declared.lock.ShardLock.{ShardLock}
 use Rattle.gr_member.specs.declared.plan.Plan.{Plan}
 use Rattle.gr_member.specs.Plans.{identity_of}
 use Rattle.gr_member.specs.Replicas.{IsBaseOf}
 use Rattle.gr_member.specs.Bases.{IsReadyBy}
-use Rattle.gr_member.specs.Seats.{Place, Stays, Looks, Adds, Meets}
+use Rattle.gr_member.specs.Seats.{Place, Stays, Looks, LooksUp, Adds, Meets}
 
--- a member: its plan, and the locks of its shards
+-- a member: its plan, and of each shard the lock and the name of its copy
 pub record House : Type 0 where
   pub plan : Plan
-  pub locks : List TableId
+  pub locks : List ShardLock
+
+-- The seat is one of the lock, and the eye is one of the copy behind it.
+pub record IsAt (lock : ShardLock) (s : Place) : Type 0 where
+  pub its : s.lock ≡ lock.lock
+  pub watched : s.eye.copy ≡ lock.name.copy
 
 -- The seat is one at the shard k.
-pub record IsSeatOf (plan : Plan) (k : ℕ) (lock : TableId) (s : Place) : Type 0 where
-  pub its : s.lock ≡ lock
+pub record IsSeatOf (plan : Plan) (k : ℕ) (lock : ShardLock) (s : Place) : Type 0 where
+  pub here : IsAt lock s
   pub based : IsBaseOf (identity_of plan k) plan.floor s.view.base
 
 -- The pass is one of this member: it has a seat at each shard.
 pub record IsPassOf (house : House) (pass : List Place) : Type 0 where
   pub many : length pass ≡ length house.locks
-  pub each : (k : ℕ) (l : TableId) (s : Place) → k < length pass
+  pub each : (k : ℕ) (l : ShardLock) (s : Place) → k < length pass
       → IsSeatOf house.plan k (slice_index_or house.locks k l) (slice_index_or pass k s)
 
 -- At each shard the seat is one of the lock there.
-pub record AreTheirs (locks : List TableId) (pass : List Place) : Type 0 where
+pub record AreTheirs (locks : List ShardLock) (pass : List Place) : Type 0 where
   pub many : length pass ≡ length locks
-  pub each : (k : ℕ) (l : TableId) (s : Place) → k < length pass → (slice_index_or pass k s).lock ≡ slice_index_or locks k l
+  pub each : (k : ℕ) (l : ShardLock) (s : Place) → k < length pass → IsAt (slice_index_or locks k l) (slice_index_or pass k s)
 
 -- ---- at each shard
 
@@ -43,6 +48,9 @@ StaysAll = AtEach Stays
 
 abbrev pub LooksAll : List Place → List Place → Type 0
 LooksAll = AtEach Looks
+
+abbrev pub LooksUpAll : List Place → List Place → Type 0
+LooksUpAll = AtEach LooksUp
 
 -- At each shard what two seats knew is known.
 pub record MeetsAll (p r q : List Place) : Type 0 where

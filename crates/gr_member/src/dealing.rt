@@ -1,10 +1,11 @@
 // How passes get their seats.
 ghost use Rattle.std.specs.Prelude.{◌≡◌, ◌+◌, ◌≤◌, ◌<◌, ℕ, [], length, vec_len, IfOk};
 ghost use Rattle.gr_member.specs.Seats.{Place};
-ghost use Rattle.gr_member.specs.Dealing.{AreEmpty, HaveNoSeats, HaveRoom, HasMore};
+ghost use Rattle.gr_member.specs.Dealing.{AreEmpty, ArePairs, HaveNoSeats, HaveRoom, HasMore};
 
 use crate::pass::ShardPass;
 use crate::replica::Replica;
+use crate::watch::Watch;
 use gr_turn::SeatList;
 use gr_value::Memory;
 use std::alloc::Global;
@@ -39,18 +40,27 @@ pub(crate) fn let_go(passes: Vec<Vec<ShardPass>>)
     passes.destroy_empty();
 }
 
-// Gives each pass a seat more, the last pass first.
-pub(crate) fn deal(passes: &mut Vec<Vec<ShardPass>>, seats: SeatList<Replica>)
-    requires many { length seats ≡ vec_len passes.old }
+// Gives each pass a seat and an eye more, the last pass first.
+pub(crate) fn deal(passes: &mut Vec<Vec<ShardPass>>, seats: SeatList<Replica>, watches: Vec<Watch>)
+    requires many { (length seats ≡ vec_len passes.old) × (vec_len watches ≡ vec_len passes.old) }
     requires room { HaveRoom passes.old.items }
-    ensures { HasMore passes.old.items seats passes.new.items }
+    requires pairs { ArePairs seats watches.items }
+    ensures { HasMore passes.old.items seats watches.items passes.new.items }
 {
     let mut rest = seats;
+    let mut watches = watches;
     for _k in 0..passes.len() {
         let Some(seat) = rest.pop() else {
             unreachable!()
         };
+        let Some(watch) = watches.pop() else {
+            unreachable!()
+        };
         let at = rest.len();
-        passes[at].push_reserved(ShardPass { seat: Some(seat) });
+        passes[at].push_reserved(ShardPass {
+            seat: Some(seat),
+            watch,
+        });
     }
+    rest.destroy_empty();
 }

@@ -1,8 +1,10 @@
-//! A member: its shards, each behind a turn, and passes with a seat at each of them.
+//! A member: its shards, each behind a turn, and passes with a seat and an eye at each of them.
 #![tactic(auto)]
 
+mod answers;
 mod dealing;
 mod ending;
+mod lock;
 mod making;
 mod meeting;
 mod member;
@@ -11,7 +13,9 @@ mod plan;
 mod replica;
 mod rounds;
 mod turns;
+mod watch;
 
+pub use gr_peek::{PeekEnd, Seen};
 pub use gr_value::Memory;
 pub use member::Member;
 pub use pass::{Pass, PassList};

@@ -1,23 +1,32 @@
 // How a member is made.
-ghost use Rattle.std.specs.Prelude.{◌≡◌, ◌≤◌, ◌<◌, ℕ, [], length, IfOk};
-ghost use Rattle.gr_member.specs.Plans.{IsPlan};
-ghost use Rattle.gr_member.specs.Fresh.{AreFresh, AreSeats};
+ghost use Rattle.std.specs.Prelude.{◌≡◌, ◌≤◌, ◌<◌, ℕ, [], All, length, vec_len, IfOk};
+ghost use Rattle.gr_peek.specs.Entering.{new_eye};
+ghost use Rattle.gr_member.specs.Plans.{IsPlan, identity_of};
+ghost use Rattle.gr_member.specs.Fresh.{AreFresh, AreSeats, AreUnused};
 
 use crate::dealing::{deal, empty_passes, let_go};
 use crate::ending::undo;
+use crate::lock::ShardLock;
 use crate::member::Member;
 use crate::pass::PassList;
 use crate::plan::Plan;
 use crate::replica::Replica;
+use crate::watch::Watch;
 use gr_history::Identity;
-use gr_shard::Shard;
+use gr_peek::EyeList;
 use gr_turn::{SeatList, TurnLock};
 use gr_value::Memory;
 use std::alloc::Global;
+use std::sync::Wait;
 
 impl Member {
     /// A member with no deeds, and so many passes, of which the pass k has the number k.
-    pub fn new(alloc: Global, plan: Plan, passes: u32) -> Result<(Member, PassList), Memory>
+    pub fn new<R: Wait>(
+        rt: &R,
+        alloc: Global,
+        plan: Plan,
+        passes: u32,
+    ) -> Result<(Member, PassList), Memory>
         requires plan { IsPlan plan }
         requires some { 1 ≤ passes }
         ensures plan { IfOk result (λ made. made.0.plan ≡ plan) }
@@ -31,29 +40,42 @@ impl Member {
             return Err(Memory);
         };
         for shard in 0..plan.shards {
-            let Ok((lock, seats)) = open(alloc, plan, shard, passes) else {
-                undo(locks, dealt);
+            let Ok(opened) = open(rt, alloc, plan, shard, passes) else {
+                undo(rt, locks, dealt);
                 return Err(Memory);
             };
+            let Opened {
+                lock,
+                seats,
+                watches,
+            } = opened;
             locks.push_reserved(lock);
-            deal(&mut dealt, seats);
+            deal(&mut dealt, seats, watches);
         }
         Ok((Member { plan, locks }, PassList { passes: dealt }))
     }
 }
 
-// The lock of one shard, with so many seats.
-fn open(
+// The lock of one shard, with its seats, and for each of them what looks at the copy.
+struct Opened {
+    lock: ShardLock,
+    seats: SeatList<Replica>,
+    watches: Vec<Watch>,
+}
+
+fn open<R: Wait>(
+    rt: &R,
     alloc: Global,
     plan: Plan,
     shard: u8,
     passes: u32,
-) -> Result<(TurnLock<Replica>, SeatList<Replica>), Memory>
+) -> Result<Opened, Memory>
     requires plan { IsPlan plan }
     requires shard { shard < plan.shards }
     requires some { 1 ≤ passes }
-    ensures count { IfOk result (λ made. length made.1 ≡ passes) }
-    ensures each { IfOk result (λ made. AreSeats plan shard passes made.0 made.1) }
+    ensures count { IfOk result (λ made. (length made.seats ≡ passes) × (vec_len made.watches ≡ passes)) }
+    ensures each { IfOk result (λ made. AreSeats plan shard passes made.lock made.seats) }
+    ensures watched { IfOk result (λ made. AreUnused passes made.lock.name.copy made.watches.items) }
 {
     let id = Identity {
         member: plan.member,
@@ -62,14 +84,36 @@ fn open(
         shard,
         shards: plan.shards,
     };
-    let replica = Replica {
-        shard: Shard::new(alloc, id, plan.floor)?,
+    let (replica, eyes) = Replica::new(rt, alloc, id, plan.floor, passes)?;
+    let name = replica.tell();
+    let Ok(watches) = watches_of(alloc, &replica, eyes) else {
+        replica.end(rt);
+        return Err(Memory);
     };
     match TurnLock::new(alloc, replica, passes) {
-        Ok(made) => Ok(made),
+        Ok(made) => Ok(Opened {
+            lock: ShardLock { lock: made.0, name },
+            seats: made.1,
+            watches,
+        }),
         Err((memory, replica)) => {
-            replica.end();
+            replica.end(rt);
             Err(memory)
         }
     }
+}
+
+// Each eye with a note of a copy of which nothing was published.
+fn watches_of(alloc: Global, replica: &Replica, eyes: EyeList) -> Result<Vec<Watch>, Memory>
+    requires none { replica.now.deeds ≡ [] }
+    requires each { All (λ eye. eye ≡ new_eye replica.now.origin.copy) eyes }
+    ensures count { IfOk result (λ watches. vec_len watches ≡ length eyes) }
+    ensures each { IfOk result (λ watches. AreUnused (length eyes) replica.now.origin.copy watches.items) }
+{
+    let mut rest = eyes;
+    let mut watches = Vec::with_capacity(alloc, rest.len())?;
+    while let Some(eye) = rest.pop() {
+        watches.push_reserved(Watch::new(eye, replica.tell()));
+    }
+    Ok(watches)
 }

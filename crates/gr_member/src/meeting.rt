@@ -2,15 +2,10 @@
 ghost use Rattle.std.specs.Prelude.{◌≡◌, length};
 ghost use Rattle.gr_member.specs.Passes.{AreTheirs, MeetsAll};
 
+use crate::lock::ShardLock;
 use crate::pass::ShardPass;
-use crate::replica::Replica;
-use gr_turn::TurnLock;
 
-pub(crate) fn meet_each(
-    locks: &[TurnLock<Replica>],
-    into: &mut Vec<ShardPass>,
-    from: Vec<ShardPass>,
-)
+pub(crate) fn meet_each(locks: &[ShardLock], into: &mut Vec<ShardPass>, from: Vec<ShardPass>)
     requires its { AreTheirs locks.now into.old.items }
     requires theirs { AreTheirs locks.now from.items }
     ensures { MeetsAll into.old.items from.items into.new.items }
@@ -21,7 +16,7 @@ pub(crate) fn meet_each(
             unreachable!()
         };
         let at = rest.len();
-        into[at].meet(&locks[at], other);
+        into[at].meet(&locks[at].lock, other);
     }
     rest.destroy_empty();
 }

@@ -5,19 +5,22 @@ ghost use Rattle.gr_value.specs.Shard.{shard_of};
 ghost use Rattle.gr_history.specs.declared.deed.Deed.TheVariants as deed;
 ghost use Rattle.gr_history.specs.Asks.{key_of};
 ghost use Rattle.gr_shard.specs.Merges.{IsImageFor};
+ghost use Rattle.gr_shard.specs.Prepared.{Belongs};
 ghost use Rattle.gr_member.specs.Plans.{identity_of};
-ghost use Rattle.gr_member.specs.Seats.{Gives};
-ghost use Rattle.gr_member.specs.Passes.{IsPassOf, StaysAll, At, AddsAt, LooksAt, LooksAll, TurnsAll, TurnsSome, SweepsAll, AreReady, OneWaits, MeetsAll};
+ghost use Rattle.gr_member.specs.Seats.{Acts, Gives, Peeks};
+ghost use Rattle.gr_member.specs.Passes.{IsPassOf, StaysAll, At, AddsAt, LooksAt, LooksAll, LooksUpAll, TurnsAll, TurnsSome, SweepsAll, AreReady, OneWaits, MeetsAll};
 
+use crate::answers::{done_in, gift_in, verdict_in};
+use crate::lock::ShardLock;
 use crate::meeting::meet_each;
 use crate::pass::Pass;
 use crate::plan::Plan;
-use crate::replica::Replica;
-use crate::rounds::{query_each, ready_each, report_each, sweep_each};
+use crate::rounds::{look_each, query_each, ready_each, report_each, sweep_each};
 use gr_history::{Ask, Done, Gift, Image, QueryAsk, QueryReplyList, Verdict, What};
+use gr_peek::{PeekEnd, Seen};
+use gr_shard::{Came, Next};
 use gr_stamp::Change;
-use gr_turn::TurnLock;
-use gr_value::Memory;
+use gr_value::{Key, Memory};
 use gr_vector::{Report, ReportList};
 use std::alloc::Global;
 use std::marker::Model;
@@ -27,7 +30,7 @@ use std::sync::Wait;
 /// `stop` take it apart.
 pub struct Member {
     pub(crate) plan: Plan,
-    pub(crate) locks: Vec<TurnLock<Replica>>,
+    pub(crate) locks: Vec<ShardLock>,
 }
 
 impl Model for Member {
@@ -62,8 +65,9 @@ impl Member {
         ensures done { IfOk result (λ done. AddsAt (shard_of (key_of ask.now) self.now.plan.shards) pass.old (deed.Call client done.to seq ask.now done.reply done.made) pass.new) }
         ensures refused { OnErr result (LooksAt (shard_of (key_of ask.now) self.now.plan.shards) pass.old pass.new) }
     {
-        let at = usize::from(ask.key().shard(self.plan.shards));
-        pass.shards[at].call(rt, alloc, &self.locks[at], client, seq, ask)
+        let shard = ask.key().shard(self.plan.shards);
+        let came = self.act(rt, alloc, pass, shard, &Next::Call { client, seq, ask })?;
+        Ok(done_in(came))
     }
 
     /// A change that another member made, at the shard of its key.
@@ -79,8 +83,9 @@ impl Member {
         ensures done { IfOk result (λ told. AddsAt (shard_of change.now.key self.now.plan.shards) pass.old (deed.Taken change.now told) pass.new) }
         ensures refused { OnErr result (LooksAt (shard_of change.now.key self.now.plan.shards) pass.old pass.new) }
     {
-        let at = usize::from(change.key.shard(self.plan.shards));
-        pass.shards[at].take_in(rt, alloc, &self.locks[at], change)
+        let shard = change.key.shard(self.plan.shards);
+        let came = self.act(rt, alloc, pass, shard, &Next::TakeIn { change })?;
+        Ok(verdict_in(came))
     }
 
     /// A report that another member made of the shard.
@@ -98,9 +103,8 @@ impl Member {
         ensures done { OnOk result (AddsAt shard pass.old (deed.Heard report.now) pass.new) }
         ensures refused { OnErr result (LooksAt shard pass.old pass.new) }
     {
-        let at = usize::from(shard);
-        let lock = &self.locks[at];
-        pass.shards[at].hear(rt, alloc, lock, report)
+        self.act(rt, alloc, pass, shard, &Next::Hear { report })?;
+        Ok(())
     }
 
     /// What a joiner is given of the shard.
@@ -120,9 +124,8 @@ impl Member {
         ensures done { IfOk result (λ gift. At shard (λ s t. Gives (identity_of self.now.plan shard) self.now.plan.floor s to what gift t) pass.old pass.new) }
         ensures refused { OnErr result (LooksAt shard pass.old pass.new) }
     {
-        let at = usize::from(shard);
-        let lock = &self.locks[at];
-        pass.shards[at].give(rt, alloc, lock, to, what)
+        let came = self.act(rt, alloc, pass, shard, &Next::Give { to, what })?;
+        Ok(gift_in(came))
     }
 
     /// An image that another member gave of the shard.
@@ -141,9 +144,42 @@ impl Member {
         ensures done { OnOk result (AddsAt shard pass.old (deed.Imaged image.now) pass.new) }
         ensures refused { OnErr result (LooksAt shard pass.old pass.new) }
     {
+        self.act(rt, alloc, pass, shard, &Next::Merge { image })?;
+        Ok(())
+    }
+
+    // What is done next at the shard.
+    fn act<R: Wait + Sync>(
+        &self,
+        rt: &R,
+        alloc: Global,
+        pass: &mut Pass,
+        shard: u8,
+        next: &Next,
+    ) -> Result<Came, Memory>
+        requires pass { IsPassOf self.now pass.old }
+        requires shard { shard < self.now.plan.shards }
+        requires here { Belongs (identity_of self.now.plan shard) next.now }
+        ensures stays { StaysAll pass.old pass.new }
+        ensures done { IfOk result (λ came. At shard (λ s t. Acts s next.now came t) pass.old pass.new) }
+        ensures refused { OnErr result (LooksAt shard pass.old pass.new) }
+    {
         let at = usize::from(shard);
         let lock = &self.locks[at];
-        pass.shards[at].merge(rt, alloc, lock, image)
+        pass.shards[at].act(rt, alloc, &lock.lock, next)
+    }
+}
+
+impl Member {
+    /// What is present at the key, by the published copy of its shard. It takes no turn and never waits.
+    /// The place is at least that behind each deed that the pass has seen there, its own among them.
+    pub fn peek(&self, alloc: Global, pass: &mut Pass, key: &Key) -> Result<Seen, PeekEnd>
+        requires { IsPassOf self.now pass.old }
+        ensures stays { StaysAll pass.old pass.new }
+        ensures peeks { At (shard_of key.now self.now.plan.shards) (Peeks key.now result) pass.old pass.new }
+    {
+        let at = usize::from(key.shard(self.plan.shards));
+        pass.shards[at].peek(alloc, key)
     }
 }
 
@@ -208,6 +244,16 @@ impl Member {
         ensures waits { result ≡ false → OneWaits self.now.plan pass.old pass.new }
     {
         ready_each(rt, &self.locks, &mut pass.shards)
+    }
+
+    /// Goes to each shard and brings the pass's eye there up to all that is published. So all that the eye
+    /// ever knew is a beginning of what the deeds turned that the pass has then seen.
+    pub fn look<R: Wait + Sync>(&self, rt: &R, pass: &mut Pass)
+        requires { IsPassOf self.now pass.old }
+        ensures stays { StaysAll pass.old pass.new }
+        ensures looks { LooksUpAll pass.old pass.new }
+    {
+        look_each(rt, &self.locks, &mut pass.shards);
     }
 
     /// The first pass takes in what the second one knows, and all its numbers.

@@ -2,30 +2,33 @@ ghost use Rattle.std.specs.Prelude.{◌≡◌, [], ◌++◌, length, IfNone};
 ghost use Rattle.std.specs.Option.{option_to_list};
 
 use crate::replica::Replica;
+use crate::watch::Watch;
 use gr_turn::Seat;
 use std::marker::Model;
 
-// The leave to take turns at one shard.
+// The leave to take turns at one shard, with what looks at its copy.
 pub struct ShardPass {
     pub(crate) seat: Option<Seat<Replica>>,
+    pub(crate) watch: Watch,
 }
 
 impl Model for ShardPass {
     ghost use Rattle.std.specs.Prelude.{◌≡◌, true};
     ghost use Rattle.std.specs.Coded.{codes};
     ghost use Rattle.gr_oql.specs.Question.{question_code};
-    ghost use Rattle.gr_member.specs.Seats.{Place, seat_in, is_there};
+    ghost use Rattle.gr_member.specs.Replicas.{IsWatchOf};
+    ghost use Rattle.gr_member.specs.Seats.{Place, placed, seat_in, is_there};
 
     ghost Value = { Place };
 
     ghost coded = { Prim.hlevel (codes, question_code) };
 
-    ghost view = { λ pass. seat_in pass.seat };
+    ghost view = { λ pass. placed (seat_in pass.seat) pass.watch.eye };
 
-    ghost invariant = { λ pass. is_there pass.seat ≡ true };
+    ghost invariant = { λ pass. (is_there pass.seat ≡ true) × IsWatchOf (seat_in pass.seat).view pass.watch };
 }
 
-/// The leave to call a member: a seat at each of its shards, that of shard 0 first. It is never dropped:
+/// The leave to call a member: a seat and an eye at each of its shards, those of shard 0 first. It is never dropped:
 /// passes are met into one, with which the member ends.
 pub struct Pass {
     pub(crate) shards: Vec<ShardPass>,

@@ -1,37 +1,53 @@
-ghost use Rattle.std.specs.Prelude.{◌≡◌, ◌≤◌, ◌<◌, ◌^◌, [], ◌∷◌, ◌++◌, reverse, length, List, ℕ, IfOk, OnOk, OnErr};
+ghost use Rattle.std.specs.Prelude.{◌≡◌, [], reverse, length, false, All, IfOk, OnOk, OnErr};
 ghost use Rattle.std.specs.List.{AllByRecursion};
-ghost use Rattle.std.specs.Option.{option_to_list};
-ghost use Rattle.gr_value.specs.Shard.{shard_of};
-ghost use Rattle.gr_history.specs.declared.deed.Deed.TheVariants as deed;
-ghost use Rattle.gr_history.specs.Asks.{key_of};
-ghost use Rattle.gr_history.specs.Gifts.{IsGiftOf};
 ghost use Rattle.gr_history.specs.Recipients.{NamesMembers, is_ready};
-ghost use Rattle.gr_history.specs.Room.{HasNoRoom};
 ghost use Rattle.gr_history.specs.Lawful.{IsLawful, IsOfShard};
-ghost use Rattle.gr_shard.specs.Merges.{IsGiftFor, IsImageFor};
-ghost use Rattle.gr_shard.specs.Records.{IsRecordOf};
-ghost use Rattle.gr_member.specs.Replicas.{Grows, origin_in};
+ghost use Rattle.gr_value.specs.Lists.{StartsWith};
+ghost use Rattle.gr_peek.specs.Entering.{new_eye};
+ghost use Rattle.gr_peek_law.specs.Turns.{turned_each};
+ghost use Rattle.gr_shard.specs.View.{IsPlace};
+ghost use Rattle.gr_shard.specs.Prepared.{Belongs};
+ghost use Rattle.gr_history.specs.Regions.{IsRegionOf};
+ghost use Rattle.gr_member.specs.Replicas.{Does};
 
-use gr_history::{
-    Ask, Deed, Done, Gift, Identity, Image, QueryAsk, QueryReply, ShardRecord, Verdict, What,
-};
-use gr_shard::Shard;
-use gr_stamp::Change;
+use gr_history::{Deed, Identity, ShardRecord};
+use gr_peek::{CopyName, EyeList, Published, Told};
+use gr_shard::{Came, Next, Shard};
 use gr_turn::Kept;
 use gr_value::Memory;
-use gr_vector::Report;
 use std::alloc::Global;
+use std::marker::Model;
+use std::sync::Wait;
 
-/// What a turn keeps: a shard. It is never dropped: `end` takes it apart.
+/// What a turn keeps: a shard, and the copy in which the turned keys of its deeds are published. It is
+/// never dropped: `end` takes it apart.
 pub struct Replica {
-    pub(crate) shard: Shard,
+    shard: Shard,
+    published: Published,
 }
 
-/// What stays of a replica: whose shard it is, and the floor that it began with.
-#[derive(Clone, Copy)]
+/// What stays of a replica: whose shard it is, the floor that it began with, and which copy stands beside
+/// it. No running code makes one.
 pub struct Origin {
     pub id: Identity,
     pub opening: u64,
+    pub copy: CopyName,
+}
+
+impl Model for Replica {
+    ghost use Rattle.std.specs.Prelude.{◌≡◌, reverse};
+    ghost use Rattle.std.specs.Coded.{codes};
+    ghost use Rattle.gr_oql.specs.Question.{question_code};
+    ghost use Rattle.gr_peek_law.specs.Turns.{turned_each};
+    ghost use Rattle.gr_member.specs.Replicas.{Replicated, replicated};
+
+    ghost Value = { Replicated };
+
+    ghost coded = { Prim.hlevel (codes, question_code) };
+
+    ghost view = { λ replica. replicated replica.shard replica.published.copy };
+
+    ghost invariant = { λ replica. replica.published.publications ≡ turned_each (reverse replica.shard.deeds) };
 }
 
 impl Kept for Replica {
@@ -39,9 +55,9 @@ impl Kept for Replica {
 
     type Base = Origin;
 
-    ghost entries = { λ replica. replica.shard.deeds };
+    ghost entries = { λ replica. replica.deeds };
 
-    ghost base = { λ replica. origin_in replica.shard };
+    ghost base = { λ replica. replica.origin };
 
     fn len(&self) -> u64 {
         self.shard.history().as_slice().len() as u64
@@ -49,114 +65,81 @@ impl Kept for Replica {
 }
 
 impl Replica {
-    pub(crate) fn end(self) {
-        let Replica { shard: _ } = self;
-    }
-
-    // What the shard leaves.
-    pub(crate) fn into_record(self, alloc: Global) -> Result<ShardRecord, Memory>
-        ensures record_of { IfOk result (IsRecordOf self.shard) }
-        ensures lawful { OnOk result (IsLawful self.shard.id self.shard.opening (reverse self.shard.deeds)) }
-        ensures of_shard { OnOk result (IsOfShard self.shard.id (reverse self.shard.deeds)) }
-        ensures named { OnOk result (AllByRecursion (NamesMembers self.shard.id) (reverse self.shard.deeds)) }
-    {
-        let Replica { shard } = self;
-        // So that what the shard's type says of its history is known to the proof.
-        let _ = shard.history();
-        shard.into_record(alloc)
-    }
-}
-
-// Each adds one deed, or none where memory is refused.
-impl Replica {
-    pub(crate) fn call(
-        &mut self,
+    // A shard with no deeds, and so many eyes of its copy.
+    pub(crate) fn new<R: Wait>(
+        rt: &R,
         alloc: Global,
-        client: u8,
-        seq: u32,
-        ask: &Ask,
-    ) -> Result<Done, Memory>
-        requires { shard_of (key_of ask.now) self.old.shard.id.shards ≡ self.old.shard.id.shard }
-        ensures grows { Grows self.old.shard self.new.shard }
-        ensures members { IfOk result (λ done. done.to < 2 ^ self.old.shard.id.members) }
-        ensures here { IfOk result (λ done. AllByRecursion (λ change. shard_of change.key self.old.shard.id.shards ≡ self.old.shard.id.shard) (option_to_list done.made)) }
-        ensures done { IfOk result (λ done. self.new.shard.deeds ≡ self.old.shard.deeds ++ deed.Call client done.to seq ask.now done.reply done.made ∷ []) }
-        ensures err { OnErr result (self.new.shard.deeds ≡ self.old.shard.deeds) }
+        id: Identity,
+        floor: u64,
+        eyes: u32,
+    ) -> Result<(Replica, EyeList), Memory>
+        requires { IsPlace id floor }
+        ensures id { IfOk result (λ made. made.0.origin.id ≡ id) }
+        ensures floor { IfOk result (λ made. made.0.origin.opening ≡ floor) }
+        ensures none { IfOk result (λ made. made.0.deeds ≡ []) }
+        ensures count { IfOk result (λ made. length made.1 ≡ eyes) }
+        ensures each { IfOk result (λ made. All (λ eye. eye ≡ new_eye made.0.origin.copy) made.1) }
     {
-        self.shard.call(alloc, client, seq, ask)
+        let shard = Shard::new(alloc, id, floor)?;
+        let (published, eyes) = Published::new(rt, alloc, eyes)?;
+        Ok((Replica { shard, published }, eyes))
     }
 
-    pub(crate) fn query(
+    // Adds one deed and publishes what it turns, or does neither where memory is refused.
+    pub(crate) fn act<R: Wait>(
         &mut self,
+        rt: &R,
         alloc: Global,
-        client: u8,
-        seq: u32,
-        ask: &QueryAsk,
-    ) -> Result<QueryReply, Memory>
-        ensures grows { Grows self.old.shard self.new.shard }
-        ensures done { IfOk result (λ reply. self.new.shard.deeds ≡ self.old.shard.deeds ++ deed.Asked client seq ask.now reply ∷ []) }
-        ensures err { OnErr result (self.new.shard.deeds ≡ self.old.shard.deeds) }
+        next: &Next,
+    ) -> Result<Came, Memory>
+        requires { Belongs self.old.origin.id next.now }
+        ensures based { self.new.origin ≡ self.old.origin }
+        ensures grows { StartsWith self.new.deeds self.old.deeds }
+        ensures done { IfOk result (λ came. Does self.old next.now came self.new) }
+        ensures err { OnErr result (self.new.deeds ≡ self.old.deeds) }
     {
-        self.shard.query(alloc, client, seq, ask)
+        let at = self.len() + 1;
+        let prepared = self.shard.prepare(alloc, next)?;
+        self.published.publish(rt, alloc, prepared.turned(), at)?;
+        let came = self.shard.commit(prepared);
+        // So that what the shard's type says of the new deed is known to the proof.
+        let _ = self.shard.history();
+        Ok(came)
     }
 
-    pub(crate) fn take_in(&mut self, alloc: Global, change: &Change) -> Result<Verdict, Memory>
-        requires { shard_of change.now.key self.old.shard.id.shards ≡ self.old.shard.id.shard }
-        ensures grows { Grows self.old.shard self.new.shard }
-        ensures done { IfOk result (λ told. self.new.shard.deeds ≡ self.old.shard.deeds ++ deed.Taken change.now told ∷ []) }
-        ensures err { OnErr result (self.new.shard.deeds ≡ self.old.shard.deeds) }
+    // A note of what is published.
+    pub(crate) fn tell(&self) -> Told
+        ensures { result ≡ record { copy = self.now.origin.copy; publications = turned_each (reverse self.now.deeds) } }
     {
-        self.shard.take_in(alloc, change)
-    }
-
-    pub(crate) fn report(&mut self, alloc: Global) -> Result<Report, Memory>
-        ensures grows { Grows self.old.shard self.new.shard }
-        ensures done { IfOk result (λ report. self.new.shard.deeds ≡ self.old.shard.deeds ++ deed.Reported report ∷ []) }
-        ensures err { OnErr result (self.new.shard.deeds ≡ self.old.shard.deeds) }
-    {
-        self.shard.report(alloc)
-    }
-
-    pub(crate) fn hear(&mut self, alloc: Global, report: &Report) -> Result<(), Memory>
-        ensures grows { Grows self.old.shard self.new.shard }
-        ensures done { OnOk result (self.new.shard.deeds ≡ self.old.shard.deeds ++ deed.Heard report.now ∷ []) }
-        ensures err { OnErr result (self.new.shard.deeds ≡ self.old.shard.deeds) }
-    {
-        self.shard.hear(alloc, report)
-    }
-
-    pub(crate) fn sweep(&mut self, alloc: Global, moment: u64) -> Result<u64, Memory>
-        ensures grows { Grows self.old.shard self.new.shard }
-        ensures done { IfOk result (λ count. (expired : List (List ℕ)) × (self.new.shard.deeds ≡ self.old.shard.deeds ++ deed.Swept moment expired ∷ []) × (count ≡ length expired)) }
-        ensures err { OnErr result (self.new.shard.deeds ≡ self.old.shard.deeds) }
-    {
-        self.shard.sweep(alloc, moment)
-    }
-
-    pub(crate) fn give(&mut self, alloc: Global, to: u8, what: What) -> Result<Gift, Memory>
-        requires { (1 ≤ to) × (to ≤ self.old.shard.id.members) }
-        ensures grows { Grows self.old.shard self.new.shard }
-        ensures gift { IfOk result (IsGiftOf self.old.shard.id.member self.old.shard.opening (reverse self.old.shard.deeds) what) }
-        ensures fits { IfOk result (IsGiftFor self.old.shard.id) }
-        ensures room { IfOk result HasNoRoom }
-        ensures done { OnOk result (self.new.shard.deeds ≡ self.old.shard.deeds ++ deed.Gave to what ∷ []) }
-        ensures err { OnErr result (self.new.shard.deeds ≡ self.old.shard.deeds) }
-    {
-        self.shard.give(alloc, to, what)
-    }
-
-    pub(crate) fn merge(&mut self, alloc: Global, image: &Image) -> Result<(), Memory>
-        requires { IsImageFor self.old.shard.id image.now }
-        ensures grows { Grows self.old.shard self.new.shard }
-        ensures done { OnOk result (self.new.shard.deeds ≡ self.old.shard.deeds ++ deed.Imaged image.now ∷ []) }
-        ensures err { OnErr result (self.new.shard.deeds ≡ self.old.shard.deeds) }
-    {
-        self.shard.merge(alloc, image)
+        self.published.tell()
     }
 
     pub(crate) fn ready(&self) -> bool
-        ensures { result ≡ is_ready self.now.shard.id (reverse self.now.shard.deeds) }
+        ensures { result ≡ is_ready self.now.origin.id (reverse self.now.deeds) }
     {
         self.shard.ready()
+    }
+
+    pub(crate) fn end<R: Wait>(self, rt: &R) {
+        let Replica {
+            shard: _,
+            published,
+        } = self;
+        published.end(rt);
+    }
+
+    // What the shard leaves.
+    pub(crate) fn into_record<R: Wait>(self, rt: &R, alloc: Global) -> Result<ShardRecord, Memory>
+        ensures deeds { IfOk result (λ left. left.history.deeds ≡ self.deeds) }
+        ensures region { IfOk result (λ left. IsRegionOf self.origin.opening (reverse self.deeds) left.region) }
+        ensures lawful { OnOk result (IsLawful self.origin.id self.origin.opening (reverse self.deeds)) }
+        ensures of_shard { OnOk result (IsOfShard self.origin.id (reverse self.deeds)) }
+        ensures named { OnOk result (AllByRecursion (NamesMembers self.origin.id) (reverse self.deeds)) }
+    {
+        let Replica { shard, published } = self;
+        published.end(rt);
+        // So that what the shard's type says of its history is known to the proof.
+        let _ = shard.history();
+        shard.into_record(alloc)
     }
 }

@@ -66,6 +66,14 @@ impl<T: Kept> SeatList<T> {
     {
         self.seats.pop()
     }
+
+    /// Lets go of a list with no seats, also where what the lock keeps can't be dropped.
+    pub fn destroy_empty(self)
+        requires { self ≡ [] }
+    {
+        let SeatList { seats } = self;
+        seats.destroy_empty();
+    }
 }
 
 impl<T: Kept> TurnLock<T> {

@@ -3,7 +3,7 @@ use Rattle.gr_member.specs.Passes.{AreTheirs}
 use Rattle.gr_member.proofs.ending.stop_each.Given as goal
 
 abbrev pub invariant-loop-lock : goal.invariant-loop-lock
-invariant-loop-lock l = AreTheirs l.locks.items l.shards.items
+invariant-loop-lock g l = AreTheirs l.locks.items l.shards.items
 
 abbrev pub decreases-loop-lock : goal.decreases-loop-lock
-decreases-loop-lock l = vec_len l.locks
+decreases-loop-lock g l = vec_len l.locks

@@ -6,5 +6,5 @@ use Rattle.gr_member.proofs.Leaving.{left_by_pass}
 use Rattle.gr_member.proofs.member.Member.end.Goals as goal
 
 pub returns : goal.returns
-returns c = left_by_pass c.args.self c.args.pass _ c.requires.pass (ap (λ (h : House). h.plan.member) c.self.view_is)
+returns g c = left_by_pass c.args.self c.args.pass _ c.requires.pass (ap (λ (h : House). h.plan.member) c.self.view_is)
     (subst (λ (p : List Place). AreEndsOf p c.in_ok-records.records) c.pass.view_is c.in_ok-records.ensures)

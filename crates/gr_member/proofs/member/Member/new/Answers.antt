@@ -1,16 +1,15 @@
 use Rattle.std.proofs.Common.{arith}
-use Rattle.gr_member.proofs.Dealt.{dealt_more, dealt_fresh}
+use Rattle.gr_member.proofs.Dealt.{dealt_more, dealt_fresh, pairs_of}
 use Rattle.gr_member.proofs.member.Member.new.Goals as goal
 
 pub loop-shard-preserved : goal.loop-shard-preserved
-loop-shard-preserved c = record {
+loop-shard-preserved g c = record {
   held = let room = c.loop-shard.invariant.held in let same = c.push_reserved.ensures.capacity in omega arith;
-  dealt = dealt_more c.args.plan c.args.passes c.loop-shard.locks.items c.push_reserved.new.self.items c.in-Ok-open.lock
-      c.loop-shard.dealt.items
-      c.deal.new.passes.items c.in-Ok-open.seats c.loop-shard.shard c.loop-shard.invariant.dealt c.in-Ok-open.ensures.each c.deal.ensures
-      c.push_reserved.ensures.items;
+  dealt = dealt_more c.args.plan c.args.passes c.loop-shard.locks.items c.push_reserved.new.self.items c.in-Ok-open.opened.lock
+      c.loop-shard.dealt.items c.deal.new.passes.items c.in-Ok-open.opened.seats c.in-Ok-open.opened.watches.items c.loop-shard.shard
+      c.loop-shard.invariant.dealt c.in-Ok-open.ensures.each c.in-Ok-open.ensures.watched c.deal.ensures c.push_reserved.ensures.items;
 }
 
 pub returns-clause-fresh : goal.returns-clause-fresh
-returns-clause-fresh c = dealt_fresh c.args.plan c.args.passes c.loop-shard.locks.items c.loop-shard.dealt.items c.loop-shard.shard
+returns-clause-fresh g c = dealt_fresh c.args.plan c.args.passes c.loop-shard.locks.items c.loop-shard.dealt.items c.loop-shard.shard
     c.loop-shard.invariant.dealt

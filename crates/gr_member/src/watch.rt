@@ -1,0 +1,86 @@
+ghost use Rattle.std.specs.Prelude.{◌≡◌, [], length, IfOk};
+ghost use mathlib.Core.List.{IsPrefix};
+ghost use Rattle.gr_turn.specs.Views.{longer};
+ghost use Rattle.gr_peek.specs.Entering.{Follows, IsEntered};
+ghost use Rattle.gr_peek.specs.Publications.{present_after};
+
+use gr_peek::{Eye, PeekEnd, Seen, Told, peek};
+use gr_value::Key;
+use std::alloc::Global;
+use std::marker::Model;
+use std::sync::Wait;
+
+// What a pass looks at a shard's copy with, and the note of its last turn there.
+#[derive(Drop)]
+pub(crate) struct Watch {
+    eye: Eye,
+    note: Told,
+}
+
+impl Model for Watch {
+    ghost use Rattle.std.specs.Prelude.{◌≡◌};
+    ghost use mathlib.Core.List.{IsPrefix};
+    ghost use Rattle.gr_member.specs.Replicas.{Watched};
+
+    ghost Value = { Watched };
+
+    ghost view = { λ watch. record { eye = watch.eye; noted = watch.note.publications } };
+
+    ghost invariant = { λ watch. (watch.note.copy ≡ watch.eye.copy) × IsPrefix watch.note.publications watch.eye.told };
+}
+
+impl Watch {
+    // The note is of a copy of which nothing was published.
+    pub(crate) fn new(eye: Eye, note: Told) -> Watch
+        requires copy { note.copy ≡ eye.copy }
+        requires none { note.publications ≡ [] }
+        ensures { result ≡ record { eye = eye; noted = [] } }
+    {
+        Watch { eye, note }
+    }
+
+    // Keeps the note of a turn.
+    pub(crate) fn keep(&mut self, note: Told)
+        requires { note.copy ≡ self.old.eye.copy }
+        ensures noted { self.new.noted ≡ note.publications }
+        ensures follows { Follows self.old.eye self.new.eye }
+    {
+        self.eye.learn(&note);
+        self.note = note;
+    }
+
+    // Keeps the longer of two notes.
+    pub(crate) fn meet(&mut self, other: Watch)
+        requires { other.eye.copy ≡ self.old.eye.copy }
+        ensures noted { self.new.noted ≡ longer self.old.noted other.noted }
+        ensures follows { Follows self.old.eye self.new.eye }
+    {
+        let Watch { eye: _, note } = other;
+        if self.note.at() <= note.at() {
+            self.keep(note);
+        }
+    }
+
+    // What is present at the key behind all that was noted.
+    pub(crate) fn peek(&mut self, alloc: Global, key: &Key) -> Result<Seen, PeekEnd>
+        ensures value { IfOk result (λ seen. seen.value ≡ present_after self.new.eye.known key.now) }
+        ensures at { IfOk result (λ seen. seen.at ≡ length self.new.eye.known) }
+        ensures behind { IfOk result (λ _. IsPrefix self.new.noted self.new.eye.known) }
+        ensures entered { IsEntered result self.old.eye self.new.eye }
+        ensures noted { self.new.noted ≡ self.old.noted }
+    {
+        peek(alloc, &mut self.eye, key)
+    }
+
+    // Keeps the note of a turn that is out, and goes to where it ends.
+    pub(crate) fn reach<R: Wait>(&mut self, rt: &R, note: Told)
+        requires { note.copy ≡ self.old.eye.copy }
+        ensures noted { self.new.noted ≡ note.publications }
+        ensures known { self.new.eye.known ≡ note.publications }
+        ensures follows { Follows self.old.eye self.new.eye }
+    {
+        let at = note.at();
+        self.keep(note);
+        self.eye.reach(rt, at);
+    }
+}
