@@ -1,4 +1,4 @@
-ghost use Rattle.std.specs.Prelude.{◌≡◌, ◌≤◌, IfSome};
+ghost use Rattle.std.specs.Prelude.{◌≡◌, ◌≤◌, ◌<◌, ◌^◌, IfSome};
 ghost use Rattle.gr_post.specs.Passes.{sender_of, taker_of};
 
 use gr_post::{Courier, Inbox, InboxList, Mail, SendPass, SendPassList, TakePass};
@@ -174,7 +174,7 @@ fn mails_go_by_the_trouble_plan(rt: HostRuntime) -> Result<(), Fail> {
     ];
     for (sender, trouble, posts, numbers) in cases {
         assert!(rt; 1 <= sender && sender <= 72);
-        assert!(rt; trouble <= 2147483646);
+        assert!(rt; trouble < 2147483648);
         let Some(taken) = delivered(&rt, rt.alloc(), sender, trouble, posts) else {
             panic!(rt; "no memory")
         };
