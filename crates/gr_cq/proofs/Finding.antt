@@ -9,6 +9,10 @@ use Rattle.gr_cq.specs.declared.open.Open.{Open}
 use Rattle.gr_cq.specs.Entries.{Kept, Entry, is_at, find, changed_at, with_kept, closed}
 use Rattle.gr_cq.specs.View.{kept_of, entry_of, entries_of}
 
+pub some_kept : (one : Option Kept) → is_some one ≡ true → (kept : Kept) × (one ≡ Some kept)
+some_kept None is = cc
+some_kept (Some kept) is = (kept, refl)
+
 module _ (client : ℕ) (name : List ℕ) where
   abbrev pub is_here : Open → Bool
   is_here one = is_at client name (entry_of one)

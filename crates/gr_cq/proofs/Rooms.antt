@@ -43,13 +43,12 @@ none_roomy all = record { one_more = λ le. absurd (never le); each = no_room al
     never le = omega (arith, le)
 
 -- there is room for what was foreseen
-pub fits_made : (spare : ℕ) (all : Vec Open Global) (it : Plan) (given : List Event) → IsRoomy spare all
-    → IsMadeFor (record { entries = entries_of all.items; spare = spare }) (record { change = change_of it; given = given }) → FitsIn all
-    it
-fits_made spare all (plan.Enrol one) given roomy made = roomy.one_more made.room
-fits_made spare all (plan.Take client name) given roomy made = tt
-fits_made spare all (plan.Note lists) given roomy made =
-    let turned = made.made.0.0 in
-    let is : events_in lists.items ≡ coming_to_each turned (entries_of all.items) = made.made.0.1 in
+pub fits_made : (spare : ℕ) (all : Vec Open Global) (it : Plan) → IsRoomy spare all
+    → IsMadeFor (record { entries = entries_of all.items; spare = spare }) (change_of it) → FitsIn all it
+fits_made spare all (plan.Enrol one) roomy made = roomy.one_more made.room
+fits_made spare all (plan.Take client name) roomy made = tt
+fits_made spare all (plan.Note lists) roomy made =
+    let turned = made.made.0 in
+    let is : events_in lists.items ≡ coming_to_each turned (entries_of all.items) = made.made.1 in
     let within : AreWithin spare (coming_to_each turned (entries_of all.items)) = subst (AreWithin spare) is made.within in
     subst (λ told. Fit told all.items) (sym is) (fit_told turned spare all.items within roomy.each)

@@ -1,21 +1,15 @@
--- What a call that is coming refuses and hands out, and the queries after it.
-use Rattle.std.specs.Prelude.{List, [], Option, None}
-use Rattle.gr_oql.specs.declared.event.Event.{Event}
+-- What a call that is coming refuses, and the queries after it.
+use Rattle.std.specs.Prelude.{List, Option, None}
 use Rattle.gr_cq.specs.declared.coming.Coming.{Coming}
 use Rattle.gr_cq.specs.declared.coming.Coming.TheVariants.{Enrol, Take, Note}
 use Rattle.gr_cq.specs.declared.query_end.QueryEnd.{QueryEnd}
-use Rattle.gr_cq.specs.Ends.{enrol_end, known_end, waiting_of}
+use Rattle.gr_cq.specs.Ends.{enrol_end, known_end}
 use Rattle.gr_cq.specs.Entries.{Entry, find, changed_at, kept_taken, enrolled, noted}
 
 abbrev pub coming_end : Coming → List Entry → Option QueryEnd
 coming_end (Enrol client name query) entries = enrol_end (find client name.now entries)
 coming_end (Take client name) entries = known_end (find client name.now entries)
 coming_end (Note turned) entries = None
-
-abbrev pub given : Coming → List Entry → List Event
-given (Enrol client name query) entries = []
-given (Take client name) entries = waiting_of (find client name.now entries)
-given (Note turned) entries = []
 
 abbrev pub entries_after : Coming → List Entry → List Entry
 entries_after (Enrol client name query) entries = enrolled client name.now query.now entries

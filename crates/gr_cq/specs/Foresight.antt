@@ -6,23 +6,18 @@ use Rattle.gr_oql.specs.declared.event.Turned.{Turned}
 use Rattle.gr_cq.specs.Entries.{Kept, Entry, Queries, find, with_kept, kept_with, kept_taken, changed_at, coming_to}
 
 -- what a call changes
-pub data Change : Type 0 where
-  Enrolling : Entry → Change
-  Taking : ℕ → List ℕ → Change
+pub data Foresight : Type 0 where
+  Enrolling : Entry → Foresight
+  Taking : ℕ → List ℕ → Foresight
   -- what each query is told, in their order
-  Telling : List (List Event) → Change
-
--- beside it the events that are handed out
-pub record Foresight : Type 0 where
-  pub change : Change
-  pub given : List Event
+  Telling : List (List Event) → Foresight
 
 abbrev pub told_each : List (List Event) → List Entry → List Entry
 told_each [] entries = entries
 told_each (events ∷ lists) [] = []
 told_each (events ∷ lists) (entry ∷ entries) = with_kept (kept_with events) entry ∷ told_each lists entries
 
-abbrev pub changed : Change → List Entry → List Entry
+abbrev pub changed : Foresight → List Entry → List Entry
 changed (Enrolling entry) entries = entries ++ entry ∷ []
 changed (Taking client name) entries = changed_at client name kept_taken entries
 changed (Telling lists) entries = told_each lists entries
@@ -31,13 +26,13 @@ abbrev pub coming_to_each : List Turned → List Entry → List (List Event)
 coming_to_each turned entries = map (λ (entry : Entry). coming_to turned entry.kept) entries
 
 -- for these queries as they are
-abbrev pub IsOf : List Entry → Change → List Event → Type 0
-IsOf entries (Enrolling entry) given = (find entry.client entry.name entries ≡ None) × (given ≡ [])
-IsOf entries (Taking client name) given = (kept : Kept) × (find client name entries ≡ Some kept) × (given ≡ kept.waiting)
-IsOf entries (Telling lists) given = ((turned : List Turned) × (lists ≡ coming_to_each turned entries)) × (given ≡ [])
+abbrev pub IsOf : List Entry → Foresight → Type 0
+IsOf entries (Enrolling entry) = find entry.client entry.name entries ≡ None
+IsOf entries (Taking client name) = (kept : Kept) × (find client name entries ≡ Some kept)
+IsOf entries (Telling lists) = (turned : List Turned) × (lists ≡ coming_to_each turned entries)
 
 -- as much as each query is told at most
-abbrev pub IsWithin : ℕ → Change → Type 0
+abbrev pub IsWithin : ℕ → Foresight → Type 0
 IsWithin spare (Enrolling entry) = Unit {0}
 IsWithin spare (Taking client name) = Unit {0}
 IsWithin spare (Telling lists) = AllByRecursion (λ (events : List Event). length events ≤ spare) lists
@@ -48,13 +43,13 @@ longest [] = 1
 longest (events ∷ lists) = max (length events) (longest lists)
 
 -- for how many events it wants room at each query
-abbrev pub room_of : Change → ℕ
+abbrev pub room_of : Foresight → ℕ
 room_of (Enrolling entry) = 1
 room_of (Taking client name) = 1
 room_of (Telling lists) = longest lists
 
 -- It was made for this registry as it is, and there is room for it.
 pub record IsMadeFor (queries : Queries) (foreseen : Foresight) : Type 0 where
-  pub made : IsOf queries.entries foreseen.change foreseen.given
+  pub made : IsOf queries.entries foreseen
   pub room : 1 ≤ queries.spare
-  pub within : IsWithin queries.spare foreseen.change
+  pub within : IsWithin queries.spare foreseen

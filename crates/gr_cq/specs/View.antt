@@ -7,7 +7,7 @@ use Rattle.gr_cq.specs.declared.open.Open.{Open}
 use Rattle.gr_cq.specs.declared.foreseen.Plan.{Plan}
 use Rattle.gr_cq.specs.declared.foreseen.Plan.TheVariants as plan
 use Rattle.gr_cq.specs.Entries.{Kept, Entry}
-use Rattle.gr_cq.specs.Foresight.{Change, Enrolling, Taking, Telling}
+use Rattle.gr_cq.specs.Foresight.{Foresight, Enrolling, Taking, Telling}
 
 abbrev pub kept_of : Open → Kept
 kept_of one = record { question = one.query; runs = one.runs; waiting = one.waiting.events }
@@ -36,7 +36,7 @@ pub record IsRoomy (spare : ℕ) (all : Vec Open Global) : Type 0 where
 abbrev pub events_in : List (Vec Event Global) → List (List Event)
 events_in lists = map (λ (events : Vec Event Global). events.items) lists
 
-abbrev pub change_of : Plan → Change
+abbrev pub change_of : Plan → Foresight
 change_of (plan.Enrol one) = Enrolling (entry_of one)
 change_of (plan.Take client name) = Taking client name
 change_of (plan.Note lists) = Telling (events_in lists.items)

@@ -1,4 +1,4 @@
-ghost use Rattle.std.specs.Prelude.{◌≡◌, ◌≤◌, [], IfOk};
+ghost use Rattle.std.specs.Prelude.{◌≡◌, ◌≤◌, IfOk};
 ghost use Rattle.gr_cq.specs.Entries.{entry_opened};
 ghost use Rattle.gr_cq.specs.Foresight.{Enrolling, Taking, Telling, IsWithin, coming_to_each, room_of};
 ghost use Rattle.gr_cq.specs.View.{entries_of};
@@ -6,7 +6,7 @@ ghost use Rattle.gr_cq.specs.View.{entries_of};
 use crate::Turned;
 use crate::open::Open;
 use crate::opens::{coming_to_each, longest};
-use gr_oql::{Event, EventList, Query};
+use gr_oql::{Event, Query};
 use gr_value::{Copied, Key, Memory};
 use std::alloc::Global;
 use std::marker::Model;
@@ -20,11 +20,10 @@ pub(crate) enum Plan {
     Note(Vec<Vec<Event>>),
 }
 
-/// A call that was foreseen: what it changes, and the events that it hands out.
+/// A call that was foreseen, which contracts see as what it changes.
 #[derive(Drop)]
 pub struct Foreseen {
     pub(crate) plan: Plan,
-    pub(crate) given: EventList,
 }
 
 impl Model for Foreseen {
@@ -38,7 +37,7 @@ impl Model for Foreseen {
 
     ghost use Rattle.gr_cq.specs.View.{change_of};
 
-    ghost view = { λ f. record { change = change_of f.plan; given = f.given } };
+    ghost view = { λ f. change_of f.plan };
 }
 
 impl Foreseen {
@@ -48,50 +47,35 @@ impl Foreseen {
         name: &Key,
         query: &Query,
     ) -> Result<Foreseen, Memory>
-        ensures { IfOk result (λ foreseen. foreseen ≡ record { change = Enrolling (entry_opened client name.now query.now); given = [] }) }
+        ensures { IfOk result (λ foreseen. foreseen ≡ Enrolling (entry_opened client name.now query.now)) }
     {
         Ok(Foreseen {
             plan: Plan::Enrol(Open::new(alloc, client, name, query)?),
-            given: EventList::new(alloc)?,
         })
     }
 
-    pub(crate) fn take(
-        alloc: Global,
-        client: u8,
-        name: &Key,
-        one: &Open,
-    ) -> Result<Foreseen, Memory>
-        ensures { IfOk result (λ foreseen. foreseen ≡ record { change = Taking client name.now; given = one.now.waiting.events }) }
+    pub(crate) fn take(alloc: Global, client: u8, name: &Key) -> Result<Foreseen, Memory>
+        ensures { IfOk result (λ foreseen. foreseen ≡ Taking client name.now) }
     {
         let name = name.copy(alloc)?;
         Ok(Foreseen {
             plan: Plan::Take { client, name },
-            given: one.waiting(alloc)?,
         })
     }
 
     pub(crate) fn note(alloc: Global, all: &[Open], turned: &[Turned]) -> Result<Foreseen, Memory>
-        ensures { IfOk result (λ foreseen. foreseen ≡ record { change = Telling (coming_to_each turned.now (entries_of all.now)); given = [] }) }
+        ensures { IfOk result (λ foreseen. foreseen ≡ Telling (coming_to_each turned.now (entries_of all.now))) }
     {
         Ok(Foreseen {
             plan: Plan::Note(coming_to_each(alloc, all, turned)?),
-            given: EventList::new(alloc)?,
         })
-    }
-
-    /// The events that are handed out.
-    pub fn given(&self) -> &EventList
-        ensures { result.now ≡ self.now.given }
-    {
-        &self.given
     }
 
     /// For how many events there must be room at each query, and at least 1.
     pub fn room(&self) -> usize
-        ensures room { result ≡ room_of self.now.change }
+        ensures room { result ≡ room_of self.now }
         ensures some { 1 ≤ result }
-        ensures within { IsWithin result self.now.change }
+        ensures within { IsWithin result self.now }
     {
         match &self.plan {
             Plan::Enrol(_) | Plan::Take { .. } => 1,

@@ -2,7 +2,7 @@ ghost use Rattle.std.specs.Prelude.{◌≡◌, ◌≤◌, ◌==◌, [], length, 
 ghost use Rattle.gr_cq.specs.Entries.{find, changed_at, kept_stopped, kept_taken, enrolled, closed, noted, entry_opened};
 ghost use Rattle.gr_cq.specs.Ends.{enrol_end, stop_end, known_end, ended, EndsBy, waiting_of};
 ghost use Rattle.gr_cq.specs.Foresight.{changed, IsMadeFor, IsWithin, Enrolling, Taking, Telling, coming_to_each, room_of};
-ghost use Rattle.gr_cq.specs.Coming.{coming_end, given, entries_after};
+ghost use Rattle.gr_cq.specs.Coming.{coming_end, entries_after};
 
 use crate::foreseen::Foreseen;
 use crate::open::Open;
@@ -69,6 +69,17 @@ impl Registry {
         Some(find_open(&self.all, client, name)?.runs())
     }
 
+    /// Copies of the events that wait at the query of that client and name, in order; none where it isn't
+    /// open.
+    pub fn waiting(&self, alloc: Global, client: u8, name: &Key) -> Result<EventList, Memory>
+        ensures { IfOk result (λ events. events ≡ waiting_of (find client name.now self.now.entries)) }
+    {
+        match find_open(&self.all, client, name) {
+            None => Ok(EventList::new(alloc)?),
+            Some(one) => one.waiting(alloc),
+        }
+    }
+
     /// Opens a query, which runs from now on.
     pub fn enrol(
         &mut self,
@@ -82,7 +93,7 @@ impl Registry {
         ensures err { OnErr result (self.new ≡ self.old) }
     {
         let foreseen = self.foresee_enrol(alloc, client, name, query)?;
-        let _ = self.apply(foreseen);
+        self.apply(foreseen);
         Ok(())
     }
 
@@ -124,8 +135,13 @@ impl Registry {
         ensures ok { OnOk result (self.new ≡ record { entries = changed_at client name.now kept_taken self.old.entries; spare = 0 }) }
         ensures err { OnErr result (self.new ≡ self.old) }
     {
+        let Some(one) = find_open(&self.all, client, name) else {
+            return Err(QueryEnd::Unknown);
+        };
+        let events = one.waiting(alloc)?;
         let foreseen = self.foresee_take(alloc, client, name)?;
-        Ok(self.apply(foreseen))
+        self.apply(foreseen);
+        Ok(events)
     }
 
     /// Tells each running query of the turned keys, in order.
@@ -134,7 +150,7 @@ impl Registry {
         ensures err { OnErr result (self.new ≡ self.old) }
     {
         let foreseen = self.foresee_note(alloc, turned)?;
-        let _ = self.apply(foreseen);
+        self.apply(foreseen);
         Ok(())
     }
 
@@ -144,9 +160,8 @@ impl Registry {
         ensures entries { self.new.entries ≡ self.old.entries }
         ensures keeps { self.old.spare ≤ self.new.spare }
         ensures made { IfOk result (IsMadeFor self.new) }
-        ensures room { IfOk result (λ foreseen. room_of foreseen.change ≤ self.new.spare) }
-        ensures leaves { IfOk result (λ foreseen. changed foreseen.change self.old.entries ≡ entries_after coming.now self.old.entries) }
-        ensures gives { IfOk result (λ foreseen. foreseen.given ≡ given coming.now self.old.entries) }
+        ensures room { IfOk result (λ foreseen. room_of foreseen ≤ self.new.spare) }
+        ensures leaves { IfOk result (λ foreseen. changed foreseen self.old.entries ≡ entries_after coming.now self.old.entries) }
         ensures err { OnErr result (self.new ≡ self.old) }
     {
         match coming {
@@ -160,16 +175,14 @@ impl Registry {
         }
     }
 
-    /// Makes the change of the call that was foreseen, and hands out its events. This takes no memory.
-    pub fn apply(&mut self, foreseen: Foreseen) -> EventList
+    /// Makes the change of the call that was foreseen. This takes no memory.
+    pub fn apply(&mut self, foreseen: Foreseen)
         requires { IsMadeFor self.old foreseen }
-        ensures entries { self.new ≡ record { entries = changed foreseen.change self.old.entries; spare = 0 } }
-        ensures given { result ≡ foreseen.given }
+        ensures { self.new ≡ record { entries = changed foreseen self.old.entries; spare = 0 } }
     {
-        let Foreseen { plan, given } = foreseen;
+        let Foreseen { plan } = foreseen;
         self.spare = 0;
         carry_out(&mut self.all, plan);
-        given
     }
 
     // Makes room for one query more, and for so many events at each query.
@@ -192,7 +205,7 @@ impl Registry {
     fn ready(&mut self, foreseen: Foreseen) -> Result<Foreseen, Memory>
         ensures entries { self.new.entries ≡ self.old.entries }
         ensures keeps { self.old.spare ≤ self.new.spare }
-        ensures room { OnOk result ((1 ≤ self.new.spare) × IsWithin self.new.spare foreseen.change × (room_of foreseen.change ≤ self.new.spare)) }
+        ensures room { OnOk result ((1 ≤ self.new.spare) × IsWithin self.new.spare foreseen × (room_of foreseen ≤ self.new.spare)) }
         ensures same { IfOk result (λ same. same ≡ foreseen) }
         ensures err { OnErr result (self.new ≡ self.old) }
     {
@@ -211,8 +224,8 @@ impl Registry {
         ensures entries { self.new.entries ≡ self.old.entries }
         ensures keeps { self.old.spare ≤ self.new.spare }
         ensures made { IfOk result (IsMadeFor self.new) }
-        ensures room { IfOk result (λ foreseen. room_of foreseen.change ≤ self.new.spare) }
-        ensures tells { IfOk result (λ foreseen. foreseen ≡ record { change = Enrolling (entry_opened client name.now query.now); given = [] }) }
+        ensures room { IfOk result (λ foreseen. room_of foreseen ≤ self.new.spare) }
+        ensures tells { IfOk result (λ foreseen. foreseen ≡ Enrolling (entry_opened client name.now query.now)) }
         ensures err { OnErr result (self.new ≡ self.old) }
     {
         if is_open(&self.all, client, name) {
@@ -227,14 +240,14 @@ impl Registry {
         ensures entries { self.new.entries ≡ self.old.entries }
         ensures keeps { self.old.spare ≤ self.new.spare }
         ensures made { IfOk result (IsMadeFor self.new) }
-        ensures room { IfOk result (λ foreseen. room_of foreseen.change ≤ self.new.spare) }
-        ensures tells { IfOk result (λ foreseen. foreseen ≡ record { change = Taking client name.now; given = waiting_of (find client name.now self.old.entries) }) }
+        ensures room { IfOk result (λ foreseen. room_of foreseen ≤ self.new.spare) }
+        ensures tells { IfOk result (λ foreseen. foreseen ≡ Taking client name.now) }
         ensures err { OnErr result (self.new ≡ self.old) }
     {
-        let Some(one) = find_open(&self.all, client, name) else {
+        if !is_open(&self.all, client, name) {
             return Err(QueryEnd::Unknown);
-        };
-        let foreseen = Foreseen::take(alloc, client, name, one)?;
+        }
+        let foreseen = Foreseen::take(alloc, client, name)?;
         Ok(self.ready(foreseen)?)
     }
 
@@ -242,8 +255,8 @@ impl Registry {
         ensures entries { self.new.entries ≡ self.old.entries }
         ensures keeps { self.old.spare ≤ self.new.spare }
         ensures made { IfOk result (IsMadeFor self.new) }
-        ensures room { IfOk result (λ foreseen. room_of foreseen.change ≤ self.new.spare) }
-        ensures tells { IfOk result (λ foreseen. foreseen ≡ record { change = Telling (coming_to_each turned.now self.old.entries); given = [] }) }
+        ensures room { IfOk result (λ foreseen. room_of foreseen ≤ self.new.spare) }
+        ensures tells { IfOk result (λ foreseen. foreseen ≡ Telling (coming_to_each turned.now self.old.entries)) }
         ensures err { OnErr result (self.new ≡ self.old) }
     {
         let foreseen = Foreseen::note(alloc, &self.all, turned)?;

@@ -4,7 +4,7 @@ use Rattle.std.proofs.Common.{length, map, arith}
 use Rattle.std.specs.List.{AllByRecursion}
 use Rattle.gr_oql.specs.declared.event.Event.{Event}
 use Rattle.gr_cq.specs.Entries.{Queries}
-use Rattle.gr_cq.specs.Foresight.{Change, Enrolling, Taking, Telling, IsWithin, longest, room_of}
+use Rattle.gr_cq.specs.Foresight.{Foresight, Enrolling, Taking, Telling, IsWithin, longest, room_of}
 use Rattle.gr_history.specs.declared.deed.Deed.{Deed}
 use Rattle.gr_history.specs.declared.deed.Deed.TheVariants.{Asked, Gave, Heard, Reported}
 use Rattle.gr_history.specs.declared.query_ask.QueryAsk.{QueryAsk}
@@ -48,7 +48,7 @@ longest_some : (lists : List (List Event)) → 1 ≤ longest lists
 longest_some [] = omega arith
 longest_some (events ∷ lists) = let rest = longest_some lists in omega (arith, rest)
 
-room_some : (change : Change) → 1 ≤ room_of change
+room_some : (change : Foresight) → 1 ≤ room_of change
 room_some (Enrolling entry) = omega arith
 room_some (Taking client name) = omega arith
 room_some (Telling lists) = longest_some lists
@@ -58,7 +58,7 @@ longest_within : (most : ℕ) (lists : List (List Event)) → longest lists ≤ 
 longest_within most [] all = tt
 longest_within most (events ∷ lists) all = (omega (arith, all), longest_within most lists (omega (arith, all)))
 
-room_within : (most : ℕ) (change : Change) → room_of change ≤ most → IsWithin most change
+room_within : (most : ℕ) (change : Foresight) → room_of change ≤ most → IsWithin most change
 room_within most (Enrolling entry) all = tt
 room_within most (Taking client name) all = tt
 room_within most (Telling lists) all = longest_within most lists all
@@ -68,11 +68,11 @@ pub ready_for : (queries : Queries) (after : QueriesAfter) → IsMadeAt queries.
     → IsReadyFor queries after
 ready_for queries Same made room = tt
 ready_for queries (Told foreseen) made room =
-    let some = room_some foreseen.change in
+    let some = room_some foreseen in
     record {
       made = made;
       room = omega (arith, some, room);
-      within = room_within queries.spare foreseen.change (omega (arith, room));
+      within = room_within queries.spare foreseen (omega (arith, room));
     }
 ready_for queries (Stopped client name) made room = tt
 ready_for queries (Closed client name) made room = tt

@@ -60,7 +60,7 @@ ids_after (ids_.New new) ids = new.ids
 
 abbrev pub queries_after : QueriesAfter → List Entry → List Entry
 queries_after queries_.Same queries = queries
-queries_after (queries_.Told foreseen) queries = changed foreseen.change queries
+queries_after (queries_.Told foreseen) queries = changed foreseen queries
 queries_after (queries_.Stopped client name) queries = served client (asks.Stop name) queries
 queries_after (queries_.Closed client name) queries = served client (asks.Close name) queries
 
@@ -95,7 +95,7 @@ effected id effect now = record {
 -- how much room there must be
 abbrev pub needs : QueriesAfter → ℕ
 needs queries_.Same = 1
-needs (queries_.Told foreseen) = 1 + room_of foreseen.change
+needs (queries_.Told foreseen) = 1 + room_of foreseen
 needs (queries_.Stopped client name) = 1
 needs (queries_.Closed client name) = 1
 
@@ -115,7 +115,7 @@ IsRoomed room (slots_.Without keys) = Unit {0}
 
 abbrev pub IsMadeAt : List Entry → QueriesAfter → Type 0
 IsMadeAt queries queries_.Same = Unit {0}
-IsMadeAt queries (queries_.Told foreseen) = IsOf queries foreseen.change foreseen.given
+IsMadeAt queries (queries_.Told foreseen) = IsOf queries foreseen
 IsMadeAt queries (queries_.Stopped client name) = Unit {0}
 IsMadeAt queries (queries_.Closed client name) = Unit {0}
 

@@ -47,7 +47,7 @@ turned_between old new =
 abbrev pub IsForeseen : List Turned → Queries → Option Foresight → Type 0
 IsForeseen turned queries None = noted turned queries.entries ≡ queries.entries
 IsForeseen turned queries (Some foreseen) =
-    IsMadeFor queries foreseen × (changed foreseen.change queries.entries ≡ noted turned queries.entries)
+    IsMadeFor queries foreseen × (changed foreseen queries.entries ≡ noted turned queries.entries)
 
 abbrev pub IsReady : Queries → Option Foresight → Type 0
 IsReady queries None = Unit {0}
@@ -56,4 +56,4 @@ IsReady queries (Some foreseen) = IsMadeFor queries foreseen
 -- the queries once they are told what was foreseen
 abbrev pub told_of : Option Foresight → List Entry → List Entry
 told_of None entries = entries
-told_of (Some foreseen) entries = changed foreseen.change entries
+told_of (Some foreseen) entries = changed foreseen entries

@@ -189,10 +189,13 @@ fn fetch(alloc: Global, queries: &mut Registry, client: u8, name: &Key) -> Resul
     match queries.foresee(alloc, &Coming::Take { client, name }) {
         Err(end) => refused(end),
         Ok(foreseen) => {
-            let noted = QueryReply::Fetched(foreseen.given().copy(alloc)?);
-            let told = QueryReply::Fetched(foreseen.given().copy(alloc)?);
+            let events = queries.waiting(alloc, client, name)?;
+            let noted = QueryReply::Fetched(events.copy(alloc)?);
             Ok(Foretold {
-                replies: Replies { noted, told },
+                replies: Replies {
+                    noted,
+                    told: QueryReply::Fetched(events),
+                },
                 after: QueriesAfter::Told(foreseen),
             })
         }

@@ -62,7 +62,7 @@ pub fn carry_out(queries: &mut Registry, after: QueriesAfter)
     match after {
         QueriesAfter::Same => {}
         QueriesAfter::Told(foreseen) => {
-            let _ = queries.apply(foreseen);
+            queries.apply(foreseen);
         }
         QueriesAfter::Stopped { client, name } => stop(queries, client, &name),
         QueriesAfter::Closed { client, name } => close(queries, client, &name),

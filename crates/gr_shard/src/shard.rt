@@ -122,17 +122,17 @@ impl Shard {
         ensures err { OnErr result (self.new ≡ with_spare self.new.spare self.old) }
     {
         let verdict = self.verdict(change);
-        let deed = Deed::Taken {
-            change: change.copy(alloc)?,
-            verdict,
-        };
+        let taken = change.copy(alloc)?;
         self.roomy = false;
         self.history.reserve(1)?;
         self.vector.reserve()?;
         let came = applied(verdict, change);
         come_in(alloc, &mut self.slots, &mut self.queries, self.clock, came)?;
         note(&mut self.vector, Some(change));
-        let _ = self.history.push(deed);
+        let _ = self.history.push(Deed::Taken {
+            change: taken,
+            verdict,
+        });
         Ok(verdict)
     }
 
@@ -172,12 +172,10 @@ impl Shard {
         ensures err { OnErr result (self.new ≡ with_spare self.new.spare self.old) }
     {
         let report = self.reported(alloc)?;
-        let deed = Deed::Reported {
-            report: report.copy(alloc)?,
-        };
+        let noted = report.copy(alloc)?;
         self.roomy = false;
         self.history.reserve(1)?;
-        let _ = self.history.push(deed);
+        let _ = self.history.push(Deed::Reported { report: noted });
         Ok(report)
     }
 
@@ -186,13 +184,11 @@ impl Shard {
         ensures added { OnOk result (self.new ≡ after_deed self.old (deed.Heard report.now)) }
         ensures err { OnErr result (self.new ≡ with_spare self.new.spare self.old) }
     {
-        let deed = Deed::Heard {
-            report: report.copy(alloc)?,
-        };
+        let noted = report.copy(alloc)?;
         self.roomy = false;
         self.history.reserve(1)?;
         self.heard.hear(alloc, report)?;
-        let _ = self.history.push(deed);
+        let _ = self.history.push(Deed::Heard { report: noted });
         Ok(())
     }
 
@@ -225,16 +221,14 @@ impl Shard {
         ensures err { OnErr result (self.new ≡ with_spare self.new.spare self.old) }
     {
         let slots = merged(alloc, &self.slots, image, &self.vector, self.clock)?;
-        let deed = Deed::Imaged {
-            image: image.copy(alloc)?,
-        };
+        let noted = image.copy(alloc)?;
         self.roomy = false;
         self.history.reserve(1)?;
         let (old, ids) = (&mut self.slots, &mut self.vector);
         take_over(alloc, old, ids, &mut self.queries, slots, &image.vector)?;
         self.floor = image.floor.max(self.floor);
         self.joined = true;
-        let _ = self.history.push(deed);
+        let _ = self.history.push(Deed::Imaged { image: noted });
         Ok(())
     }
 

@@ -134,7 +134,7 @@ fn tell(queries: &mut Registry, foreseen: Option<Foreseen>)
     ensures { queries.new.entries ≡ told_of foreseen queries.old.entries }
 {
     if let Some(foreseen) = foreseen {
-        let _ = queries.apply(foreseen);
+        queries.apply(foreseen);
     }
 }
 

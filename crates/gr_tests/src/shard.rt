@@ -2,7 +2,7 @@ ghost use Rattle.std.specs.Prelude.{◌≡◌, IfOk};
 ghost use Rattle.gr_value.specs.Shard.{shard_of};
 ghost use Rattle.gr_history.specs.Asks.{key_of};
 
-use gr_history::Ask;
+use gr_history::{Ask, Done, Reply};
 use gr_shard::{Identity, Shard};
 use gr_slots::Slot;
 use gr_stamp::{Stamp, decide};
@@ -47,6 +47,23 @@ fn filled(alloc: Global, key: &Key) -> Result<Shard, Fail>
     Ok(shard)
 }
 
+// What the second client's put gives at a shard whose floor is 3.
+fn first_put(alloc: Global, ask: &Ask) -> Result<Done, Memory>
+    requires { shard_of (key_of ask.now) 1 ≡ 0 }
+{
+    let mut shard = Shard::new(alloc, FIRST, 3)?;
+    Ok(shard.call(alloc, 2, 1, ask)?)
+}
+
+// Whether it was told that there was no value, to whom the change goes, and its stamp's three numbers.
+fn told(done: &Done) -> (bool, u8, Option<(u64, u8, u64)>) {
+    let numbers = done
+        .made
+        .as_ref()
+        .map(|change| (change.stamp.ver(), change.stamp.member(), change.stamp.rv()));
+    (matches!(done.reply, Reply::Null), done.to, numbers)
+}
+
 // The floor, the version of what stands at the key, and what is known of the first member's changes.
 fn stands(shard: &Shard, key: &Key) -> (u64, Option<u64>, bool, bool, u64) {
     let version = shard.slots().find(key).map(|slot: &Slot| slot.stamp.ver());
@@ -89,6 +106,17 @@ fn a_shard_tells_what_stands(rt: HostRuntime) -> Result<(), Fail> {
         (1, 1, 0)
     );
     assert_eq!(rt; left(alloc, &shard)?, (2, 1, 0, 3));
+    Ok(())
+}
+
+// The version is one above the floor, the number the first, and the change goes to the other member.
+#[test]
+fn a_call_tells_what_it_gave(rt: HostRuntime) -> Result<(), Fail> {
+    let alloc = rt.alloc();
+    let key = Key::read(alloc, b"a")?;
+    assert_eq!(rt; key.shard(1), 0);
+    let done = first_put(alloc, &put(alloc, &key)?)?;
+    assert_eq!(rt; told(&done), (true, 2, Some((4, 1, 1))));
     Ok(())
 }
 

@@ -66,12 +66,10 @@ impl Shard {
         ensures made { IfOk result (IsPreparedFor self.new) }
     {
         let report = self.reported(alloc)?;
-        let deed = Deed::Reported {
-            report: report.copy(alloc)?,
-        };
+        let noted = report.copy(alloc)?;
         self.make_room()?;
         Ok(Prepared {
-            deed,
+            deed: Deed::Reported { report: noted },
             came: Came::Told(report),
             turned: none_turned(alloc),
             effect: Effect::none(),
@@ -90,17 +88,15 @@ impl Shard {
         ensures prepared { IfOk result (IsPrepared self.old (next.Hear report.entry)) }
         ensures made { IfOk result (IsPreparedFor self.new) }
     {
-        let deed = Deed::Heard {
-            report: report.copy(alloc)?,
-        };
-        let heard = Some(report.copy(alloc)?);
+        let noted = report.copy(alloc)?;
+        let heard = report.copy(alloc)?;
         self.make_room()?;
         Ok(Prepared {
-            deed,
+            deed: Deed::Heard { report: noted },
             came: Came::Heard,
             turned: none_turned(alloc),
             effect: Effect {
-                heard,
+                heard: Some(heard),
                 ..Effect::none()
             },
         })
@@ -150,11 +146,10 @@ impl Shard {
         let mut ids = self.vector.copy(alloc)?;
         ids.unite(&image.vector)?;
         let kept = image.copy(alloc)?;
-        let deed = Deed::Imaged { image: kept };
         let floor = image.floor.max(self.floor);
         let queries = self.tell_ahead(alloc, turned.as_slice())?;
         Ok(Prepared {
-            deed,
+            deed: Deed::Imaged { image: kept },
             came: Came::Merged,
             turned,
             effect: Effect {

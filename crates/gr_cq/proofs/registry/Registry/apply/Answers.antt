@@ -3,7 +3,7 @@ use Rattle.gr_cq.proofs.registry.Registry.apply.Goals as goal
 
 pub carry_out-requires : goal.carry_out-requires
 carry_out-requires c =
-    fits_made c.self.inside.spare c.self.inside.all c.foreseen.inside.plan c.foreseen.inside.given c.self.invariant
+    fits_made c.self.inside.spare c.self.inside.all c.foreseen.inside.plan c.self.invariant
     (rw (c.self.view_is, c.foreseen.view_is) c.requires)
 
 pub invariant_of-self : goal.invariant_of-self

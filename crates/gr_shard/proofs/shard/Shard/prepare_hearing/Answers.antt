@@ -8,13 +8,13 @@ use Rattle.gr_shard.proofs.shard.Shard.prepare_hearing.Goals as goal
 
 pub returns-clause-prepared : goal.returns-clause-prepared
 returns-clause-prepared c = record {
-  gives = (refl, ap Heard c.in_ok-copy.ensures);
-  turned_are = c.none_turned.ensures ∙ sym (turned_heard c.in_ok-copy.field-0 (reverse c.args.self.now.deeds));
+  gives = (refl, ap Heard c.in_ok-noted.ensures);
+  turned_are = c.none_turned.ensures ∙ sym (turned_heard c.in_ok-noted.noted (reverse c.args.self.now.deeds));
 }
 
 pub returns-clause-made : goal.returns-clause-made
 returns-clause-made c =
-    subst (λ a. IsFit a (Heard c.in_ok-copy.field-0) (record c.none.result { heard = Some c.in_ok-copy-2.field-0 }))
+    subst (λ a. IsFit a (Heard c.in_ok-noted.noted) (record c.none.result { heard = Some c.in_ok-heard.heard }))
     (sym c.in_ok-make_room.ensures.same)
-    (rw (c.in_ok-copy.ensures, c.in_ok-copy-2.ensures, c.none.ensures)
+    (rw (c.in_ok-noted.ensures, c.in_ok-heard.ensures, c.none.ensures)
     (fit_heard (with_spare c.make_room.new.self.spare c.args.self.now) c.in_ok-make_room.ensures.room c.args.report.now))

@@ -24,8 +24,8 @@ invariant_of-self-2 c =
     let here : shard_of change.key was.id.shards ≡ was.id.shard = rw (← c.self.view_is) at c.requires in
     let pushed : c.push.new.self.deeds ≡ was.history.deeds ++ Taken change told ∷ [] =
     on_ok c.push.result (c.push.ensures.room c.in_ok-reserve.ensures.room) c.push.ensures.ok
-    ∙ ap (λ deeds. deeds ++ Taken c.in_ok-copy.field-0 told ∷ []) c.in_ok-reserve.ensures.deeds
-    ∙ ap (λ copy. was.history.deeds ++ Taken copy told ∷ []) c.in_ok-copy.ensures in
+    ∙ ap (λ deeds. deeds ++ Taken c.in_ok-taken.taken told ∷ []) c.in_ok-reserve.ensures.deeds
+    ∙ ap (λ copy. was.history.deeds ++ Taken copy told ∷ []) c.in_ok-taken.ensures in
     let noted : c.note.new.vector.ids ≡ with_id (id_of change) was.vector.ids =
     c.note.ensures ∙ ap (λ v. with_id (id_of change) v.ids) c.in_ok-reserve-2.ensures.room in
     let entered : c.come_in.new.slots.entries ≡ with_change (applied told change) was.clock was.slots.entries = c.in_ok-come_in.ensures.slots
