@@ -5,7 +5,6 @@ use Rattle.std.specs.List.{AllByRecursion}
 use Rattle.std.proofs.Math.Seq.{map-set_same}
 use Rattle.std.proofs.lemmas.List.{take_more_set}
 use Rattle.gr_cq.specs.declared.open.Open.{Open}
-use Rattle.gr_oql.specs.declared.event.Event.{Event}
 use Rattle.gr_cq.specs.declared.foreseen.Plan.{Plan}
 use Rattle.gr_cq.specs.declared.foreseen.Plan.TheVariants as plan
 use Rattle.gr_cq.specs.Foresight.{IsMadeFor, coming_to_each}

@@ -124,10 +124,9 @@ impl Lane {
         ensures ok { IfOk result (λ _. self.new ≡ record self.old { ready = Some (fate mail.now number) }) }
         ensures err { OnErr result (self.new ≡ self.old) }
     {
-        let fate = Fate::of(alloc, mail, number)?;
         self.waiting.reserve(self.held.len() + 2)?;
         self.held.reserve(1)?;
-        self.ready = Some(fate);
+        self.ready = Some(Fate::of(alloc, mail, number)?);
         Ok(())
     }
 

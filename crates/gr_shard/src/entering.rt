@@ -71,22 +71,31 @@ pub fn applied(verdict: Verdict, change: &Change) -> Option<&Change>
     }
 }
 
-/// What becomes of the slots by what comes in at this clock, if anything does.
-pub fn arriving(alloc: Global, clock: u64, came: Option<&Change>) -> Result<SlotsAfter, Memory>
-    ensures { IfOk result (λ after. after ≡ arriving (option_copied came.entry) clock) }
+/// A copy of what comes in, if anything does.
+pub fn copied(alloc: Global, came: Option<&Change>) -> Result<Option<Change>, Memory>
+    ensures { IfOk result (λ copy. copy ≡ option_copied came.entry) }
 {
-    let Some(change) = came else {
-        return Ok(SlotsAfter::Same);
-    };
-    let slot = Slot {
-        kind: change.kind.copy(alloc)?,
-        stamp: change.stamp,
-        taken_at: clock,
-    };
-    Ok(SlotsAfter::With {
-        key: change.key.copy(alloc)?,
-        slot,
-    })
+    match came {
+        None => Ok(None),
+        Some(change) => Ok(Some(change.copy(alloc)?)),
+    }
+}
+
+/// What becomes of the slots by what comes in at this clock, if anything does.
+pub fn arriving(clock: u64, came: Option<Change>) -> SlotsAfter
+    ensures { result ≡ arriving came clock }
+{
+    match came {
+        None => SlotsAfter::Same,
+        Some(Change { key, kind, stamp }) => SlotsAfter::With {
+            key,
+            slot: Slot {
+                kind,
+                stamp,
+                taken_at: clock,
+            },
+        },
+    }
 }
 
 /// What becomes of the ids by what was made, if anything was.

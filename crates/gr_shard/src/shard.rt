@@ -105,11 +105,11 @@ impl Shard {
             joined: false,
             to: recipients(id, &[false; 8]),
             given: [false; 8],
-            slots: Slots::new(alloc),
+            history: History::new(alloc)?,
             vector: Vector::new(alloc)?,
             heard: Heard::new(alloc)?,
             queries: Registry::new(alloc)?,
-            history: History::new(alloc)?,
+            slots: Slots::new(alloc),
         })
     }
 
@@ -122,10 +122,10 @@ impl Shard {
         ensures err { OnErr result (self.new ≡ with_spare self.new.spare self.old) }
     {
         let verdict = self.verdict(change);
-        let taken = change.copy(alloc)?;
         self.roomy = false;
         self.history.reserve(1)?;
         self.vector.reserve()?;
+        let taken = change.copy(alloc)?;
         let came = applied(verdict, change);
         come_in(alloc, &mut self.slots, &mut self.queries, self.clock, came)?;
         note(&mut self.vector, Some(change));
@@ -184,9 +184,9 @@ impl Shard {
         ensures added { OnOk result (self.new ≡ after_deed self.old (deed.Heard report.now)) }
         ensures err { OnErr result (self.new ≡ with_spare self.new.spare self.old) }
     {
-        let noted = report.copy(alloc)?;
         self.roomy = false;
         self.history.reserve(1)?;
+        let noted = report.copy(alloc)?;
         self.heard.hear(alloc, report)?;
         let _ = self.history.push(Deed::Heard { report: noted });
         Ok(())
@@ -220,10 +220,10 @@ impl Shard {
         ensures added { OnOk result (self.new ≡ after_deed self.old (deed.Imaged image.now)) }
         ensures err { OnErr result (self.new ≡ with_spare self.new.spare self.old) }
     {
-        let slots = merged(alloc, &self.slots, image, &self.vector, self.clock)?;
-        let noted = image.copy(alloc)?;
         self.roomy = false;
         self.history.reserve(1)?;
+        let noted = image.copy(alloc)?;
+        let slots = merged(alloc, &self.slots, image, &self.vector, self.clock)?;
         let (old, ids) = (&mut self.slots, &mut self.vector);
         take_over(alloc, old, ids, &mut self.queries, slots, &image.vector)?;
         self.floor = image.floor.max(self.floor);

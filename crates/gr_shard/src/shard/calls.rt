@@ -89,9 +89,9 @@ impl Shard {
             (self.new ≡ after_deed self.old (call_with client seq ask (nothing_made reply))) }
         ensures err { OnErr result (self.new ≡ with_spare self.new.spare self.old) }
     {
-        let told = reply.copy(alloc)?;
         self.roomy = false;
         self.history.reserve(1)?;
+        let told = reply.copy(alloc)?;
         let done = nothing_made(reply);
         let _ = self.history.push(deed_of(client, seq, ask, done));
         Ok(Served {
@@ -120,10 +120,10 @@ impl Shard {
             (call_with client seq ask (given_with (recipients self.old.id (reverse self.old.deeds)) reply (Some change)))) }
         ensures err { OnErr result (self.new ≡ with_spare self.new.spare self.old) }
     {
-        let told = reply.copy(alloc)?;
         self.roomy = false;
         self.history.reserve(1)?;
         self.vector.reserve()?;
+        let told = reply.copy(alloc)?;
         let made = Some(&change);
         come_in(alloc, &mut self.slots, &mut self.queries, self.clock, made)?;
         note(&mut self.vector, made);

@@ -7,7 +7,7 @@ ghost use Rattle.gr_shard.specs.View.{with_spare};
 
 use super::Shard;
 use crate::effect::{Effect, IdsAfter};
-use crate::entering::{applied, arriving, noting};
+use crate::entering::{applied, arriving, copied, noting};
 use crate::making::deed_of;
 use crate::telling::turned_by;
 use crate::{Came, Prepared};
@@ -37,9 +37,11 @@ impl Shard {
         let asked = ask.copy(alloc)?;
         let made = done.made.as_ref();
         let turned = turned_by(alloc, &self.slots, made)?;
-        let slots = arriving(alloc, self.clock, made)?;
-        let ids = noting(made);
+        let arrival = copied(alloc, made)?;
+        let clock = self.clock;
         let queries = self.tell_ahead(alloc, turned.as_slice())?;
+        let slots = arriving(clock, arrival);
+        let ids = noting(made);
         Ok(Prepared {
             deed: deed_of(client, seq, asked, done),
             came: Came::Done(told),
@@ -70,8 +72,10 @@ impl Shard {
         let taken = change.copy(alloc)?;
         let came = applied(verdict, change);
         let turned = turned_by(alloc, &self.slots, came)?;
-        let slots = arriving(alloc, self.clock, came)?;
+        let arrival = copied(alloc, came)?;
+        let clock = self.clock;
         let queries = self.tell_ahead(alloc, turned.as_slice())?;
+        let slots = arriving(clock, arrival);
         Ok(Prepared {
             deed: Deed::Taken {
                 change: taken,

@@ -141,11 +141,11 @@ impl Shard {
         ensures prepared { IfOk result (IsPrepared self.old (next.Merge image.entry)) }
         ensures made { IfOk result (IsPreparedFor self.new) }
     {
-        let slots = merged(alloc, &self.slots, image, &self.vector, self.clock)?;
-        let turned = turned_between(alloc, &self.slots, &slots)?;
+        let kept = image.copy(alloc)?;
         let mut ids = self.vector.copy(alloc)?;
         ids.unite(&image.vector)?;
-        let kept = image.copy(alloc)?;
+        let slots = merged(alloc, &self.slots, image, &self.vector, self.clock)?;
+        let turned = turned_between(alloc, &self.slots, &slots)?;
         let floor = image.floor.max(self.floor);
         let queries = self.tell_ahead(alloc, turned.as_slice())?;
         Ok(Prepared {

@@ -52,10 +52,10 @@ returns-clause-made c =
     let tells = after ∙ ap (λ all. noted all (opened past)) turned_is
     ∙ opened_made was.id was.opening c.args.client c.args.seq ask done.reply done.made done.to past was.slots.entries (opened past)
     c.self.invariant.0.stands refl gives in
-    let slots_are = c.in_ok-slots.ensures ∙ ap (λ (m : Option Change). arriving m was.clock) c.as_ref-made.ensures.value in
+    let slots_are = c.arriving-slots.ensures ∙ ap (λ (m : Option Change). arriving m was.clock) (c.in_ok-arrival.ensures ∙ c.as_ref-made.ensures.value) in
     let ids_are = c.noting-ids.ensures ∙ ap noting c.as_ref-made.ensures.value in
     subst (λ a. IsFit a c.deed_of.result (record c.none.result {
-      slots = c.in_ok-slots.slots;
+      slots = c.arriving-slots.result;
       ids = c.noting-ids.result;
       queries = c.in_ok-queries.queries;
     })) (sym c.in_ok-queries.ensures.same)

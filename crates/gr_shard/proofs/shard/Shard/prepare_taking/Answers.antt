@@ -55,9 +55,9 @@ returns-clause-made c =
     let made : IsMadeAt (opened past) c.in_ok-queries.queries = rw (← c.self.view_is) at c.in_ok-queries.ensures.made in
     let tells = after ∙ ap (λ all. noted all (opened past)) turned_is
     ∙ opened_taken past was.slots.entries (opened past) change told c.self.invariant.0.stands refl is in
-    let slots_are = c.in_ok-slots.ensures ∙ ap (λ (m : Option Change). arriving m was.clock) c.applied-came.ensures in
+    let slots_are = c.arriving-slots.ensures ∙ ap (λ (m : Option Change). arriving m was.clock) (c.in_ok-arrival.ensures ∙ c.applied-came.ensures) in
     subst (λ a. IsFit a (Taken c.in_ok-taken.taken told) (record c.none.result {
-      slots = c.in_ok-slots.slots;
+      slots = c.arriving-slots.result;
       ids = ids_.With change.stamp;
       queries = c.in_ok-queries.queries;
     })) (sym c.in_ok-queries.ensures.same)
