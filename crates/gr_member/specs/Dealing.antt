@@ -32,7 +32,8 @@ ArePairs seats watches = (k : ℕ) (s : Seated Deed Origin) (w : Watched) → k 
 pub record HasMore (p : List (Vec Place)) (seats : List (Seated Deed Origin)) (watches : List Watched) (q : List (Vec Place)) : Type 0 where
   pub many : length q ≡ length p
   pub more : (k : ℕ) (x : Vec Place) (s : Seated Deed Origin) (w : Watched) → k < length p
-      → (slice_index_or q k x).items ≡ (slice_index_or p k x).items ++ placed (slice_index_or seats k s) (slice_index_or watches k w).eye ∷ []
+      → (slice_index_or q k x).items
+      ≡ (slice_index_or p k x).items ++ placed (slice_index_or seats k s) (slice_index_or watches k w).eye ∷ []
   pub room : (k : ℕ) (x : Vec Place) → k < length p → vec_capacity (slice_index_or q k x) ≡ vec_capacity (slice_index_or p k x)
 
 -- the seats of each pass are of these locks

@@ -30,6 +30,7 @@ impl Member {
         requires plan { IsPlan plan }
         requires some { 1 ≤ passes }
         ensures plan { IfOk result (λ made. made.0.plan ≡ plan) }
+        ensures locks { IfOk result (λ made. length made.0.locks ≡ plan.shards) }
         ensures count { IfOk result (λ made. length made.1 ≡ passes) }
         ensures fresh { IfOk result (λ made. AreFresh made.0 passes made.1) }
     {
