@@ -8,7 +8,8 @@ ghost use Rattle.gr_shard.specs.Merges.{IsImageFor};
 ghost use Rattle.gr_shard.specs.Prepared.{Belongs};
 ghost use Rattle.gr_member.specs.Plans.{identity_of};
 ghost use Rattle.gr_member.specs.Seats.{Acts, Gives, Peeks};
-ghost use Rattle.gr_member.specs.Passes.{IsPassOf, StaysAll, At, AddsAt, LooksAt, LooksAll, LooksUpAll, TurnsAll, TurnsSome, SweepsAll, AreReady, OneWaits, MeetsAll};
+ghost use Rattle.gr_member.specs.Passes.{IsPassOf, StaysAll, At, AddsAt, LooksAt, LooksAll, LooksUpAll, MeetsAll};
+ghost use Rattle.gr_member.specs.Passes.{TurnsAll, TurnsSome, SweepsAll, AreReady, OneWaits};
 
 use crate::answers::{done_in, gift_in, verdict_in};
 use crate::lock::ShardLock;
@@ -61,8 +62,10 @@ impl Member {
         ensures stays { StaysAll pass.old pass.new }
         ensures members { IfOk result (λ done. done.to < 2 ^ self.now.plan.members) }
         ensures here { IfOk result (λ done. AllByRecursion
-            (λ change. shard_of change.key self.now.plan.shards ≡ shard_of (key_of ask.now) self.now.plan.shards) (option_to_list done.made)) }
-        ensures done { IfOk result (λ done. AddsAt (shard_of (key_of ask.now) self.now.plan.shards) pass.old (deed.Call client done.to seq ask.now done.reply done.made) pass.new) }
+            (λ change. shard_of change.key self.now.plan.shards ≡ shard_of (key_of ask.now) self.now.plan.shards)
+            (option_to_list done.made)) }
+        ensures done { IfOk result (λ done. AddsAt (shard_of (key_of ask.now) self.now.plan.shards) pass.old
+            (deed.Call client done.to seq ask.now done.reply done.made) pass.new) }
         ensures refused { OnErr result (LooksAt (shard_of (key_of ask.now) self.now.plan.shards) pass.old pass.new) }
     {
         let shard = ask.key().shard(self.plan.shards);
@@ -80,7 +83,8 @@ impl Member {
     ) -> Result<Verdict, Memory>
         requires { IsPassOf self.now pass.old }
         ensures stays { StaysAll pass.old pass.new }
-        ensures done { IfOk result (λ told. AddsAt (shard_of change.now.key self.now.plan.shards) pass.old (deed.Taken change.now told) pass.new) }
+        ensures done { IfOk result (λ told. AddsAt (shard_of change.now.key self.now.plan.shards) pass.old
+            (deed.Taken change.now told) pass.new) }
         ensures refused { OnErr result (LooksAt (shard_of change.now.key self.now.plan.shards) pass.old pass.new) }
     {
         let shard = change.key.shard(self.plan.shards);
@@ -121,7 +125,8 @@ impl Member {
         requires shard { shard < self.now.plan.shards }
         requires to { (1 ≤ to) × (to ≤ self.now.plan.members) }
         ensures stays { StaysAll pass.old pass.new }
-        ensures done { IfOk result (λ gift. At shard (λ s t. Gives (identity_of self.now.plan shard) self.now.plan.floor s to what gift t) pass.old pass.new) }
+        ensures done { IfOk result (λ gift. At shard
+            (λ s t. Gives (identity_of self.now.plan shard) self.now.plan.floor s to what gift t) pass.old pass.new) }
         ensures refused { OnErr result (LooksAt shard pass.old pass.new) }
     {
         let came = self.act(rt, alloc, pass, shard, &Next::Give { to, what })?;

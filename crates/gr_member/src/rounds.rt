@@ -25,7 +25,8 @@ pub(crate) fn query_each<R: Wait + Sync>(
     requires its { AreTheirs locks.now shards.old.items }
     requires some { 1 ≤ vec_len shards.old }
     ensures stays { StaysAll shards.old.items shards.new.items }
-    ensures done { IfOk result (λ replies. TurnsAll (λ reply. deed.Asked client seq ask.now reply) shards.old.items replies shards.new.items) }
+    ensures done { IfOk result (λ replies. TurnsAll (λ reply. deed.Asked client seq ask.now reply) shards.old.items replies
+        shards.new.items) }
     ensures refused { OnErr result (TurnsSome (λ reply. deed.Asked client seq ask.now reply) shards.old.items shards.new.items) }
 {
     let next = Next::Query { client, seq, ask };
