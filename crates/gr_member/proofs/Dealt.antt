@@ -1,6 +1,6 @@
 -- Passes while their seats are dealt, shard by shard.
-use Rattle.std.proofs.Common.{◌≡◌, ◌≢◌, ℕ, zero, suc, ◌+◌, ◌<◌, ◌≤◌, List, [], ◌∷◌, ◌++◌, length, get_or, map, reverse, refl, sym, ap, ◌∙◌, subst, arith}
-use Rattle.std.proofs.Common.{length-append}
+use Rattle.std.proofs.Common.{◌≡◌, ◌≢◌, ℕ, zero, suc, ◌+◌, ◌<◌, ◌≤◌, List, [], ◌∷◌, ◌++◌, length, get_or, map, reverse}
+use Rattle.std.proofs.Common.{refl, sym, ap, ◌∙◌, subst, arith, length-append}
 use Rattle.std.proofs.lemmas.List.{get_or_push, get_or_append_left}
 use Rattle.std.specs.Prelude.{All, vec_capacity}
 use Rattle.gr_peek.specs.Views.{Watching}
@@ -175,8 +175,8 @@ dealt_room plan passes locks dealt j h b n p c =
     let r = h.room n p d in
     omega arith
 
-pub dealt_theirs : (plan : Plan) (passes : ℕ) (locks : List ShardLock) (dealt : List (Vec Place)) (j : ℕ) → AreDealt plan passes locks dealt j
-    → AreAllTheirs locks dealt
+pub dealt_theirs : (plan : Plan) (passes : ℕ) (locks : List ShardLock) (dealt : List (Vec Place)) (j : ℕ)
+    → AreDealt plan passes locks dealt j → AreAllTheirs locks dealt
 dealt_theirs plan passes locks dealt j h n p c =
     let d : n < passes = subst (λ (i : ℕ). n < i) h.count c in
     record {
@@ -200,8 +200,8 @@ all_map P [] h n x b = absurd (omega arith)
 all_map P (v ∷ vs) h zero x b = h 0 v b
 all_map P (v ∷ vs) h (suc n) x b = all_map (λ i. P (suc i)) vs (λ i p c. h (suc i) p (omega arith)) n x (omega arith)
 
-pub dealt_fresh : (plan : Plan) (passes : ℕ) (locks : List ShardLock) (dealt : List (Vec Place)) (j : ℕ) → AreDealt plan passes locks dealt j
-    → AreFresh (record { plan = plan; locks = locks }) passes (map (λ (v : Vec Place). v.items) dealt)
+pub dealt_fresh : (plan : Plan) (passes : ℕ) (locks : List ShardLock) (dealt : List (Vec Place)) (j : ℕ)
+    → AreDealt plan passes locks dealt j → AreFresh (record { plan = plan; locks = locks }) passes (map (λ (v : Vec Place). v.items) dealt)
 dealt_fresh plan passes locks dealt j h n x b = all_map (IsFresh (record { plan = plan; locks = locks }) passes) dealt (λ i p c.
     let d : i < passes = subst (λ (z : ℕ). i < z) h.count c in
     record {

@@ -1,5 +1,6 @@
 -- Passes while the seats of one shard are given to them, the last first.
-use Rattle.std.proofs.Common.{◌≡◌, ◌≢◌, ℕ, ◌+◌, ◌<◌, ◌≤◌, List, [], ◌∷◌, ◌++◌, length, get_or, set, refl, sym, ap, ◌∙◌, subst, arith, length-append}
+use Rattle.std.proofs.Common.{◌≡◌, ◌≢◌, ℕ, ◌+◌, ◌<◌, ◌≤◌, List, [], ◌∷◌, ◌++◌, length, get_or, set}
+use Rattle.std.proofs.Common.{refl, sym, ap, ◌∙◌, subst, arith, length-append}
 use Rattle.std.proofs.lemmas.List.{get_or-set_same, get_or-set_other, get_or_read, length-set, get_or_push, get_or_append_left}
 use Rattle.std.specs.Prelude.{vec_capacity}
 use Rattle.std.specs.Global.{Vec}
@@ -24,7 +25,8 @@ pub record Handed (p q : List (Vec Place)) (seats rest : List (Seated Deed Origi
   pub room : (k : ℕ) (x : Vec Place) → length rest ≤ k → k < length p → vec_capacity (get_or q k x) ≡ vec_capacity (get_or p k x)
 
 module _ (p q : List (Vec Place)) (seats rest fewer : List (Seated Deed Origin)) (watches left less : List Watched)
-    (s : Seated Deed Origin) (w : Watched) (h : Handed p q seats rest watches left) (e : rest ≡ fewer ++ s ∷ []) (f : left ≡ less ++ w ∷ []) where
+    (s : Seated Deed Origin) (w : Watched) (h : Handed p q seats rest watches left) (e : rest ≡ fewer ++ s ∷ [])
+    (f : left ≡ less ++ w ∷ []) where
   rest_long : length rest ≡ length fewer + 1
   rest_long = ap length e ∙ length-append fewer (s ∷ [])
 

@@ -7,3 +7,4 @@ pub mod Going
 pub mod Dealt
 pub mod Handing
 pub mod Leaving
+pub mod Peeking

@@ -11,7 +11,8 @@ use Rattle.gr_member.specs.Plans.{identity_of}
 use Rattle.gr_member.specs.Replicas.{IsBaseOf}
 use Rattle.gr_member.specs.Seats.{Place, Stays, Looks, Peeks}
 use Rattle.gr_member.specs.Passes.{House, IsPassOf, AreTheirs, AtEach, StaysAll, LooksAll, MeetsAll, At, AreReady, AreReadyBy, OneWaits}
-use Rattle.gr_member.specs.Passes.{IsAt, LooksUpAll, OneWaitsBy}
+use Rattle.gr_member.specs.Passes.{IsAt, IsSeatOf, LooksUpAll, OneWaitsBy}
+use Rattle.gr_member.specs.declared.plan.Plan.{Plan}
 use Rattle.gr_peek.specs.declared.eye.PeekEnd.{PeekEnd}
 use Rattle.gr_peek.specs.declared.eye.Seen.{Seen}
 use Rattle.std.specs.Prelude.{Result}
@@ -66,6 +67,14 @@ peek_stays key r s t p = record {
   watches = follows_peek r s.eye t.eye p.entered;
 }
 
+-- a seat of the same lock, base and copy is one of the shard too
+seat_is_of : (plan : Plan) (k : ℕ) (l : ShardLock) (s t : Place) → IsSeatOf plan k l s → t.lock ≡ s.lock → t.view.base ≡ s.view.base
+    → t.eye.copy ≡ s.eye.copy → IsSeatOf plan k l t
+seat_is_of plan k l s t a i b w = record {
+  here = record { its = i ∙ a.here.its; watched = w ∙ a.here.watched };
+  based = subst (IsBaseOf (identity_of plan k) plan.floor) (sym b) a.based;
+}
+
 -- a pass stays one of the member
 pub pass_stays : (house : House) (p q : List Place) → IsPassOf house p → StaysAll p q → IsPassOf house q
 pass_stays house p q i s = record {
@@ -74,7 +83,7 @@ pass_stays house p q i s = record {
       let c : k < length p = subst (λ (n : ℕ). k < n) s.many b in
       let a = i.each k l x c in
       let t = s.each k x c in
-      record { here = record { its = t.its ∙ a.here.its; watched = t.watches.copy_is ∙ a.here.watched }; based = subst (IsBaseOf (identity_of house.plan k) house.plan.floor) (sym t.based) a.based };
+      seat_is_of house.plan k _ _ _ a t.its t.based t.watches.copy_is;
 }
 
 pub pass_meets : (house : House) (p r q : List Place) → IsPassOf house p → MeetsAll p r q → IsPassOf house q
@@ -84,7 +93,7 @@ pass_meets house p r q i s = record {
       let c : k < length p = subst (λ (n : ℕ). k < n) s.many b in
       let a = i.each k l x c in
       let t = s.each k x x c in
-      record { here = record { its = t.its ∙ a.here.its; watched = t.watches.copy_is ∙ a.here.watched }; based = subst (IsBaseOf (identity_of house.plan k) house.plan.floor) (sym t.based) a.based };
+      seat_is_of house.plan k _ _ _ a t.its t.based t.watches.copy_is;
 }
 
 pub shard_below : (key : List ℕ) (shards : ℕ) → 1 ≤ shards → shard_of key shards < shards

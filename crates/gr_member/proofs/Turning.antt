@@ -1,10 +1,10 @@
 -- What one turn leaves of a seat with its eye.
-use Rattle.std.proofs.Common.{◌≡◌, ℕ, ◌+◌, ◌-◌, ◌≤◌, List, [], ◌∷◌, ◌++◌, length, reverse, Option, Some, refl, sym, ap, ◌∙◌, subst, arith, length-append, append-nil, Bool, true, false, cond}
+use Rattle.std.proofs.Common.{◌≡◌, ℕ, ◌+◌, ◌-◌, ◌≤◌, List, [], ◌∷◌, ◌++◌, length, reverse, Option, Some, refl, sym, ap, ◌∙◌, subst, arith}
+use Rattle.std.proofs.Common.{length-append, append-nil, Bool, true, false, cond}
 use Rattle.std.specs.Prelude.{Result, Ok, Err, OnErr}
 use Rattle.std.proofs.Math.Dec.{leb}
 use Rattle.std.proofs.lemmas.List.{length-reverse}
 use Rattle.gr_peek_law.proofs.Shown.{count}
-use Rattle.atomic_table.specs.Seated.{TableId}
 use Rattle.gr_history.specs.declared.deed.Deed.{Deed}
 use Rattle.gr_oql.specs.declared.event.Turned.{Turned}
 use Rattle.gr_peek.specs.Entering.{Follows}
@@ -13,7 +13,7 @@ use Rattle.gr_peek_law.specs.Turns.{turned_each}
 use Rattle.gr_shard.specs.declared.next.Came.{Came}
 use Rattle.gr_shard.specs.declared.next.Next.{Next}
 use Rattle.gr_turn.specs.declared.view.View.{View}
-use Rattle.gr_turn.specs.Views.{Seated, IsAccounted, both, count_from, found, left_by, longer, won_by, with_lost}
+use Rattle.gr_turn.specs.Views.{Seated, Turned as TurnOut, IsAccounted, both, count_from, found, left_by, longer, won_by, with_lost}
 use Rattle.gr_value.specs.Lists.{StartsWith}
 use Rattle.gr_member.specs.declared.replica.Origin.{Origin}
 use Rattle.gr_member.specs.Replicas.{Replicated, Does, Watched, IsWatchOf}
@@ -30,18 +30,28 @@ pub turn_copy : (s : Seated Deed Origin) (x z : Replicated) (watch : Watched) �
     → z.origin ≡ x.origin → z.origin.copy ≡ watch.eye.copy
 turn_copy s x z watch b h e = ap (λ (o : Origin). o.copy) e ∙ h.copied x.origin b
 
--- One turn of the seat s: the value x was taken out with this view, and given back as z.
-pub record Turns (s t : Seated Deed Origin) (lock : TableId) (view : View Deed Origin) (x z : Replicated) : Type 0 where
-  pub its : lock ≡ s.lock
-  pub won : view ≡ won_by (with_lost s.view view.lost view.word) x.deeds
-  pub based : s.view.base ≡ Some x.origin
-  pub known : StartsWith x.deeds s.view.seen
-  pub back : t.lock ≡ lock
-  pub left : t.view ≡ left_by view z.deeds
+-- a turn that is out
+abbrev pub Out : Type 0
+Out = TurnOut Replicated Deed Origin
 
-module _ (s t : Seated Deed Origin) (lock : TableId) (view : View Deed Origin) (x z : Replicated) (turns : Turns s t lock view x z) where
+-- One turn of the seat s: it was out as o, and was given back with the value z.
+pub record Turns (s t : Seated Deed Origin) (o : Out) (z : Replicated) : Type 0 where
+  pub its : o.lock ≡ s.lock
+  pub won : o.view ≡ won_by (with_lost s.view o.view.lost o.view.word) o.value.deeds
+  pub based : s.view.base ≡ Some o.value.origin
+  pub known : StartsWith o.value.deeds s.view.seen
+  pub back : t.lock ≡ o.lock
+  pub left : t.view ≡ left_by o.view z.deeds
+
+-- the turn, by what entering and leaving say
+pub turned_by : (s t : Seated Deed Origin) (o : Out) (z : Replicated) → o.lock ≡ s.lock
+    → o.view ≡ won_by (with_lost s.view o.view.lost o.view.word) o.value.deeds → s.view.base ≡ Some o.value.origin
+    → StartsWith o.value.deeds s.view.seen → t.lock ≡ o.lock → t.view ≡ left_by o.view z.deeds → Turns s t o z
+turned_by s t o z i w b k l v = record { its = i; won = w; based = b; known = k; back = l; left = v }
+
+module _ (s t : Seated Deed Origin) (o : Out) (z : Replicated) (turns : Turns s t o z) where
   -- the view afterwards, by the view before
-  left_is : t.view ≡ left_by (won_by (with_lost s.view view.lost view.word) x.deeds) z.deeds
+  left_is : t.view ≡ left_by (won_by (with_lost s.view o.view.lost o.view.word) o.value.deeds) z.deeds
   left_is = turns.left ∙ ap (λ (v : View Deed Origin). left_by v z.deeds) turns.won
 
   pub turn_stays : (eye after : Watching) → Follows eye after → Stays (placed s eye) (placed t after)
@@ -61,19 +71,19 @@ module _ (s t : Seated Deed Origin) (lock : TableId) (view : View Deed Origin) (
   turn_seen = ap (λ (v : View Deed Origin). v.seen) left_is
 
   -- a turn in which no deed was added
-  pub turn_looks : (eye after : Watching) → Follows eye after → z.deeds ≡ x.deeds → Looks (placed s eye) (placed t after)
+  pub turn_looks : (eye after : Watching) → Follows eye after → z.deeds ≡ o.value.deeds → Looks (placed s eye) (placed t after)
   turn_looks eye after f e = record {
     stays = turn_stays eye after f;
     seen = subst (λ (l : List Deed). StartsWith l s.view.seen) (sym (ap (λ (v : View Deed Origin). v.seen) left_is ∙ e)) turns.known;
     made = ap (λ (v : View Deed Origin). v.made) left_is
-        ∙ ap (λ (list : List Deed). s.view.made ++ count_from (length x.deeds) (length list - length x.deeds)) e
-        ∙ ap (λ (n : ℕ). s.view.made ++ count_from (length x.deeds) n) (none_more x.deeds)
+        ∙ ap (λ (list : List Deed). s.view.made ++ count_from (length o.value.deeds) (length list - length o.value.deeds)) e
+        ∙ ap (λ (n : ℕ). s.view.made ++ count_from (length o.value.deeds) n) (none_more o.value.deeds)
         ∙ append-nil s.view.made;
     won = let w = turn_won in omega arith;
   }
 
   -- a turn in which the eye went to all that is published
-  pub turn_up : (eye after : Watching) → Follows eye after → z.deeds ≡ x.deeds → after.known ≡ turned_each (reverse z.deeds)
+  pub turn_up : (eye after : Watching) → Follows eye after → z.deeds ≡ o.value.deeds → after.known ≡ turned_each (reverse z.deeds)
       → LooksUp (placed s eye) (placed t after)
   turn_up eye after f e k = record {
     looks = turn_looks eye after f e;
@@ -81,23 +91,23 @@ module _ (s t : Seated Deed Origin) (lock : TableId) (view : View Deed Origin) (
   }
 
   -- a turn in which one deed was added
-  turn_adds : (d : Deed) (eye after : Watching) → Follows eye after → z.deeds ≡ x.deeds ++ d ∷ []
-      → AddsBehind x.deeds (placed s eye) d (placed t after)
+  turn_adds : (d : Deed) (eye after : Watching) → Follows eye after → z.deeds ≡ o.value.deeds ++ d ∷ []
+      → AddsBehind o.value.deeds (placed s eye) d (placed t after)
   turn_adds d eye after f e = record {
     stays = turn_stays eye after f;
     known = turns.known;
     seen = ap (λ (v : View Deed Origin). v.seen) left_is ∙ e;
     made = ap (λ (v : View Deed Origin). v.made) left_is
-        ∙ ap (λ (list : List Deed). s.view.made ++ count_from (length x.deeds) (length list - length x.deeds)) e
-        ∙ ap (λ (n : ℕ). s.view.made ++ count_from (length x.deeds) n) (one_more x.deeds d);
+        ∙ ap (λ (list : List Deed). s.view.made ++ count_from (length o.value.deeds) (length list - length o.value.deeds)) e
+        ∙ ap (λ (n : ℕ). s.view.made ++ count_from (length o.value.deeds) n) (one_more o.value.deeds d);
   }
 
-  pub turn_acts : (to_do : Next) (came : Came) (eye after : Watching) → Follows eye after → Does x to_do came z
+  pub turn_acts : (to_do : Next) (came : Came) (eye after : Watching) → Follows eye after → Does o.value to_do came z
       → Acts (placed s eye) to_do came (placed t after)
   turn_acts to_do came eye after f d = record {
-    origin = x.origin;
+    origin = o.value.origin;
     based = turns.based;
-    before = x.deeds;
+    before = o.value.deeds;
     deed = d.deed;
     adds = turn_adds d.deed eye after f d.added;
     gives = d.gives;
@@ -108,13 +118,18 @@ module _ (s t : Seated Deed Origin) (lock : TableId) (view : View Deed Origin) (
   pub turn_kept : (old new : Watched) → IsWatchOf s.view old → new.noted ≡ turned_each (reverse z.deeds) → Follows old.eye new.eye
       → IsWatchOf t.view new
   turn_kept old new h n f = record {
-    copied = λ o e. h.copied o (sym (ap (λ (v : View Deed Origin). v.base) left_is) ∙ e) ∙ sym f.copy_is;
+    copied = λ p e. h.copied p (sym (ap (λ (v : View Deed Origin). v.base) left_is) ∙ e) ∙ sym f.copy_is;
     noted = n ∙ ap (λ (l : List Deed). turned_each (reverse l)) (sym (ap (λ (v : View Deed Origin). v.seen) left_is));
   }
 
 -- the seat that was taken out is the one that the pass showed
 pub seat_is : (o r : Option (Seated Deed Origin)) (s : Seated Deed Origin) → r ≡ Some s → r ≡ o → seat_in o ≡ s
 seat_is o r s a b = ap seat_in (sym b ∙ a)
+
+-- so what was noted of it is what it has seen
+pub watch_is : (o r : Option (Seated Deed Origin)) (s : Seated Deed Origin) (watch : Watched) → r ≡ Some s → r ≡ o
+    → (is_there o ≡ true) × IsWatchOf (seat_in o).view watch → IsWatchOf s.view watch
+watch_is o r s watch a b w = subst (λ (x : Seated Deed Origin). IsWatchOf x.view watch) (seat_is o r s a b) w.1
 
 pub place_is : (o r : Option (Seated Deed Origin)) (s : Seated Deed Origin) (eye : Watching) (self : Place) → r ≡ Some s → r ≡ o
     → placed (seat_in o) eye ≡ self → placed s eye ≡ self

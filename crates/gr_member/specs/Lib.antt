@@ -6,3 +6,4 @@ pub mod Passes
 pub mod Left
 pub mod Fresh
 pub mod Dealing
+pub mod Peeked

@@ -4,6 +4,7 @@
 mod answers;
 mod dealing;
 mod ending;
+mod laws;
 mod lock;
 mod making;
 mod meeting;
@@ -17,6 +18,7 @@ mod watch;
 
 pub use gr_peek::{PeekEnd, Seen};
 pub use gr_value::Memory;
+pub use laws::earlier_peeks_are_of_the_history;
 pub use member::Member;
 pub use pass::{Pass, PassList};
 pub use plan::Plan;

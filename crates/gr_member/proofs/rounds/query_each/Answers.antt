@@ -13,10 +13,11 @@ loop-k-preserved g c =
     let below : c.loop-k.k < length c.args.shards.now.items = omega arith in
     record {
       held = let room = c.loop-k.invariant.held in let same = c.push_reserved.ensures.capacity in omega arith;
-      turned = turned_more (Asked c.args.client c.args.seq c.args.ask.now) c.args.shards.now.items c.loop-k.shards.items c.loop-k.replies.items
-          c.push_reserved.new.self.items c.loop-k.k c.reply_in.result c.index_mut.result.now c.act.new.self below
+      turned = turned_more (Asked c.args.client c.args.seq c.args.ask.now) c.args.shards.now.items c.loop-k.shards.items
+          c.loop-k.replies.items c.push_reserved.new.self.items c.loop-k.k c.reply_in.result c.index_mut.result.now c.act.new.self below
           c.loop-k.invariant.turned c.index_mut.ensures.value c.push_reserved.ensures.items
-          (acts_asked c.index_mut.result.now c.act.new.self c.args.client c.args.seq c.args.ask c.in_ok-came.came c.reply_in.result c.in_ok-came.ensures.done c.reply_in.ensures);
+          (acts_asked c.index_mut.result.now c.act.new.self c.args.client c.args.seq c.args.ask c.in_ok-came.came c.reply_in.result
+          c.in_ok-came.ensures.done c.reply_in.ensures);
     }
 
 pub returns-in_err-came-clause-stays : goal.returns-in_err-came-clause-stays
@@ -25,8 +26,8 @@ returns-in_err-came-clause-stays g c =
     let end = c.len-k-end.ensures in
     let test = c.loop-k-test.true in
     let below : c.loop-k.k < length c.args.shards.now.items = omega arith in
-    turned_refused (Asked c.args.client c.args.seq c.args.ask.now) c.args.shards.now.items c.loop-k.shards.items c.loop-k.replies.items c.loop-k.k
-    c.index_mut.result.now c.act.new.self below c.loop-k.invariant.turned
+    turned_refused (Asked c.args.client c.args.seq c.args.ask.now) c.args.shards.now.items c.loop-k.shards.items
+    c.loop-k.replies.items c.loop-k.k c.index_mut.result.now c.act.new.self below c.loop-k.invariant.turned
     c.index_mut.ensures.value c.act.ensures.stays
 
 pub returns-in_err-came-clause-refused : goal.returns-in_err-came-clause-refused
@@ -49,9 +50,10 @@ returns-clause-done g c =
     let end = c.len-k-end.ensures in
     let test = c.loop-k-test.false in
     let upto = c.loop-k.auto.k-end in
-    subst (λ (told : List _). TurnsAll (Asked c.args.client c.args.seq c.args.ask.now) c.args.shards.now.items told c.loop-k.shards.items) (sym c.from_vec.ensures)
-    (turned_all (Asked c.args.client c.args.seq c.args.ask.now) c.args.shards.now.items c.loop-k.shards.items c.loop-k.replies.items c.loop-k.k
-    c.loop-k.invariant.turned (omega arith))
+    subst (λ (told : List _). TurnsAll (Asked c.args.client c.args.seq c.args.ask.now) c.args.shards.now.items told
+    c.loop-k.shards.items) (sym c.from_vec.ensures)
+    (turned_all (Asked c.args.client c.args.seq c.args.ask.now) c.args.shards.now.items c.loop-k.shards.items c.loop-k.replies.items
+    c.loop-k.k c.loop-k.invariant.turned (omega arith))
 
 pub returns-in_err-replies-clause-refused : goal.returns-in_err-replies-clause-refused
 returns-in_err-replies-clause-refused g c =

@@ -16,7 +16,8 @@ loop-k-preserved g c =
       turned = turned_more Reported c.args.shards.now.items c.loop-k.shards.items c.loop-k.reports.items
           c.push_reserved.new.self.items c.loop-k.k c.report_in.result c.index_mut.result.now c.act.new.self below
           c.loop-k.invariant.turned c.index_mut.ensures.value c.push_reserved.ensures.items
-          (acts_reported c.index_mut.result.now c.act.new.self c.in_ok-came.came c.report_in.result c.in_ok-came.ensures.done c.report_in.ensures);
+          (acts_reported c.index_mut.result.now c.act.new.self c.in_ok-came.came c.report_in.result
+          c.in_ok-came.ensures.done c.report_in.ensures);
     }
 
 pub returns-in_err-came-clause-stays : goal.returns-in_err-came-clause-stays

@@ -38,7 +38,8 @@ returns-clause-here g c =
     let at : c.shard-shard.result ≡ shard_of (key_of c.args.ask.now) c.args.self.now.plan.shards =
     c.shard-shard.ensures ∙ ap (λ (key : List ℕ). shard_of key c.self.inside.plan.shards) c.key.ensures
     ∙ ap (λ (h : House). shard_of (key_of c.args.ask.now) h.plan.shards) c.self.view_is in
-    subst (λ (k : ℕ). AllByRecursion (λ change. shard_of change.key c.args.self.now.plan.shards ≡ k) (option_to_list c.done_in.result.made)) at
+    subst (λ (k : ℕ). AllByRecursion (λ change. shard_of change.key c.args.self.now.plan.shards ≡ k)
+    (option_to_list c.done_in.result.made)) at
     (acts_here _ a.after c.args.client c.args.seq c.args.ask c.in_ok-came.came c.done_in.result
     (identity_of c.args.self.now.plan c.shard-shard.result) c.args.self.now.plan.floor (a.turned nowhere) c.done_in.ensures
     (c.requires.each c.shard-shard.result (lock_at nowhere) nowhere a.there).based (sym at))

@@ -7,49 +7,40 @@ use Rattle.gr_turn.specs.Views.{Seated, with_lost}
 use Rattle.gr_member.specs.declared.replica.Origin.{Origin}
 use Rattle.gr_member.specs.Replicas.{Replicated, IsWatchOf}
 use Rattle.gr_member.specs.Seats.{Place, placed, Looks, LooksUp}
-use Rattle.gr_member.proofs.Turning.{Turns, seat_is, place_is, put_back, there_again, same_list, turn_copy, turn_kept, turn_looks, turn_seen, turn_up}
+use Rattle.gr_member.proofs.Turning.{turned_by, watch_is, place_is, put_back, there_again, same_list, turn_copy, turn_kept, turn_up}
 use Rattle.gr_member.proofs.pass.ShardPass.look.Goals as goal
 
 pub reach-requires : goal.reach-requires
 reach-requires g c =
-    let watch : IsWatchOf c.in-Some.seat.view c.self.inside.watch = subst (λ (s : Seated Deed Origin). IsWatchOf s.view c.self.inside.watch)
-    (seat_is c.self.inside.seat c.take.result c.in-Some.seat c.in-Some.is c.take.ensures.value) c.self.invariant.1 in
+    let watch = watch_is c.self.inside.seat c.take.result c.in-Some.seat c.self.inside.watch c.in-Some.is c.take.ensures.value
+    c.self.invariant in
     ap (λ (n : Note). n.copy) c.tell.ensures ∙ ap (λ (r : Replicated). r.origin.copy) c.value.ensures
     ∙ turn_copy c.in-Some.seat c.enter-turn.result.value c.enter-turn.result.value c.self.inside.watch c.enter-turn.ensures.base watch refl
 
 pub invariant_of-self : goal.invariant_of-self
 invariant_of-self g c =
-    let turns : Turns c.in-Some.seat c.leave.result c.enter-turn.result.lock c.enter-turn.result.view c.enter-turn.result.value c.enter-turn.result.value = record {
-      its = c.enter-turn.ensures.lock;
-      won = c.enter-turn.ensures.won;
-      based = c.enter-turn.ensures.base;
-      known = c.enter-turn.ensures.seen;
-      back = c.leave.ensures.lock;
-      left = c.leave.ensures.left;
-    } in
-    let watch : IsWatchOf c.in-Some.seat.view c.self.inside.watch = subst (λ (s : Seated Deed Origin). IsWatchOf s.view c.self.inside.watch)
-    (seat_is c.self.inside.seat c.take.result c.in-Some.seat c.in-Some.is c.take.ensures.value) c.self.invariant.1 in (
+    let turns = turned_by c.in-Some.seat c.leave.result c.enter-turn.result c.enter-turn.result.value c.enter-turn.ensures.lock
+    c.enter-turn.ensures.won c.enter-turn.ensures.base c.enter-turn.ensures.seen c.leave.ensures.lock c.leave.ensures.left in
+    let watch = watch_is c.self.inside.seat c.take.result c.in-Some.seat c.self.inside.watch c.in-Some.is c.take.ensures.value
+    c.self.invariant in (
       there_again c.replace-before.new.self c.leave.result c.replace-before.ensures.after,
       put_back (λ (t : Seated Deed Origin). IsWatchOf t.view c.reach.new.self) c.replace-before.new.self c.leave.result
           c.replace-before.ensures.after
-          (turn_kept _ _ _ _ _ _ turns c.self.inside.watch c.reach.new.self watch (c.reach.ensures.noted ∙ ap (λ (n : Note). n.publications) c.tell.ensures ∙ ap (λ (r : Replicated). turned_each (reverse r.deeds)) c.value.ensures) c.reach.ensures.follows),
+          (turn_kept _ _ _ _ turns c.self.inside.watch c.reach.new.self watch (c.reach.ensures.noted
+          ∙ ap (λ (n : Note). n.publications) c.tell.ensures ∙ ap (λ (r : Replicated). turned_each (reverse r.deeds)) c.value.ensures)
+          c.reach.ensures.follows),
     )
 
 pub returns : goal.returns
 returns g c =
-    let turns : Turns c.in-Some.seat c.leave.result c.enter-turn.result.lock c.enter-turn.result.view c.enter-turn.result.value c.enter-turn.result.value = record {
-      its = c.enter-turn.ensures.lock;
-      won = c.enter-turn.ensures.won;
-      based = c.enter-turn.ensures.base;
-      known = c.enter-turn.ensures.seen;
-      back = c.leave.ensures.lock;
-      left = c.leave.ensures.left;
-    } in
-    let same : placed c.in-Some.seat c.self.inside.watch.eye ≡ c.args.self.now = place_is c.self.inside.seat c.take.result c.in-Some.seat
-    c.self.inside.watch.eye c.args.self.now c.in-Some.is c.take.ensures.value c.self.view_is in
-    put_back (λ (t : Seated Deed Origin). LooksUp c.args.self.now (placed t c.reach.new.self.eye)) c.replace-before.new.self c.leave.result c.replace-before.ensures.after
+    let turns = turned_by c.in-Some.seat c.leave.result c.enter-turn.result c.enter-turn.result.value c.enter-turn.ensures.lock
+    c.enter-turn.ensures.won c.enter-turn.ensures.base c.enter-turn.ensures.seen c.leave.ensures.lock c.leave.ensures.left in
+    let same = place_is c.self.inside.seat c.take.result c.in-Some.seat c.self.inside.watch.eye c.args.self.now c.in-Some.is
+    c.take.ensures.value c.self.view_is in
+    put_back (λ (t : Seated Deed Origin). LooksUp c.args.self.now (placed t c.reach.new.self.eye))
+    c.replace-before.new.self c.leave.result c.replace-before.ensures.after
     (subst (λ (p : Place). LooksUp p (placed c.leave.result c.reach.new.self.eye)) same
-    (turn_up _ _ _ _ _ _ turns c.self.inside.watch.eye c.reach.new.self.eye c.reach.ensures.follows refl
+    (turn_up _ _ _ _ turns c.self.inside.watch.eye c.reach.new.self.eye c.reach.ensures.follows refl
     (c.reach.ensures.known ∙ ap (λ (n : Note). n.publications) c.tell.ensures
     ∙ ap (λ (r : Replicated). turned_each (reverse r.deeds)) c.value.ensures)))
 

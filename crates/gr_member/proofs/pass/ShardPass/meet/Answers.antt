@@ -4,7 +4,7 @@ use Rattle.gr_turn.specs.Views.{Seated}
 use Rattle.gr_member.specs.declared.replica.Origin.{Origin}
 use Rattle.gr_member.specs.Replicas.{IsWatchOf}
 use Rattle.gr_member.specs.Seats.{Place, placed, Meets}
-use Rattle.gr_member.proofs.Turning.{seat_is, place_is, put_back, there_again, seats_meet, watches_meet}
+use Rattle.gr_member.proofs.Turning.{watch_is, place_is, put_back, there_again, seats_meet, watches_meet}
 use Rattle.gr_member.proofs.pass.ShardPass.meet.Goals as goal
 
 pub returns : goal.returns
@@ -22,11 +22,10 @@ returns c =
 
 pub invariant_of-self : goal.invariant_of-self
 invariant_of-self c =
-    let one : IsWatchOf c.in-Some.seat.view c.self.inside.watch = subst (λ (s : Seated Deed Origin). IsWatchOf s.view c.self.inside.watch)
-    (seat_is c.self.inside.seat c.take.result c.in-Some.seat c.in-Some.is c.take.ensures.value) c.self.invariant.1 in
-    let two : IsWatchOf c.in-Some-other.other.view c.from.inside.watch =
-    subst (λ (s : Seated Deed Origin). IsWatchOf s.view c.from.inside.watch)
-    (seat_is c.from.inside.seat c.from.inside.seat c.in-Some-other.other c.in-Some-other.is refl) c.from.invariant.1 in (
+    let one = watch_is c.self.inside.seat c.take.result c.in-Some.seat c.self.inside.watch c.in-Some.is c.take.ensures.value
+    c.self.invariant in
+    let two = watch_is c.from.inside.seat c.from.inside.seat c.in-Some-other.other c.from.inside.watch c.in-Some-other.is refl
+    c.from.invariant in (
       there_again c.replace-before.new.self c.join.new.into c.replace-before.ensures.after,
       put_back (λ (t : Seated Deed Origin). IsWatchOf t.view c.meet.new.self) c.replace-before.new.self c.join.new.into
           c.replace-before.ensures.after
