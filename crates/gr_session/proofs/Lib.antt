@@ -1,0 +1,5 @@
+pub mod Adding
+pub mod Seeing
+pub mod Growing
+pub mod Making
+pub mod Mailing

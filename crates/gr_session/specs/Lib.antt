@@ -1,0 +1,4 @@
+pub mod Mailing
+pub mod Waiting
+pub mod Steps
+pub mod Sessions

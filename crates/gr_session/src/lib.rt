@@ -1,0 +1,13 @@
+//! Sessions: a client's steps at its pass, one by one, and the mail that they make.
+#![tactic(auto)]
+
+mod ending;
+mod gate;
+mod laws;
+mod serving;
+mod session;
+
+pub use gate::{FreeGate, Gate};
+pub use gr_value::Memory;
+pub use laws::peeks_look_at_the_history;
+pub use session::Session;
