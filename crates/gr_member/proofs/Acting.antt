@@ -1,11 +1,11 @@
 -- What was done by its name: the deed that was added, and the answer.
-use Rattle.std.proofs.Common.{◌≡◌, ℕ, ◌<◌, ◌^◌, List, length, reverse, Option, Some, refl, sym, ap, ◌∙◌, subst}
+use Rattle.std.proofs.Common.{◌≡◌, ℕ, ◌<◌, ◌^◌, List, length, reverse, sym, ap, ◌∙◌, subst}
 use Rattle.std.specs.List.{AllByRecursion}
 use Rattle.std.specs.Option.{option_to_list}
 use Rattle.gr_value.specs.Shard.{shard_of}
 use Rattle.gr_vector.specs.declared.report.Report.{Report}
 use Rattle.gr_history.specs.declared.deed.Deed.{Deed}
-use Rattle.gr_history.specs.declared.deed.Deed.TheVariants.{Call, Asked, Taken, Gave, Imaged, Reported, Heard, Swept}
+use Rattle.gr_history.specs.declared.deed.Deed.TheVariants.{Call, Asked, Taken, Imaged, Reported, Heard, Swept}
 use Rattle.gr_history.specs.declared.done.Done.{Done}
 use Rattle.gr_history.specs.declared.identity.Identity.{Identity}
 use Rattle.gr_history.specs.declared.image.Gift.{Gift}
@@ -27,7 +27,6 @@ use Rattle.gr_shard.specs.declared.next.Came.TheVariants as came
 use Rattle.gr_shard.specs.declared.next.Next.{Next}
 use Rattle.gr_shard.specs.declared.next.Next.TheVariants as next
 use Rattle.gr_shard.proofs.Named.{made_here}
-use Rattle.gr_member.specs.declared.replica.Origin.{Origin}
 use Rattle.gr_member.specs.Replicas.{IsBaseOf}
 use Rattle.gr_member.specs.Seats.{Place, AddsBehind, Adds, Acts, Gives}
 use Rattle.gr_member.specs.Passes.{At, AddsAt}

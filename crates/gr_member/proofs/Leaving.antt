@@ -2,7 +2,7 @@
 use Rattle.std.proofs.Common.{◌≡◌, ℕ, zero, suc, ◌+◌, ◌<◌, List, [], ◌∷◌, ◌++◌, length, get_or, reverse, refl, sym, ap, ◌∙◌, subst, arith}
 use Rattle.std.proofs.Common.{append_assoc, append-nil, length-append}
 use Rattle.std.proofs.lemmas.List.{get_or_push, get_or_append_left, reverse-append}
-use Rattle.std.specs.Prelude.{Option, Some, Result, Ok, Err, IfOk, OnOk}
+use Rattle.std.specs.Prelude.{Some, Result, Ok, Err, IfOk, OnOk}
 use Rattle.gr_value.specs.Lists.{StartsWith}
 use Rattle.gr_turn.specs.Views.{HasAll, MadeAll}
 use Rattle.gr_history.specs.declared.record.MemberRecord.{MemberRecord}

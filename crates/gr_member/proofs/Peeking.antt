@@ -1,5 +1,5 @@
 -- What was seen before a look is of the history.
-use Rattle.std.proofs.Common.{◌≡◌, ℕ, ◌≤◌, List, ◌++◌, length, reverse, sym, ap, ◌∙◌, subst, arith, length-append}
+use Rattle.std.proofs.Common.{◌≡◌, ℕ, List, length, reverse, sym, ap, ◌∙◌, subst, arith, length-append}
 use Rattle.std.proofs.lemmas.List.{length-reverse, reverse-append}
 use Rattle.std.specs.Prelude.{Ok}
 use mathlib.Core.List.{IsPrefix}
@@ -39,5 +39,6 @@ of_history key seen r s t u history p f l h =
     let to_look = prefix_trans s.eye.known t.eye.known u.eye.known f.knew l.looks.stays.watches.knew in
     let in_seen = subst (IsPrefix s.eye.known) l.known to_look in
     of_known key seen s.eye.known history
-    (prefix_trans s.eye.known (turned_each (reverse u.view.seen)) (turned_each (reverse history)) in_seen (turned_first history u.view.seen h))
+    (prefix_trans s.eye.known (turned_each (reverse u.view.seen)) (turned_each (reverse history)) in_seen
+    (turned_first history u.view.seen h))
     p.at p.value

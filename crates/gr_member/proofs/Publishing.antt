@@ -4,18 +4,16 @@ use Rattle.std.specs.List.{AllByRecursion}
 use Rattle.std.proofs.lemmas.List.{length-reverse, reverse-append}
 use Rattle.gr_oql.specs.declared.event.Turned.{Turned}
 use Rattle.gr_history.specs.declared.deed.Deed.{Deed}
-use Rattle.gr_history.specs.declared.identity.Identity.{Identity}
 use Rattle.gr_history.specs.Recipients.{NamesMembers}
 use Rattle.gr_history.specs.Turned.{turned}
 use Rattle.gr_peek_law.specs.Turns.{turned_each}
 use Rattle.gr_peek_law.proofs.Shown.{count}
-use Rattle.gr_shard.specs.declared.next.Came.{Came}
 use Rattle.gr_shard.specs.declared.next.Next.{Next}
 use Rattle.gr_shard.specs.declared.prepared.Prepared.{Prepared}
 use Rattle.gr_shard.specs.Prepared.{IsPrepared}
 use Rattle.gr_shard.specs.View.{Account}
 use Rattle.logbook.specs.Pages.{Book}
-use Rattle.gr_member.specs.Replicas.{Replicated, Does, replicated}
+use Rattle.gr_member.specs.Replicas.{Does, replicated}
 
 -- the place of the publication that comes next
 pub next_place : (publications : List (List Turned)) (deeds : List Deed) (at : ℕ) → publications ≡ turned_each (reverse deeds)

@@ -1,13 +1,13 @@
 -- Eyes that forget nothing.
-use Rattle.std.proofs.Common.{◌≡◌, ℕ, ◌≤◌, List, refl, sym, ap, ◌∙◌, subst, arith}
-use Rattle.std.specs.Prelude.{Result, Ok, Err, length}
+use Rattle.std.proofs.Common.{◌≡◌, ◌≤◌, List, refl, sym, ap, ◌∙◌, subst, arith}
+use Rattle.std.specs.Prelude.{Result, Ok, Err}
 use mathlib.Core.List.{IsPrefix}
 use Rattle.gr_oql.specs.declared.event.Turned.{Turned}
 use Rattle.gr_peek.specs.declared.eye.PeekEnd.{PeekEnd}
 use Rattle.gr_peek.specs.declared.eye.PeekEnd.TheVariants as end
-use Rattle.gr_peek.specs.Entering.{Follows, HasEntered, IsDenied, IsEntered, longer}
+use Rattle.gr_peek.specs.Entering.{Follows, HasEntered, IsDenied, IsEntered}
 use Rattle.gr_peek.specs.Views.{Watching}
-use Rattle.gr_peek.proofs.Prefixes.{prefix_self, prefix_trans, prefix_whole}
+use Rattle.gr_peek.proofs.Prefixes.{prefix_self, prefix_trans}
 
 pub follows_same : (w : Watching) → Follows w w
 follows_same w = record {

@@ -1,5 +1,5 @@
 -- Passes as they are made.
-use Rattle.std.specs.Prelude.{◌≡◌, ℕ, ◌<◌, List, [], ◌∷◌, length, slice_index_or, Some}
+use Rattle.std.specs.Prelude.{◌≡◌, ℕ, ◌<◌, List, [], ◌∷◌, length, slice_index_or}
 use Rattle.logbook.specs.Pages.{Book}
 use Rattle.gr_history.specs.declared.deed.Deed.{Deed}
 use Rattle.gr_peek.specs.Entering.{new_eye}

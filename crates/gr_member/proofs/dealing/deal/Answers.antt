@@ -1,5 +1,5 @@
 use Rattle.std.proofs.Common.{◌≡◌, ◌+◌, ◌<◌, length, [], ◌∷◌, refl, ap, ◌∙◌, arith, length-append}
-use Rattle.gr_member.proofs.Handing.{handed_more, handed_pair, handed_all}
+use Rattle.gr_member.proofs.Handing.{handed_more, handed_pair}
 use Rattle.gr_member.proofs.Leaving.{empty_of}
 use Rattle.gr_member.proofs.dealing.deal.Goals as goal
 

@@ -1,4 +1,4 @@
-use Rattle.std.proofs.Common.{refl, ap, sym}
+use Rattle.std.proofs.Common.{ap}
 use Rattle.gr_peek.specs.Views.{Note}
 use Rattle.gr_member.proofs.Dealt.{origin_is, seats_of}
 use Rattle.gr_member.proofs.making.open.Goals as goal

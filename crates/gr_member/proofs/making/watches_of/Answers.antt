@@ -2,7 +2,6 @@ use Rattle.std.proofs.Common.{◌≡◌, ◌+◌, ◌<◌, ℕ, [], ◌∷◌, l
 use Rattle.std.specs.Prelude.{vec_len}
 use Rattle.gr_peek.specs.Entering.{new_eye}
 use Rattle.gr_peek.specs.Views.{Watching}
-use Rattle.gr_member.specs.Replicas.{Watched}
 use Rattle.gr_member.proofs.Dealt.{eyes_last, unused_more}
 use Rattle.gr_member.proofs.making.watches_of.Goals as goal
 

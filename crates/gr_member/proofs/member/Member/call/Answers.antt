@@ -1,4 +1,4 @@
-use Rattle.std.proofs.Common.{◌≡◌, ℕ, List, ◌<◌, ◌^◌, length, sym, ap, ◌∙◌, subst, arith}
+use Rattle.std.proofs.Common.{◌≡◌, ℕ, List, sym, ap, ◌∙◌, subst}
 use Rattle.std.specs.List.{AllByRecursion}
 use Rattle.std.specs.Option.{option_to_list}
 use Rattle.gr_value.specs.Shard.{shard_of}
@@ -9,7 +9,7 @@ use Rattle.gr_member.specs.Plans.{identity_of}
 use Rattle.gr_member.specs.Seats.{nowhere}
 use Rattle.gr_member.specs.Passes.{House}
 use Rattle.gr_member.proofs.Acting.{at_adds, acts_call, acts_few, acts_here}
-use Rattle.gr_member.proofs.Passing.{lock_at, shard_below}
+use Rattle.gr_member.proofs.Passing.{lock_at}
 use Rattle.gr_member.proofs.member.Member.call.Goals as goal
 
 pub done_in-requires : goal.done_in-requires

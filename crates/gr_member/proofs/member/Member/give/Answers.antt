@@ -1,4 +1,3 @@
-use Rattle.gr_shard.specs.declared.next.Next.TheVariants as next
 use Rattle.gr_member.specs.Plans.{identity_of}
 use Rattle.gr_member.specs.Seats.{nowhere}
 use Rattle.gr_member.proofs.Acting.{acts_given}

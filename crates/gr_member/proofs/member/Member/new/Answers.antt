@@ -1,5 +1,5 @@
 use Rattle.std.proofs.Common.{arith}
-use Rattle.gr_member.proofs.Dealt.{dealt_more, dealt_fresh, pairs_of}
+use Rattle.gr_member.proofs.Dealt.{dealt_more, dealt_fresh}
 use Rattle.gr_member.proofs.member.Member.new.Goals as goal
 
 pub loop-shard-preserved : goal.loop-shard-preserved

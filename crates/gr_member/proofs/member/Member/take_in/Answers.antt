@@ -1,4 +1,4 @@
-use Rattle.std.proofs.Common.{◌≡◌, ℕ, List, ◌<◌, length, ap, ◌∙◌, subst, arith}
+use Rattle.std.proofs.Common.{ap, ◌∙◌}
 use Rattle.gr_value.specs.Shard.{shard_of}
 use Rattle.gr_history.specs.declared.deed.Deed.TheVariants.{Taken}
 use Rattle.gr_shard.specs.declared.next.Next.TheVariants as next

@@ -1,4 +1,4 @@
-use Rattle.std.proofs.Common.{◌≡◌, refl, ap, ◌∙◌, sym, subst}
+use Rattle.std.proofs.Common.{refl, ap, ◌∙◌, subst}
 use Rattle.std.specs.Prelude.{reverse}
 use Rattle.gr_history.specs.declared.deed.Deed.{Deed}
 use Rattle.gr_peek.specs.Views.{Note}
@@ -6,7 +6,7 @@ use Rattle.gr_peek_law.specs.Turns.{turned_each}
 use Rattle.gr_turn.specs.Views.{Seated, with_lost}
 use Rattle.gr_member.specs.declared.replica.Origin.{Origin}
 use Rattle.gr_member.specs.Replicas.{Replicated, IsWatchOf}
-use Rattle.gr_member.specs.Seats.{Place, placed, Looks, LooksUp}
+use Rattle.gr_member.specs.Seats.{Place, placed, LooksUp}
 use Rattle.gr_member.proofs.Turning.{turned_by, watch_is, place_is, put_back, there_again, same_list, turn_copy, turn_kept, turn_up}
 use Rattle.gr_member.proofs.pass.ShardPass.look.Goals as goal
 

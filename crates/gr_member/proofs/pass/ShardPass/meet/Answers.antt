@@ -1,4 +1,4 @@
-use Rattle.std.proofs.Common.{◌≡◌, refl, subst}
+use Rattle.std.proofs.Common.{refl, subst}
 use Rattle.gr_history.specs.declared.deed.Deed.{Deed}
 use Rattle.gr_turn.specs.Views.{Seated}
 use Rattle.gr_member.specs.declared.replica.Origin.{Origin}

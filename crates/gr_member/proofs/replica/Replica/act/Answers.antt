@@ -1,4 +1,4 @@
-use Rattle.std.proofs.Common.{◌≡◌, ℕ, ◌+◌, length, ap, sym, ◌∙◌}
+use Rattle.std.proofs.Common.{ℕ, ◌+◌, length, ap, sym, ◌∙◌}
 use Rattle.gr_member.specs.Replicas.{Replicated}
 use Rattle.gr_member.proofs.Publishing.{next_place}
 use Rattle.gr_member.proofs.replica.Replica.act.Goals as goal
