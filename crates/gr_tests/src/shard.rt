@@ -57,10 +57,11 @@ fn first_put(alloc: Global, ask: &Ask) -> Result<Done, Memory>
 
 // Whether it was told that there was no value, to whom the change goes, and its stamp's three numbers.
 fn told(done: &Done) -> (bool, u8, Option<(u64, u8, u64)>) {
-    let numbers = done
-        .made
-        .as_ref()
-        .map(|change| (change.stamp.ver(), change.stamp.member(), change.stamp.rv()));
+    let numbers = done.made.as_ref().map(|change| (
+        change.stamp.ver(),
+        change.stamp.member(),
+        change.stamp.rv(),
+    ));
     (matches!(done.reply, Reply::Null), done.to, numbers)
 }
 
