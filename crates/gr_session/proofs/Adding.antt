@@ -1,7 +1,6 @@
 -- What deeds that are added one after the other leave of a seat.
 use Rattle.std.proofs.Common.{◌≡◌, ◌≢◌, ℕ, suc, ◌+◌, ◌<◌, ◌≤◌, ◌==◌, Bool, true, false, List, [], ◌∷◌, ◌++◌, length, get_or, set, cond}
 use Rattle.std.proofs.Common.{if◌then◌else◌, refl, sym, ap, ◌∙◌, subst, arith, append-nil, append_assoc, length-append, eqb-true, eq-eqb}
-use Rattle.std.specs.Prelude.{reverse}
 use Rattle.std.proofs.lemmas.List.{get_or-set_same, get_or-set_other}
 use Rattle.gr_value.specs.Lists.{StartsWith}
 use Rattle.gr_turn.specs.declared.view.View.{View}
@@ -13,7 +12,6 @@ use Rattle.gr_run_law.proofs.Growing.{stands_on, stands_more}
 use Rattle.gr_run_law.proofs.Lists.{true_false}
 use Rattle.gr_member.specs.declared.plan.Plan.{Plan}
 use Rattle.gr_member.specs.declared.replica.Origin.{Origin}
-use Rattle.gr_member.specs.Plans.{identity_of}
 use Rattle.gr_member.specs.Seats.{Place, Adds}
 use Rattle.gr_member.specs.Passes.{AddsAt, AreReady, LooksAll}
 use Rattle.gr_session.specs.Steps.{AddsEach}

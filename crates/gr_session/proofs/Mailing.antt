@@ -1,5 +1,5 @@
 -- What of a courier stays, and what it has sent in the end.
-use Rattle.std.proofs.Common.{◌≡◌, ℕ, zero, suc, ◌+◌, ◌<◌, List, [], ◌∷◌, ◌++◌, length, get_or, map}
+use Rattle.std.proofs.Common.{◌≡◌, ℕ, zero, suc, ◌<◌, List, [], ◌∷◌, ◌++◌, length, get_or, map}
 use Rattle.std.proofs.Common.{refl, sym, ap, ◌∙◌, subst, arith, append-nil}
 use Rattle.std.specs.Prelude.{reverse}
 use Rattle.std.proofs.lemmas.List.{length-map, get_or-map}
@@ -8,10 +8,10 @@ use Rattle.gr_post.specs.declared.mail.Posting.{Posting}
 use Rattle.gr_post.specs.declared.stage.Stage.{Stage}
 use Rattle.gr_post.specs.declared.stage.Stage.TheVariants.{Ended}
 use Rattle.gr_post.specs.Couriers.{Carrying, Line, LineMoves, Follows, FollowsPlan, IsPushed, NothingWaits}
-use Rattle.gr_post.specs.Couriers.{draws_of, ended, passes_of, posting, tables_of}
+use Rattle.gr_post.specs.Couriers.{draws_of, ended, passes_of, posting}
 use Rattle.gr_post.specs.Passes.{Ring, Sending}
 use Rattle.gr_post.specs.Plan.{Draw, delivered, draws}
-use Rattle.gr_session.specs.Mailing.{CanPost, CarriesOn, HaveDelivered, TakesFor, numbers_of}
+use Rattle.gr_session.specs.Mailing.{CanPost, CarriesOn, HaveDelivered, numbers_of}
 
 pub carries_same : (c : Carrying) → CarriesOn c c
 carries_same c = record { stage = refl; first = refl; many = refl; tables = refl; numbers = refl }
