@@ -8,3 +8,6 @@ pub mod Dealt
 pub mod Handing
 pub mod Leaving
 pub mod Peeking
+mod QueryCrossing
+mod ShardCrossing
+pub mod Crossing
