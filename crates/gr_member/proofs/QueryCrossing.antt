@@ -50,16 +50,20 @@ layer_send : (h : RattleType) → IsSend h → IsSend (layer-Condition h h h)
 layer_send h s =
     variants_send (type-Condition h h h) (
       (list_send h s, tt),
-      ((list_send h s, tt),
-          ((as_row_send (box_of h) (Box-send h s), tt), ((as_row_send (row_field (as_row Test.the_field)) test_send, tt), tt))),
+      (
+        (list_send h s, tt),
+        ((as_row_send (box_of h) (Box-send h s), tt), ((as_row_send (row_field (as_row Test.the_field)) test_send, tt), tt)),
+      ),
     )
 
 layer_sync : (h : RattleType) → IsSync h → IsSync (layer-Condition h h h)
 layer_sync h s =
     variants_sync (type-Condition h h h) (
       (list_sync h s, tt),
-      ((list_sync h s, tt),
-          ((as_row_sync (box_of h) (Box-sync h s), tt), ((as_row_sync (row_field (as_row Test.the_field)) test_sync, tt), tt))),
+      (
+        (list_sync h s, tt),
+        ((as_row_sync (box_of h) (Box-sync h s), tt), ((as_row_sync (row_field (as_row Test.the_field)) test_sync, tt), tt)),
+      ),
     )
 
 sends : (i : the_members) → Sends ring i
@@ -85,16 +89,20 @@ condition_send : IsSend Condition.the_row
 condition_send =
     variants_send Condition.enum (
       (list_send hole-Condition hole_send, tt),
-      ((list_send hole-Condition hole_send, tt),
-          ((as_row_send (Box.the_field hole-Condition Heap.the_row ghosts) (Box-send hole-Condition hole_send), tt), ((test_send, tt), tt))),
+      (
+        (list_send hole-Condition hole_send, tt),
+        ((as_row_send (Box.the_field hole-Condition Heap.the_row ghosts) (Box-send hole-Condition hole_send), tt), ((test_send, tt), tt)),
+      ),
     )
 
 condition_sync : IsSync Condition.the_row
 condition_sync =
     variants_sync Condition.enum (
       (list_sync hole-Condition hole_sync, tt),
-      ((list_sync hole-Condition hole_sync, tt),
-          ((as_row_sync (Box.the_field hole-Condition Heap.the_row ghosts) (Box-sync hole-Condition hole_sync), tt), ((test_sync, tt), tt))),
+      (
+        (list_sync hole-Condition hole_sync, tt),
+        ((as_row_sync (Box.the_field hole-Condition Heap.the_row ghosts) (Box-sync hole-Condition hole_sync), tt), ((test_sync, tt), tt)),
+      ),
     )
 
 -- ---- what stands around a condition

@@ -46,9 +46,22 @@ query_ask_send =
 deed_send : IsSend Deed.the_row
 deed_send =
     variants_send Deed.enum
-    (search (both, sendable, as_row_send, query_ask_send, ask.the_field_send, reply.the_field_send, query_reply.the_field_send,
-    change.the_field_send, verdict.the_field_send, image.the_field_send, what.the_field_send, report.the_field_send, key.the_send,
-    list.the_send) depth 20)
+    (search (
+      both,
+      sendable,
+      as_row_send,
+      query_ask_send,
+      ask.the_field_send,
+      reply.the_field_send,
+      query_reply.the_field_send,
+      change.the_field_send,
+      verdict.the_field_send,
+      image.the_field_send,
+      what.the_field_send,
+      report.the_field_send,
+      key.the_send,
+      list.the_send,
+    ) depth 20)
 
 history_inside_send : IsSend HistoryInside.the_row
 history_inside_send = declared_send HistoryInside.the_type (search (both, sendable, as_row_send, Vec-send, deed_send) depth 20)
@@ -68,8 +81,17 @@ registry_send = search (view_send, registry_inside_send)
 shard_inside_send : IsSend ShardInside.the_row
 shard_inside_send =
     declared_send ShardInside.the_type
-    (search (both, sendable, as_row_send, identity.the_field_send, slots.the_send, vector.the_send, heard.the_send, registry_send,
-    history_send) depth 30)
+    (search (
+      both,
+      sendable,
+      as_row_send,
+      identity.the_field_send,
+      slots.the_send,
+      vector.the_send,
+      heard.the_send,
+      registry_send,
+      history_send,
+    ) depth 30)
 
 pub shard_send : IsSend Shard.the_row
 shard_send = search (view_send, shard_inside_send)
