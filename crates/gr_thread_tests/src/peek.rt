@@ -14,17 +14,22 @@ fn key_of(alloc: Global, letter: u8) -> Result<Key, KeyFault> {
 }
 
 // The value with the one field `n`.
-fn value_of(alloc: Global, number: u64) -> Result<Value, Memory> {
+pub(crate) fn value_of(alloc: Global, number: u64) -> Result<Value, Memory> {
     let text = format!(in alloc; "{{\"n\":{number}}}")?;
     Value::read(alloc, text.as_bytes()).map_err(|_| Memory)
 }
 
-// The number in what was seen, where there is one.
-fn number_of(seen: &Seen) -> Option<i64> {
-    match seen.value.as_ref()?.field("n")? {
+// The number in a value, where there is one.
+pub(crate) fn number_in(value: &Value) -> Option<i64> {
+    match value.field("n")? {
         Scalar::Int(number) => Some(*number),
         _ => None,
     }
+}
+
+// The number in what was seen, where there is one.
+pub(crate) fn number_of(seen: &Seen) -> Option<i64> {
+    number_in(seen.value.as_ref()?)
 }
 
 // A key that turns from nothing to the number, or to nothing.
