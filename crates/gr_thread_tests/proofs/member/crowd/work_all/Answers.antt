@@ -1,16 +1,25 @@
-use mir.Syntax.{named}
+use denote.Param.{param}
+use denote.Param.Send.{IsSend, IsSync, sendable}
+use denote.Param.SendFields.{as_row_send, declared_send, declared_sync}
 use denote.Ref.{NamedLft}
 use denote.Struct.Tuple.{type_at}
-use denote.Param.{param}
-use denote.Param.Send.{IsSync, sendable}
-use denote.Param.SendFields.{declared_sync}
-use Rattle.std.proofs.Crossing.{sync}
+use mir.Syntax.{named}
+use Rattle.std.proofs.Crossing.{Vec-send, sync}
 use Rattle.std.specs.contracts.alloc.Global as Heap
-use Rattle.gr_member.proofs.Crossing.{member_sync}
+use Rattle.gr_member.proofs.Crossing.{member_sync, pass_send}
 use Rattle.gr_member.specs.contracts.member.Member as Member
-use Rattle.gr_thread_tests.proofs.Crossing.{captured_sync, slot_send}
+use Rattle.gr_thread_tests.proofs.Crossing.{captured_sync}
+use Rattle.gr_thread_tests.proofs.member.steps.Told.TheSendSync as told
+use Rattle.gr_thread_tests.specs.contracts.member.crowd.Slot as Slot
 use Rattle.gr_thread_tests.proofs.member.crowd.work_all.Lts as lts
 use Rattle.gr_thread_tests.proofs.member.crowd.work_all.Goals as goal
+
+both : {A B : Type 0} → A → B → A × B
+both a b = (a, b)
+
+slot_send : IsSend Slot.the_row
+slot_send =
+    declared_send Slot.the_type (search (both, sendable, as_row_send, Vec-send, pass_send, told.the_field_send) depth 20)
 
 pub for_each_mut-requires-send-T : goal.for_each_mut-requires-send-T
 for_each_mut-requires-send-T g c κs within = search (sendable, slot_send) depth 20
