@@ -216,7 +216,7 @@ module _ (shards shard : ℕ) where
 
 -- ---- one gift
 
-no_gift : (joiner : ℕ) (h : List Deed) → filter_map (gift_in joiner) h ≡ [] → given_to joiner h ≡ []
+pub no_gift : (joiner : ℕ) (h : List Deed) → filter_map (gift_in joiner) h ≡ [] → given_to joiner h ≡ []
 no_gift joiner [] e = refl
 no_gift joiner (Call client to seq ask reply made ∷ past) e = no_gift joiner past e
 no_gift joiner (Asked client seq ask reply ∷ past) e = no_gift joiner past e

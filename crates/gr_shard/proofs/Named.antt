@@ -26,7 +26,7 @@ positive : (few : ℕ) → 0 < 2 ^ few
 positive few = pow-le-pow_right (lit< tt) {i = 0} {j = few} (omega arith)
 
 -- Where no member above a number passes the test, the bits are below that power of two.
-bits_below : (test : ℕ → Bool) (n few : ℕ) → ((m : ℕ) → m ≤ n → test m ≡ true → m ≤ few) → member_bits test n < 2 ^ few
+pub bits_below : (test : ℕ → Bool) (n few : ℕ) → ((m : ℕ) → m ≤ n → test m ≡ true → m ≤ few) → member_bits test n < 2 ^ few
 bits_below test zero few most = positive few
 bits_below test (suc n) few most =
     at_test (test (suc n)) refl (bits_below test n n (λ m less set. less))
