@@ -219,7 +219,7 @@ join_is (Swept moment expired) provider e = absurd (no e)
     no : Some (Sweeps moment) ≡ Some (Joins provider) → ⊥
     no e = cc
 
-join_line : (member : ℕ) (lines : List Line) → joins_of member lines ≢ 0 → (provider : ℕ) × Among (line.Join member provider) lines
+pub join_line : (member : ℕ) (lines : List Line) → joins_of member lines ≢ 0 → (provider : ℕ) × Among (line.Join member provider) lines
 join_line member [] some = absurd (some refl)
 join_line member (first ∷ lines) some = at_line first (λ more. join_line member lines more) some
   where

@@ -127,7 +127,7 @@ joins_same member (line.Join joiner provider ∷ past) =
     at_test false e = omega arith
 
 -- in a script each member joins at most once
-joins_few : (h : Heading) (member : ℕ) (past : List Line) → AllStand h past → joins_of member past ≤ 1
+pub joins_few : (h : Heading) (member : ℕ) (past : List Line) → AllStand h past → joins_of member past ≤ 1
 joins_few h member [] all = omega arith
 joins_few h member (line.Step client number act ∷ past) all = joins_few h member past all.1
 joins_few h member (line.Deliver to client number ∷ past) all = joins_few h member past all.1
