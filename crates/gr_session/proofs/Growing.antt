@@ -26,6 +26,7 @@ use Rattle.gr_run_law.specs.Shares.{Stands}
 use Rattle.gr_run_law.specs.Threads.{LooksFit}
 use Rattle.gr_run_law.proofs.Growing.{deeds_more, looks_deed, looks_peek, stands_on}
 use Rattle.gr_run_law.proofs.Lists.{all_append, none_isnt_some, same_in_some}
+use Rattle.gr_post.specs.Couriers.{Carrying, IsPushed}
 use Rattle.gr_member.specs.declared.plan.Plan.{Plan}
 use Rattle.gr_member.specs.declared.replica.Origin.{Origin}
 use Rattle.gr_member.specs.Plans.{IsPlan, identity_of}
@@ -36,10 +37,10 @@ use Rattle.gr_post.specs.Passes.{Ring}
 use Rattle.gr_session.specs.declared.session.Session.{Session}
 use Rattle.gr_session.specs.Steps.{AddsEach, IsSeen, LooksBehind, LooksWell, Serves}
 use Rattle.gr_session.specs.Mailing.{CanPost, CarriesOn}
-use Rattle.gr_session.specs.Sessions.{HasServed, IsServedAt, IsSessionAt, KeepsServed, ServesOneMore}
+use Rattle.gr_session.specs.Sessions.{GoesOn, HasServed, IsServedAt, IsSessionAt, KeepsServed, ServesOneMore}
 use Rattle.gr_session.specs.Waiting.{HasMadeNothing, WaitedFor}
 use Rattle.gr_session.proofs.Adding.{ready_each, stands_below, stands_each}
-use Rattle.gr_session.proofs.Mailing.{can_post}
+use Rattle.gr_session.proofs.Mailing.{can_post, carries_trans, pushed_carries}
 use Rattle.gr_session.proofs.Seeing.{seen_on}
 
 among_last : {A : Type 0} (x : A) (xs : List A) (y : A) → Among x (xs ++ y ∷ []) → Among x xs ⊎ (x ≡ y)
@@ -120,7 +121,7 @@ module _ (client shards shard : ℕ) (s t : Place) (served : List Served) where
           (late (subst (λ (x : Peek). shard ≡ shard_of x.key shards) (sym e) here)).seen
 
   -- a look of the seat
-  looks_on : IsServedAt client shards shard s served → Looks s t → IsServedAt client shards shard t served
+  pub looks_on : IsServedAt client shards shard s served → Looks s t → IsServedAt client shards shard t served
   looks_on h l = record {
     deeds = subst (λ (m : List ℕ). Stands t.view.seen 0 m (all_deeds_of client shards shard served)) (sym l.made)
         (stands_on s.view.seen t.view.seen 0 s.view.made (all_deeds_of client shards shard served) l.seen h.deeds);
@@ -228,3 +229,23 @@ stays_at house rings s t at plan stays on = record {
   posts = subst (λ (p : Plan). CanPost rings p.members t.courier) (sym plan)
       (can_post rings s.plan.members s.courier t.courier on at.posts);
 }
+
+-- ---- a step whose mail was pushed
+
+-- A step left this pass and the courier c, of which what could be sent was sent.
+pub goes_pushed : (s : Session) (answers : List Answer) (pass : List Place) (c d : Carrying) → StaysAll s.pass pass
+    → CarriesOn s.courier c → IsPushed c d → GoesOn s (record s { answers = answers; pass = pass; courier = d })
+goes_pushed s answers pass c d stays on pushed = record {
+  client = refl;
+  plan = refl;
+  steps = refl;
+  stays = stays;
+  carries = carries_trans s.courier c d on (pushed_carries c d pushed);
+}
+
+pub at_pushed : (house : House) (rings : List Ring) (s : Session) (answers : List Answer) (pass : List Place) (c d : Carrying)
+    → IsSessionAt house rings s → StaysAll s.pass pass → CarriesOn s.courier c → IsPushed c d
+    → IsSessionAt house rings (record s { answers = answers; pass = pass; courier = d })
+at_pushed house rings s answers pass c d at stays on pushed =
+    stays_at house rings s (record s { answers = answers; pass = pass; courier = d }) at refl stays
+    (carries_trans s.courier c d on (pushed_carries c d pushed))

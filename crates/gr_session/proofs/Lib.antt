@@ -3,3 +3,4 @@ pub mod Seeing
 pub mod Growing
 pub mod Making
 pub mod Mailing
+pub mod Attending

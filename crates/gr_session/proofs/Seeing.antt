@@ -57,7 +57,7 @@ seen_look peek known past s p =
 
 -- ---- one peek
 
-stays_trans : (s t u : Place) → Stays s t → Stays t u → Stays s u
+pub stays_trans : (s t u : Place) → Stays s t → Stays t u → Stays s u
 stays_trans s t u a b = record {
   its = b.its ∙ a.its;
   based = b.based ∙ a.based;

@@ -2,3 +2,4 @@ pub mod Mailing
 pub mod Waiting
 pub mod Steps
 pub mod Sessions
+pub mod Clients

@@ -18,7 +18,8 @@ impl Session {
     ) -> Result<(Pass, ClientRecord, SendPassList), (Memory, Pass)>
         requires { CanPost inboxes.now self.plan.members self.courier }
         ensures pass { IfOk result (λ left. left.0 ≡ self.pass) }
-        ensures told { IfOk result (λ left. left.1 ≡ record { client = self.client; member = self.plan.member; answers = self.answers }) }
+        ensures told { IfOk result (λ left.
+            left.1 ≡ record { client = self.client; member = self.plan.member; answers = self.answers }) }
         ensures sent { IfOk result (λ left. HaveDelivered self.courier left.2) }
         ensures back { IfErr result (λ left. left.1 ≡ self.pass) }
     {

@@ -10,8 +10,9 @@ ghost use Rattle.gr_run_law.specs.Plans.{change_posted};
 ghost use Rattle.gr_session.specs.Mailing.{CarriesOn, TakesFor};
 ghost use Rattle.gr_session.specs.Steps.{LooksBehindAt, Serves, StandsStill};
 
+use crate::desk::Desk;
 use gr_history::{Answer, Ask, QueryAsk};
-use gr_member::{Member, Pass, PeekEnd, Plan, Seen};
+use gr_member::{Member, Pass, PeekEnd, Seen};
 use gr_post::{Courier, Mail};
 use gr_script::{Act, Step};
 use gr_stamp::Change;
@@ -24,26 +25,23 @@ use std::thread;
 pub(crate) fn serve<R: Wait + Sync>(
     rt: &R,
     alloc: Global,
-    member: &Member,
-    plan: Plan,
-    client: u8,
+    desk: &Desk,
     step: &Step,
     pass: &mut Pass,
     courier: &mut Courier,
 ) -> Result<Answer, Memory>
-    requires pass { IsPassOf member.now pass.old }
-    requires plan { IsPlan plan × (plan ≡ member.now.plan) }
-    requires courier { TakesFor plan.members courier.old }
+    requires pass { IsPassOf desk.now.member.now pass.old }
+    requires plan { IsPlan desk.now.plan × (desk.now.plan ≡ desk.now.member.now.plan) }
+    requires courier { TakesFor desk.now.plan.members courier.old }
     ensures stays { StaysAll pass.old pass.new }
     ensures carries { CarriesOn courier.old courier.new }
-    ensures served { IfOk result (λ told. Serves client plan.shards step.now told pass.old pass.new courier.old.posted courier.new.posted) }
+    ensures served { IfOk result (λ told. Serves desk.now.client desk.now.plan.shards step.now told
+        pass.old pass.new courier.old.posted courier.new.posted) }
 {
     match &step.act {
-        Act::Call(ask) => Ok(call(
-            rt, alloc, member, plan, client, step.seq, ask, pass, courier,
-        )?),
-        Act::Query(ask) => Ok(query(rt, alloc, member, plan, client, step.seq, ask, pass)?),
-        Act::Peek(key) => Ok(peek(rt, alloc, member, plan, client, step.seq, key, pass)?),
+        Act::Call(ask) => Ok(call(rt, alloc, desk, step.seq, ask, pass, courier)?),
+        Act::Query(ask) => Ok(query(rt, alloc, desk, step.seq, ask, pass)?),
+        Act::Peek(key) => Ok(peek(rt, alloc, desk, step.seq, key, pass)?),
     }
 }
 
@@ -51,24 +49,22 @@ pub(crate) fn serve<R: Wait + Sync>(
 fn call<R: Wait + Sync>(
     rt: &R,
     alloc: Global,
-    member: &Member,
-    plan: Plan,
-    client: u8,
+    desk: &Desk,
     seq: u32,
     ask: &Ask,
     pass: &mut Pass,
     courier: &mut Courier,
 ) -> Result<Answer, Memory>
-    requires pass { IsPassOf member.now pass.old }
-    requires plan { IsPlan plan × (plan ≡ member.now.plan) }
-    requires courier { TakesFor plan.members courier.old }
+    requires pass { IsPassOf desk.now.member.now pass.old }
+    requires plan { IsPlan desk.now.plan × (desk.now.plan ≡ desk.now.member.now.plan) }
+    requires courier { TakesFor desk.now.plan.members courier.old }
     ensures stays { StaysAll pass.old pass.new }
     ensures carries { CarriesOn courier.old courier.new }
-    ensures served { IfOk result (λ told. Serves client plan.shards (record { seq = seq; act = act.Call ask.now }) told
+    ensures served { IfOk result (λ told. Serves desk.now.client desk.now.plan.shards (record { seq = seq; act = act.Call ask.now }) told
         pass.old pass.new courier.old.posted courier.new.posted) }
 {
-    let done = member.call(rt, alloc, pass, client, seq, ask)?;
-    post(alloc, courier, plan.shards, done.made, done.to)?;
+    let done = desk.member.call(rt, alloc, pass, desk.client, seq, ask)?;
+    post(alloc, courier, desk.plan.shards, done.made, done.to)?;
     Ok(Answer::Reply(done.reply))
 }
 
@@ -98,19 +94,18 @@ fn post(
 fn query<R: Wait + Sync>(
     rt: &R,
     alloc: Global,
-    member: &Member,
-    plan: Plan,
-    client: u8,
+    desk: &Desk,
     seq: u32,
     ask: &QueryAsk,
     pass: &mut Pass,
 ) -> Result<Answer, Memory>
-    requires { IsPassOf member.now pass.old }
+    requires { IsPassOf desk.now.member.now pass.old }
     ensures stays { StaysAll pass.old pass.new }
     ensures served { IfOk result (λ told. (posted : List Posting)
-        → Serves client plan.shards (record { seq = seq; act = act.Query ask.now }) told pass.old pass.new posted posted) }
+        → Serves desk.now.client desk.now.plan.shards (record { seq = seq; act = act.Query ask.now }) told
+        pass.old pass.new posted posted) }
 {
-    let replies = member.query(rt, alloc, pass, client, seq, ask)?;
+    let replies = desk.member.query(rt, alloc, pass, desk.client, seq, ask)?;
     Ok(Answer::Asked(replies))
 }
 
@@ -118,20 +113,19 @@ fn query<R: Wait + Sync>(
 fn peek<R: Wait + Sync>(
     rt: &R,
     alloc: Global,
-    member: &Member,
-    plan: Plan,
-    client: u8,
+    desk: &Desk,
     seq: u32,
     key: &Key,
     pass: &mut Pass,
 ) -> Result<Answer, Memory>
-    requires pass { IsPassOf member.now pass.old }
-    requires plan { plan ≡ member.now.plan }
+    requires pass { IsPassOf desk.now.member.now pass.old }
+    requires plan { desk.now.plan ≡ desk.now.member.now.plan }
     ensures stays { StaysAll pass.old pass.new }
     ensures served { IfOk result (λ told. (posted : List Posting)
-        → Serves client plan.shards (record { seq = seq; act = act.Peek key.now }) told pass.old pass.new posted posted) }
+        → Serves desk.now.client desk.now.plan.shards (record { seq = seq; act = act.Peek key.now }) told
+        pass.old pass.new posted posted) }
 {
-    let seen = look(rt, alloc, member, pass, key)?;
+    let seen = look(rt, alloc, desk.member, pass, key)?;
     let Seen { value, at } = seen;
     Ok(Answer::Peeked { value, at })
 }

@@ -5,6 +5,7 @@ ghost use Rattle.gr_session.specs.Steps.{StandsStill};
 ghost use Rattle.gr_session.specs.Waiting.{HasMadeNothing, WaitedFor};
 ghost use Rattle.gr_session.specs.Sessions.{GoesOn, HasServed, IsSessionAt, KeepsServed, LooksNext, ServesOneMore};
 
+use crate::desk::Desk;
 use crate::gate::Gate;
 use crate::serving::serve;
 use gr_history::AnswerList;
@@ -79,7 +80,8 @@ impl Session {
         ensures goes { GoesOn self.old self.new }
         ensures left { IfOk result (λ more. more ≡ true → length self.old.answers < length self.old.steps) }
         ensures served { IfOk result (λ more. more ≡ true → ServesOneMore self.old self.new) }
-        ensures none { IfOk result (λ more. more ≡ false → (length self.old.steps ≤ length self.old.answers) × (self.new ≡ self.old)) }
+        ensures none { IfOk result (λ more. more ≡ false
+            → (length self.old.steps ≤ length self.old.answers) × (self.new ≡ self.old)) }
         ensures still { IfOk result (λ more. more ≡ true → LooksNext self.old → StandsStill self.old.pass self.new.pass) }
         ensures waited { OnOk result (WaitedFor self.old.plan self.old.pass → WaitedFor self.new.plan self.new.pass) }
         ensures err { OnErr result (self.new.answers ≡ self.old.answers) }
@@ -88,16 +90,12 @@ impl Session {
             return Ok(false);
         };
         gate.before(self.client, step.seq);
-        let answer = serve(
-            rt,
-            alloc,
+        let desk = Desk {
             member,
-            self.plan,
-            self.client,
-            step,
-            &mut self.pass,
-            &mut self.courier,
-        )?;
+            plan: self.plan,
+            client: self.client,
+        };
+        let answer = serve(rt, alloc, &desk, step, &mut self.pass, &mut self.courier)?;
         let _ = self.courier.push(rt, inboxes);
         gate.after(self.client, step.seq, &answer);
         self.answers.push(answer)?;

@@ -9,10 +9,11 @@ use Rattle.gr_session.proofs.serving.call.Goals as goal
 
 pub returns-clause-served : goal.returns-clause-served
 returns-clause-served g c =
+    let desk = c.args.desk.now in
     let done = c.in_ok-done.done in
-    serves_call c.args.client c.args.plan.shards c.args.seq c.args.ask.now c.in_ok-done.done c.args.pass.now c.call.new.pass
+    serves_call desk.client desk.plan.shards c.args.seq c.args.ask.now c.in_ok-done.done c.args.pass.now c.call.new.pass
     c.args.courier.now.posted c.post.new.courier.posted
     (subst (λ (p : Plan). AddsAt (shard_of (key_of c.args.ask.now) p.shards) c.args.pass.now
-    (Call c.args.client done.to c.args.seq c.args.ask.now done.reply done.made) c.call.new.pass)
+    (Call desk.client done.to c.args.seq c.args.ask.now done.reply done.made) c.call.new.pass)
     (sym c.requires.plan.1) c.in_ok-done.ensures.done)
     c.in_ok-post.ensures.posted

@@ -12,8 +12,9 @@ returns-clause-stays g c = still_stays c.args.pass.now c.look.new.pass c.look.en
 
 pub returns-clause-served : goal.returns-clause-served
 returns-clause-served g c = λ posted.
+    let desk = c.args.desk.now in
     let seen = c.in_ok-seen.seen in
-    serves_peek c.args.client c.args.plan.shards c.args.seq c.args.key.now c.in_ok-seen.seen c.args.pass.now c.look.new.pass posted
+    serves_peek desk.client desk.plan.shards c.args.seq c.args.key.now c.in_ok-seen.seen c.args.pass.now c.look.new.pass posted
     c.look.ensures.still
     (subst (λ (p : Plan). LooksBehindAt p.shards (record { key = c.args.key.now; value = seen.value; at = seen.at }) c.args.pass.now
     c.look.new.pass) (sym c.requires.plan) c.in_ok-seen.ensures.behind)

@@ -1,8 +1,7 @@
 use Rattle.std.proofs.Common.{length, refl}
 use Rattle.gr_script.specs.declared.line.Act.TheVariants as act
-use Rattle.gr_session.proofs.Growing.{get_less, same_act, serves_more, stays_at, step_there, waits_on}
+use Rattle.gr_session.proofs.Growing.{at_pushed, get_less, goes_pushed, same_act, serves_more, stays_at, step_there, waits_on}
 use Rattle.gr_session.proofs.Making.{peeks_still, serves_pushed}
-use Rattle.gr_session.proofs.Mailing.{carries_trans, pushed_carries}
 use Rattle.gr_session.proofs.session.Session.step.Goals as goal
 
 pub returns-in_err-answer-clause-at : goal.returns-in_err-answer-clause-at
@@ -13,39 +12,23 @@ returns-in_err-answer-clause-at g c =
 
 pub returns-in_err-push-clause-at : goal.returns-in_err-push-clause-at
 returns-in_err-push-clause-at g c =
-    stays_at c.args.member.now c.args.inboxes.now c.args.self.now
-    (record c.args.self.now { answers = c.push-2.new.self; pass = c.serve.new.pass; courier = c.push.new.self })
-    c.requires refl c.serve.ensures.stays
-    (carries_trans c.args.self.now.courier c.serve.new.courier c.push.new.self c.serve.ensures.carries
-    (pushed_carries c.serve.new.courier c.push.new.self c.push.ensures.pushed))
+    at_pushed c.args.member.now c.args.inboxes.now c.args.self.now c.push-2.new.self c.serve.new.pass c.serve.new.courier
+    c.push.new.self c.requires c.serve.ensures.stays c.serve.ensures.carries c.push.ensures.pushed
 
 pub returns-in_err-push-clause-goes : goal.returns-in_err-push-clause-goes
-returns-in_err-push-clause-goes g c = record {
-  client = refl;
-  plan = refl;
-  steps = refl;
-  stays = c.serve.ensures.stays;
-  carries = carries_trans c.args.self.now.courier c.serve.new.courier c.push.new.self c.serve.ensures.carries
-      (pushed_carries c.serve.new.courier c.push.new.self c.push.ensures.pushed);
-}
+returns-in_err-push-clause-goes g c =
+    goes_pushed c.args.self.now c.push-2.new.self c.serve.new.pass c.serve.new.courier c.push.new.self c.serve.ensures.stays
+    c.serve.ensures.carries c.push.ensures.pushed
 
 pub returns-clause-at : goal.returns-clause-at
 returns-clause-at g c =
-    stays_at c.args.member.now c.args.inboxes.now c.args.self.now
-    (record c.args.self.now { answers = c.push-2.new.self; pass = c.serve.new.pass; courier = c.push.new.self })
-    c.requires refl c.serve.ensures.stays
-    (carries_trans c.args.self.now.courier c.serve.new.courier c.push.new.self c.serve.ensures.carries
-    (pushed_carries c.serve.new.courier c.push.new.self c.push.ensures.pushed))
+    at_pushed c.args.member.now c.args.inboxes.now c.args.self.now c.push-2.new.self c.serve.new.pass c.serve.new.courier
+    c.push.new.self c.requires c.serve.ensures.stays c.serve.ensures.carries c.push.ensures.pushed
 
 pub returns-clause-goes : goal.returns-clause-goes
-returns-clause-goes g c = record {
-  client = refl;
-  plan = refl;
-  steps = refl;
-  stays = c.serve.ensures.stays;
-  carries = carries_trans c.args.self.now.courier c.serve.new.courier c.push.new.self c.serve.ensures.carries
-      (pushed_carries c.serve.new.courier c.push.new.self c.push.ensures.pushed);
-}
+returns-clause-goes g c =
+    goes_pushed c.args.self.now c.push-2.new.self c.serve.new.pass c.serve.new.courier c.push.new.self c.serve.ensures.stays
+    c.serve.ensures.carries c.push.ensures.pushed
 
 pub returns-clause-left : goal.returns-clause-left
 returns-clause-left g c = λ e.
