@@ -2,7 +2,8 @@
 use Rattle.std.proofs.Common.{◌≡◌, ◌≢◌, ℕ, ◌+◌, ◌-◌, ◌<◌, ◌≤◌, List, [], ◌∷◌, ◌++◌, length, get_or, refl, sym, ap, ◌∙◌, subst, arith}
 use Rattle.std.proofs.Common.{eq-eqb, length-append}
 use Rattle.std.proofs.lemmas.List.{get_or_push, get_or_append_left}
-use Rattle.std.specs.Prelude.{◌==◌, Bool, min, cond}
+use Rattle.std.specs.Prelude.{◌==◌, Bool, min, cond, vec_len}
+use Rattle.std.specs.declared.vec.Vec.{Vec}
 use mathlib.Core.Logic.{dite}
 use native.Mathlib.Decide.{ℕ_discrete}
 use Rattle.gr_turn.specs.Views.{times}
@@ -115,3 +116,28 @@ slots_last pass_of house all less x n h e l =
       subst (λ (z : _). IsOfSlot house (length less) (pass_of z))
           (ap (λ (z : List _). get_or z (length less) x) e ∙ get_or_push less x x (length less) refl) (h (length less) x (omega arith)),
     )
+
+-- These slots are left, and the passes of those behind them were met into one.
+pub record AreLeft {X A : Type 0} (pass_of : X → List Place) (house : House) (left : Vec X A) (all : List Place) : Type 0 where
+  pub few : vec_len left ≤ 7
+  pub each : AreOfSlots pass_of house left.items (vec_len left)
+  pub met : HasNumbers house 8 0 (8 - vec_len left) all
+
+-- The pass of the last one is met too.
+pub left_met : {X A : Type 0} (pass_of : X → List Place) (house : House) (left less : Vec X A) (x : X) (p q : List Place)
+    → AreLeft pass_of house left p → left.items ≡ less.items ++ x ∷ [] → MeetsAll p (pass_of x) q → AreLeft pass_of house less q
+left_met pass_of house left less x p q are e met =
+    let few = are.few in
+    let ok = left.ok in
+    let rest = less.ok in
+    let long : length left.items ≡ length less.items + 1 = ap length e ∙ length-append less.items (x ∷ []) in
+    let n = length less.items in
+    let last = slots_last pass_of house left.items less.items x _ are.each e (omega arith) in
+    let middle : 8 - vec_len left ≡ 7 - n = omega arith in
+    let high : 8 - n ≡ 8 - vec_len less = omega arith in
+    record {
+      few = omega arith;
+      each = λ k d b. last.0 k d (omega arith);
+      met = subst (λ (b : ℕ). HasNumbers house 8 0 b q) high
+          (has_meets house 8 0 (7 - n) (8 - n) p (pass_of x) q (subst (λ (b : ℕ). HasNumbers house 8 0 b p) middle are.met) last.1 met);
+    }
