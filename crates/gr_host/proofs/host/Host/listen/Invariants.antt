@@ -1,0 +1,8 @@
+use Rattle.std.proofs.Common.{◌≡◌, []}
+use Rattle.gr_host.proofs.Hosting.{IsAtWork}
+use Rattle.gr_host.proofs.host.Host.listen.Given as goal
+
+abbrev pub invariant-loop : goal.invariant-loop
+invariant-loop g l =
+    (goal.iterator-loop g).can_next l.iterator' × (goal.iterator-loop g).is_finite l.iterator'
+    × (l.self.courier ≡ l.fn.self.courier) × IsAtWork l.fn.members l.fn.inboxes l.fn.self l.self []
