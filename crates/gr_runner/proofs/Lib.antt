@@ -1,0 +1,14 @@
+pub mod Made
+pub mod Lists
+pub mod Ends
+pub mod Posting
+pub mod Desks
+pub mod Gathered
+pub mod Closing
+pub mod Told
+pub mod Ended
+pub mod Joiners
+pub mod Shared
+pub mod Sessions
+pub mod Threads
+pub mod Leaving

@@ -1,0 +1,5 @@
+use Rattle.gr_runner.proofs.Posting.{Popped}
+use Rattle.gr_runner.proofs.mailing.Mailing.last_sender.Given as goal
+
+abbrev pub invariant-loop-k : goal.invariant-loop-k
+invariant-loop-k l = Popped l.fn.self.sends.items l.self.sends.items l.own l.k

@@ -1,0 +1,91 @@
+// How the members of a run are made.
+ghost use Rattle.std.specs.Prelude.{◌≡◌, ◌==◌, ◌≤◌, count_by, IfOk};
+ghost use Rattle.gr_script.specs.Rules.{IsMember};
+ghost use Rattle.gr_script.specs.Scripts.{heading_of};
+ghost use Rattle.gr_member.specs.Plans.{IsPlan};
+ghost use Rattle.gr_runner.specs.Makings.{AreMade, IsMade, passes_at as passes_planned, plan_of as plan_for};
+
+use crate::undoing::undo;
+use gr_member::{Member, PassList, Plan};
+use gr_script::Script;
+use gr_value::Memory;
+use std::alloc::Global;
+use std::sync::Wait;
+
+/// The script's members, member 1 first, with no deeds, and the passes of each.
+pub fn make<R: Wait>(
+    rt: &R,
+    alloc: Global,
+    script: &Script,
+) -> Result<(Vec<Member>, Vec<PassList>), Memory>
+    ensures { IfOk result (λ made. AreMade (heading_of script.now) script.now.members made.0.items made.1.items) }
+{
+    let count = usize::from(script.members);
+    let mut members = Vec::with_capacity(alloc, count)?;
+    let Ok(mut passes) = Vec::with_capacity(alloc, count) else {
+        members.destroy_empty();
+        return Err(Memory);
+    };
+    for k in 0..script.members {
+        let Ok(made) = make_one(rt, alloc, script, k + 1) else {
+            undo(rt, members, passes);
+            return Err(Memory);
+        };
+        let (member, dealt) = made;
+        members.push_reserved(member);
+        passes.push_reserved(dealt);
+    }
+    Ok((members, passes))
+}
+
+// One member and its passes.
+fn make_one<R: Wait>(
+    rt: &R,
+    alloc: Global,
+    script: &Script,
+    member: u8,
+) -> Result<(Member, PassList), Memory>
+    requires { IsMember (heading_of script.now) member }
+    ensures { IfOk result (λ made. IsMade (plan_for (heading_of script.now) member) (passes_planned (heading_of script.now) member)
+        made.0 made.1) }
+{
+    let passes = passes_at(script, member);
+    Ok(Member::new(rt, alloc, plan_of(script, member), passes)?)
+}
+
+fn plan_of(script: &Script, member: u8) -> Plan
+    requires { IsMember (heading_of script.now) member }
+    ensures plan { result ≡ plan_for (heading_of script.now) member }
+    ensures ruled { IsPlan result }
+{
+    Plan {
+        member,
+        members: script.members,
+        founders: script.founders,
+        shards: script.shards,
+        floor: script.floor,
+    }
+}
+
+fn passes_at(script: &Script, member: u8) -> u32
+    ensures passes { result ≡ passes_planned (heading_of script.now) member }
+    ensures some { 1 ≤ result }
+{
+    let clients = clients_at(script, member);
+    let joiners = script.members - script.founders;
+    2 + clients + u32::from(joiners)
+}
+
+// How many clients are at the member.
+fn clients_at(script: &Script, member: u8) -> u32
+    ensures count { result ≡ count_by (λ at. at == member) script.now.clients }
+    ensures few { result ≤ 64 }
+{
+    let mut count = 0;
+    for at in script.clients.as_slice() {
+        if *at == member {
+            count += 1;
+        }
+    }
+    count
+}
