@@ -12,3 +12,4 @@ pub mod Shared
 pub mod Sessions
 pub mod Threads
 pub mod Leaving
+pub mod Playing
