@@ -13,3 +13,5 @@ pub mod Sessions
 pub mod Threads
 pub mod Leaving
 pub mod Playing
+pub mod Apart
+pub mod Mailed

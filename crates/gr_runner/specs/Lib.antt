@@ -6,3 +6,4 @@ pub mod Ending
 pub mod Receipts
 pub mod Left
 pub mod Slots
+pub mod Sorting

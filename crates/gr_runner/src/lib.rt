@@ -9,6 +9,7 @@ mod making;
 mod meeting;
 mod receipts;
 mod slots;
+mod sorting;
 mod undoing;
 
 pub use ending::{end_all, stop_members};
@@ -19,4 +20,5 @@ pub use mailing::Mailing;
 pub use making::make;
 pub use meeting::{meet_at, meet_each};
 pub use receipts::meet_mail;
+pub use sorting::Sorted;
 pub use slots::{ClientKit, MemberKit, Slot, Worker};
