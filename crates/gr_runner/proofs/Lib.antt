@@ -1,4 +1,5 @@
 pub mod Made
+pub mod Numbered
 pub mod Lists
 pub mod Ends
 pub mod Posting
@@ -15,3 +16,17 @@ pub mod Leaving
 pub mod Playing
 pub mod Apart
 pub mod Mailed
+pub mod Found
+pub mod Ran
+pub mod Whole
+pub mod Lawful
+pub mod Taken
+pub mod Dealings
+pub mod ForClients
+pub mod NewPasses
+pub mod AllDealt
+mod QueryCrossing
+pub mod Crossing
+pub mod Readying
+pub mod Conducts
+pub mod Unpacking

@@ -18,6 +18,7 @@ use Rattle.gr_world.specs.Served.{Called, Looked, Queried, Served}
 use Rattle.gr_run_law.specs.Plans.{changes_posted, posted_by, posted_from}
 use Rattle.gr_run_law.proofs.Lists.{all_append, all_flat}
 use Rattle.gr_session.specs.Mailing.{HasSent, numbers_of}
+use Rattle.gr_runner.specs.Kits.{IsCourierOf}
 use Rattle.gr_runner.specs.Mailing.{AreSendersOf}
 use Rattle.gr_runner.specs.Receipts.{AreTaken, IsTaken, ring_tables, send_tables}
 use Rattle.gr_runner.proofs.Told.{same_at, same_many}
@@ -70,12 +71,6 @@ sent_closed c posted sends k d sent less none =
 
 -- ---- a courier at its beginning
 
--- It was made of one sender's passes to all inboxes.
-pub record IsCourierOf (rings : List Ring) (place first : ℕ) (c : Carrying) : Type 0 where
-  pub passes : List Sending
-  pub its : AreSendersOf rings place passes
-  pub carries : c ≡ begun passes first
-
 begun_passes : (passes : List Sending) (first : ℕ) → passes_of (begun passes first) ≡ passes
 begun_passes [] first = refl
 begun_passes (p ∷ passes) first = ap (λ (l : List Sending). p ∷ l) (begun_passes passes first)
@@ -91,7 +86,7 @@ lines_many rings place first c of =
     line_count [] = refl
     line_count (p ∷ passes) = ap (λ (n : ℕ). suc n) (line_count passes)
 
-maps_same : {X Y Z : Type 0} (f : X → Z) (g : Y → Z) (xs : List X) (ys : List Y) → length xs ≡ length ys
+pub maps_same : {X Y Z : Type 0} (f : X → Z) (g : Y → Z) (xs : List X) (ys : List Y) → length xs ≡ length ys
     → ((k : ℕ) (x : X) (y : Y) → k < length xs → f (get_or xs k x) ≡ g (get_or ys k y)) → map f xs ≡ map g ys
 maps_same f g [] [] e same = refl
 maps_same f g [] (y ∷ ys) e same = absurd (omega (arith, e))
@@ -100,13 +95,21 @@ maps_same {Z = Z} f g (x ∷ xs) (y ∷ ys) e same =
     ap (λ (z : Z). z ∷ map f xs) (same zero x y (omega arith))
     ∙ ap (λ (l : List Z). g y ∷ l) (maps_same f g xs ys (omega (arith, e)) (λ k a b l. same (suc k) a b (omega (arith, l))))
 
+pub passes_many : (rings : List Ring) (place first : ℕ) (c : Carrying) → IsCourierOf rings place first c → length (passes_of c) ≡ length rings
+passes_many rings place first c of = ap length (passes_are rings place first c of) ∙ of.its.many
+
+-- it is of all inboxes
+pub courier_tables : (rings : List Ring) (place first : ℕ) (c : Carrying) → IsCourierOf rings place first c → tables_of c ≡ ring_tables rings
+courier_tables rings place first c of =
+    ap (map (λ (p : Sending). p.table)) (passes_are rings place first c of)
+    ∙ maps_same (λ (p : Sending). p.table) (λ (r : Ring). r.table) of.passes rings of.its.many
+    (λ k d r l. ap (λ (p : Sending). p.table) (of.its.each k r d (let many = of.its.many in omega (arith, l, many))))
+
 -- what it has sent is to all inboxes
 pub sent_tables : (rings : List Ring) (place first : ℕ) (c : Carrying) (posted : List Posting) (sends : List Sending)
     → IsCourierOf rings place first c → HasSent c posted sends → send_tables sends ≡ ring_tables rings
 sent_tables rings place first c posted sends of sent =
-    sent.tables ∙ ap (map (λ (p : Sending). p.table)) (passes_are rings place first c of)
-    ∙ maps_same (λ (p : Sending). p.table) (λ (r : Ring). r.table) of.passes rings of.its.many
-    (λ k d r l. ap (λ (p : Sending). p.table) (of.its.each k r d (let many = of.its.many in omega (arith, l, many))))
+    sent.tables ∙ courier_tables rings place first c of
 
 -- and by the passes of its place
 sent_number : (rings : List Ring) (place first : ℕ) (c : Carrying) (posted : List Posting) (sends : List Sending) (k : ℕ) (d : Sending)

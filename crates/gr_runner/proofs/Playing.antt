@@ -96,7 +96,7 @@ leaves_client heading lines client s waits pass told sends of seats a = record {
 -- ---- a member's thread
 
 -- a pass that made nothing did so at each shard, and beyond them
-nothing_at : (p : List Place) (shard : ℕ) → HasMadeNothing p → (at_shard p shard).view.made ≡ []
+pub nothing_at : (p : List Place) (shard : ℕ) → HasMadeNothing p → (at_shard p shard).view.made ≡ []
 nothing_at [] shard none = refl
 nothing_at (s ∷ p) zero none = none zero nowhere (omega arith)
 nothing_at (s ∷ p) (suc shard) none = nothing_at p shard (λ k x l. none (suc k) x (omega (arith, l)))
@@ -113,7 +113,7 @@ pub record IsHostOf (heading : Heading) (lines : List Line) (member : ℕ) (s : 
   pub visits : joins_of member lines ≢ 0 → length s.visits.items ≡ heading.members
 
 -- what is due of a member's lines is what its duties say
-gifts_due : (giver joiner : ℕ) (lines : List Line)
+pub gifts_due : (giver joiner : ℕ) (lines : List Line)
     → filter_map (gift_for giver joiner) (filter_map (duty_of joiner) lines) ≡ filter_map (gift_due giver joiner) lines
 gifts_due giver joiner [] = refl
 gifts_due giver joiner (line.Step client seq act ∷ lines) = gifts_due giver joiner lines

@@ -42,7 +42,9 @@ impl Mailing {
     /// The passes to all inboxes of the last sender that is left.
     pub fn last_sender(&mut self, alloc: Global) -> Result<SendPassList, Memory>
         requires { AllByRecursion (λ passes. 1 ≤ length passes) self.old.sends.items }
-        ensures { IfOk result (λ own. (rings : List Ring) (left : ℕ) → HaveSenders rings (left + 1) self.old.sends.items
+        ensures inboxes { self.new.inboxes ≡ self.old.inboxes }
+        ensures takes { self.new.takes ≡ self.old.takes }
+        ensures own { IfOk result (λ own. (rings : List Ring) (left : ℕ) → HaveSenders rings (left + 1) self.old.sends.items
             → HaveSenders rings left self.new.sends.items × AreSendersOf rings left own) }
     {
         let mut own = SendPassList::new(alloc)?;

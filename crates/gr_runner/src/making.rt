@@ -53,7 +53,8 @@ fn make_one<R: Wait>(
     Ok(Member::new(rt, alloc, plan_of(script, member), passes)?)
 }
 
-fn plan_of(script: &Script, member: u8) -> Plan
+// What a member is planned to be.
+pub(crate) fn plan_of(script: &Script, member: u8) -> Plan
     requires { IsMember (heading_of script.now) member }
     ensures plan { result ≡ plan_for (heading_of script.now) member }
     ensures ruled { IsPlan result }

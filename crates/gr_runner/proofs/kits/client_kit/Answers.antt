@@ -1,0 +1,20 @@
+use Rattle.std.proofs.Common.{◌-◌, refl}
+use Rattle.gr_script.specs.Scripts.{heading_of}
+use Rattle.gr_runner.proofs.Numbered.{is_client, one_less}
+use Rattle.gr_runner.proofs.kits.client_kit.Goals as goal
+
+pub last_courier-requires-clause-left : goal.last_courier-requires-clause-left
+last_courier-requires-clause-left c =
+    (c.args.client - 1, one_less c.args.sends.now.inboxes c.args.client c.args.sends.now.sends.items c.requires.client.0 c.requires.left)
+
+pub returns-clause-left : goal.returns-clause-left
+returns-clause-left c =
+    (c.in_ok-courier.ensures.courier (c.args.client - 1)
+    (one_less c.args.sends.now.inboxes c.args.client c.args.sends.now.sends.items c.requires.client.0 c.requires.left)).0
+
+pub returns-clause-kit : goal.returns-clause-kit
+returns-clause-kit c =
+    is_client (heading_of c.args.script.now) c.args.script.now.lines c.args.sends.now.inboxes c.args.client c.home_of-home.result
+    c.joins_of.result _ refl c.plan_of.ensures.plan c.home_of-home.ensures.home refl c.joins_of.ensures c.in_ok-steps.ensures.steps
+    (c.in_ok-courier.ensures.courier (c.args.client - 1)
+    (one_less c.args.sends.now.inboxes c.args.client c.args.sends.now.sends.items c.requires.client.0 c.requires.left)).1
