@@ -212,8 +212,7 @@ module _ (h : Heading) (lines : List Line) (script : IsScript h lines) (houses :
       each k x y there ring =
           let within = slice_get_within rings k y ring in
           let many = p.many in
-          let r = member_ran h lines script houses rings desks news p k (omega (arith, within, many)) in
-          (
+          let r = member_ran h lines script houses rings desks news p k (omega (arith, within, many)) in (
             r.take,
             ap take_in (same_in_some x (news_of.Member r.take r.sends) (sym there ∙ r.ran.news_there ∙ ap (λ (n : News). Some n) r.one_is)),
             r.hosted.table ∙ r.table y ∙ ap (λ (z : Ring). z.table) (get_or_from_slice_get rings k y y ring),

@@ -322,8 +322,7 @@ module _ (h : Heading) (lines : List Line) (script : IsScript h lines) (houses :
                   let home : m ≡ home_of h (suc c) = omega (arith, own, low, lower) in
                   let pass : ((all_clients h lines script houses rings desks news g).0 (suc c - 1)).pass ≡ q =
                   ap (λ (j : ℕ). ((all_clients h lines script houses rings desks news g).0 j).pass) spot ∙ F.pass_is
-                  ∙ ap (λ (l : Left). l.pass) (sym left_is) ∙ sym is' in
-                  (
+                  ∙ ap (λ (l : Left). l.pass) (sym left_is) ∙ sym is' in (
                     Client (suc c),
                     subst (λ (b : Bool). 0 < times n (if b then (at_shard (clients (suc c)).pass shard).view.made else []))
                         (sym (client_there h m (suc c) stated home))

@@ -30,3 +30,4 @@ pub mod Crossing
 pub mod Readying
 pub mod Conducts
 pub mod Unpacking
+pub mod Beginnings

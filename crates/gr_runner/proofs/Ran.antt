@@ -67,8 +67,7 @@ module _ (h : Heading) (lines : List Line) (script : IsScript h lines) (houses :
       (among_reverse p (reverse (dealt_passes m)) (subst (Among p) (sym (reverse-reverse (dealt_passes m))) among)) in
       let at = among_get p (get_or g.passes m []) there in
       let within = slice_get_within (get_or g.passes m []) at.0 p at.1 in
-      let many = made.many in
-      (
+      let many = made.many in (
         at.0,
         subst (IsFresh (get_or houses m house) (passes_at h (suc m)) at.0) (get_or_from_slice_get (get_or g.passes m []) at.0 p p at.1)
             (made.fresh at.0 p (omega (arith, within, many))),

@@ -136,8 +136,7 @@ module _ (h : Heading) (lines : List Line) (script : IsScript h lines) (houses :
       let left = r.ran.left in
       let seats : length left.pass ≡ h.shards = r.leaves.stays.many ∙ seats_of k less r.host.pass (own_pass k r) in
       let kept = r.leaves.visits.many in
-      let low : 1 ≤ suc k = omega arith in
-      (
+      let low : 1 ≤ suc k = omega arith in (
         host_left r.host left.pass left.visits.items r.take r.sends r.hosted,
         record {
           leaves = leaves_host h lines (suc k) r.host left.pass left.visits.items r.take r.sends r.of seats kept r.hosted
@@ -246,8 +245,7 @@ module _ (h : Heading) (lines : List Line) (script : IsScript h lines) (houses :
       let left = r.ran.left in
       let home = home_place c less in
       let seats : length left.pass ≡ h.shards =
-      r.leaves.stays.many ∙ seats_of (home_of h (suc c) - 1) home.0 r.client.session.pass (client_pass c r) in
-      (
+      r.leaves.stays.many ∙ seats_of (home_of h (suc c) - 1) home.0 r.client.session.pass (client_pass c r) in (
         client_left r.client.session r.client.waits left.pass r.told r.sends r.attended,
         record {
           leaves = leaves_client h lines (suc c) r.client.session r.client.waits left.pass r.told r.sends r.of seats r.attended;

@@ -95,12 +95,7 @@ struct Gathered {
 }
 
 // Gathers what all threads left.
-fn gather_all(
-    members: &[Member],
-    desks: Vec<Pass>,
-    lefts: Vec<Left>,
-    news: Vec<News>,
-) -> Gathered
+fn gather_all(members: &[Member], desks: Vec<Pass>, lefts: Vec<Left>, news: Vec<News>) -> Gathered
     requires desks { ArePassesOf members.now desks.items }
     requires its { AllByRecursion (IsLeftAt members.now) lefts.items }
     requires none { vec_len news ≡ 0 }

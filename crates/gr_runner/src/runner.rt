@@ -57,7 +57,9 @@ pub fn run<R: Threads + Wait + Sync, G: Gate>(
         members: hosts,
     } = kits;
     let dealt = deal(alloc, script, passes, clients, hosts, rooms);
-    let Conducted { desks, told } = conduct(rt, alloc, gate, &members, &inboxes, &signs, dealt, news);
+    let Conducted { desks, told } = conduct(
+        rt, alloc, gate, &members, &inboxes, &signs, dealt, news,
+    );
     end_run(rt, alloc, members, desks, told)
 }
 
