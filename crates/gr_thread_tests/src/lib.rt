@@ -1,4 +1,4 @@
-//! Tests of what threads share, and nothing else: a lock, inboxes, a published copy and a member, alone and under threads.
+//! Tests of what threads share, and nothing else: a lock, inboxes, a published copy, a member and a run, alone and under threads.
 #![tactic(auto)]
 
 #[cfg(test)]
@@ -7,5 +7,7 @@ mod member;
 mod peek;
 #[cfg(test)]
 mod post;
+#[cfg(test)]
+mod run;
 #[cfg(test)]
 mod turns;
