@@ -1,5 +1,6 @@
 -- A member's thread: what it is before, while and after it serves.
-use Rattle.std.specs.Prelude.{◌≡◌, ℕ, ◌-◌, ◌<◌, Bool, true, List, [], ◌∷◌, ◌++◌, Some, slice_get, length, map, filter, flat_map, slice_index_or}
+use Rattle.std.specs.Prelude.{◌≡◌, ℕ, ◌-◌, ◌<◌, Bool, true, List, [], ◌∷◌, ◌++◌, Some, slice_get, length, map, filter, flat_map}
+use Rattle.std.specs.Prelude.{slice_index_or}
 use Rattle.std.specs.List.{AllByRecursion, filter_map}
 use Rattle.gr_law.specs.Grids.{Among}
 use Rattle.gr_history.specs.declared.image.Gift.{Gift}

@@ -1,5 +1,6 @@
 -- What a member's thread did between two moments.
-use Rattle.std.specs.Prelude.{◌≡◌, ℕ, ◌-◌, ◌<◌, ◌==◌, List, [], ◌∷◌, ◌++◌, length, map, flat_map, reverse, slice_get, slice_index_or, Option, Some, None, if◌then◌else◌}
+use Rattle.std.specs.Prelude.{◌≡◌, ℕ, ◌-◌, ◌<◌, ◌==◌, List, [], ◌∷◌, ◌++◌, length, map, flat_map, reverse, slice_get}
+use Rattle.std.specs.Prelude.{slice_index_or, Option, Some, None, if◌then◌else◌}
 use Rattle.std.specs.List.{AllByRecursion, filter_map}
 use Rattle.gr_value.specs.Lists.{StartsWith}
 use Rattle.gr_law.specs.Grids.{Among}
@@ -103,7 +104,8 @@ pub record HasDone (plan : Plan) (duties : List Duty) (p q : List Place) (v w : 
   pub givers : AllByRecursion (IsGivenBy plan) works
   pub gifts : ℕ → ℕ → List Gift
   pub gave : (giver shard : ℕ) (x : List Place) (s : Place) → IsOther plan giver → shard < plan.shards
-      → GivesMore (identity_of (of_member plan giver) shard) plan.floor plan.member (slice_index_or (slice_index_or v (giver - 1) x) shard s)
+      → GivesMore (identity_of (of_member plan giver) shard) plan.floor plan.member
+      (slice_index_or (slice_index_or v (giver - 1) x) shard s)
       (gifts giver shard) (slice_index_or (slice_index_or w (giver - 1) x) shard s)
   pub whats : (giver shard : ℕ) → IsOther plan giver → shard < plan.shards
       → map what_of (gifts giver shard) ≡ filter_map (gift_for giver plan.member) duties

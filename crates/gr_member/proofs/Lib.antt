@@ -8,6 +8,6 @@ pub mod Dealt
 pub mod Handing
 pub mod Leaving
 pub mod Peeking
-mod QueryCrossing
-mod ShardCrossing
+pub mod QueryCrossing
+pub mod ShardCrossing
 pub mod Crossing

@@ -38,7 +38,7 @@ both a b = (a, b)
 name_send : IsSend (as_row Key.the_field)
 name_send = as_row_send Key.the_field key.the_send
 
-query_ask_send : IsSend QueryAsk.the_row
+pub query_ask_send : IsSend QueryAsk.the_row
 query_ask_send =
     variants_send QueryAsk.enum
     ((name_send, (as_row_send Query.the_field query_send, tt)), ((name_send, tt), ((name_send, tt), ((name_send, tt), tt))))

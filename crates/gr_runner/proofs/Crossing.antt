@@ -9,17 +9,15 @@ use denote.Param.SendFields.{as_row_send, as_row_sync, declared_send, variants_s
 use Rattle.std.proofs.Crossing.{Vec-send}
 use Rattle.gr_value.proofs.key.Key.TheSendSync as key
 use Rattle.gr_value.proofs.list.ItemList.TheSendSync as list
-use Rattle.gr_value.specs.contracts.key.Key as Key
-use Rattle.gr_oql.specs.contracts.query.Query as Query
 use Rattle.gr_history.proofs.ask.Ask.TheSendSync as ask
 use Rattle.gr_history.proofs.record.Answer.TheSendSync as answer
-use Rattle.gr_history.specs.contracts.query_ask.QueryAsk as QueryAsk
 use Rattle.gr_script.specs.contracts.line.Act as Act
 use Rattle.gr_script.specs.contracts.line.Step as Step
 use Rattle.gr_post.proofs.courier.Courier.TheSendSync as courier
 use Rattle.gr_post.proofs.passes.TakePass.TheSendSync as taking
 use Rattle.gr_member.proofs.plan.Plan.TheSendSync as plan
 use Rattle.gr_member.proofs.Crossing.{pass_send}
+use Rattle.gr_member.proofs.ShardCrossing.{both, query_ask_send}
 use Rattle.gr_session.specs.contracts.client.Client as Client
 use Rattle.gr_session.specs.contracts.session.Session as Session
 use Rattle.gr_host.proofs.duties.Duty.TheSendSync as duty
@@ -29,21 +27,8 @@ use Rattle.gr_runner.proofs.gathering.News.TheSendSync as news
 use Rattle.gr_runner.specs.contracts.gathering.Left as Left
 use Rattle.gr_runner.specs.contracts.slots.Slot as Slot
 use Rattle.gr_runner.specs.contracts.slots.Worker as Worker
-use Rattle.gr_runner.proofs.QueryCrossing.{query_send}
-
--- for the fields of a struct, one after the other
-both : {A B : Type 0} → A → B → A × B
-both a b = (a, b)
 
 -- ---- a client's thread
-name_send : IsSend (as_row Key.the_field)
-name_send = as_row_send Key.the_field key.the_send
-
-query_ask_send : IsSend QueryAsk.the_row
-query_ask_send =
-    variants_send QueryAsk.enum
-    ((name_send, (as_row_send Query.the_field query_send, tt)), ((name_send, tt), ((name_send, tt), ((name_send, tt), tt))))
-
 act_send : IsSend Act.the_row
 act_send = variants_send Act.enum (search (both, sendable, as_row_send, ask.the_field_send, query_ask_send, key.the_send) depth 20)
 

@@ -25,7 +25,6 @@ pub mod Dealings
 pub mod ForClients
 pub mod NewPasses
 pub mod AllDealt
-mod QueryCrossing
 pub mod Crossing
 pub mod Readying
 pub mod Conducts

@@ -1,5 +1,6 @@
 -- How passes are dealt: at each member one is kept, and the others go to threads.
-use Rattle.std.specs.Prelude.{◌≡◌, ◌≢◌, ℕ, suc, ◌+◌, ◌-◌, ◌≤◌, ◌<◌, ◌==◌, Bool, true, false, List, [], ◌∷◌, ◌++◌, Option, Some, None, length, flat_map, reverse}
+use Rattle.std.specs.Prelude.{◌≡◌, ◌≢◌, ℕ, suc, ◌+◌, ◌-◌, ◌≤◌, ◌<◌, ◌==◌, Bool, true, false, List, [], ◌∷◌, ◌++◌, Option, Some}
+use Rattle.std.specs.Prelude.{None, length, flat_map, reverse}
 use Rattle.std.specs.Prelude.{count_by, nat_le, slice_get, take, slice_index_or, vec_capacity, if◌then◌else◌}
 use Rattle.std.specs.Global.{Vec}
 use Rattle.std.specs.List.{AllByRecursion}
@@ -109,7 +110,8 @@ needed_at member home joins = (if joins then 1 else 0) + (if home == member then
 
 -- There are as many, and they were taken.
 abbrev pub HaveEnough : ℕ → Bool → List (List (List Place)) → Type 0
-HaveEnough home joins passes = (k : ℕ) (x : List (List Place)) → k < length passes → needed_at k home joins ≤ length (slice_index_or passes k x)
+HaveEnough home joins passes =
+    (k : ℕ) (x : List (List Place)) → k < length passes → needed_at k home joins ≤ length (slice_index_or passes k x)
 
 -- as many fewer are there
 abbrev pub HaveFewer : ℕ → Bool → List (List (List Place)) → List (List (List Place)) → Type 0
