@@ -28,8 +28,10 @@ use Rattle.gr_report.specs.Same.{rows_by_shard, member_eq, are_equal}
 use Rattle.gr_report.proofs.Sameness.{member_eq_decides}
 use Rattle.gr_run_law.specs.Runs.{IsLawfulRun}
 use Rattle.gr_run_law.specs.Closed.{EndsReady}
+use Rattle.gr_run_law.specs.Records.{IsRecordOfRun}
+use Rattle.gr_run_law.proofs.Closed.{takes_all}
 use Rattle.gr_run_law.proofs.Lists.{all_at, same_number, none_isnt_some, same_in_some}
-use Rattle.gr_run_law.proofs.Rows.{rows_left, rows_same}
+use Rattle.gr_run_law.proofs.Rows.{rows_left, rows_same, regions_same}
 
 whole_abiding : (grid : Grid) → IsWhole grid → IsLawAbiding grid
 whole_abiding grid whole = record {
@@ -45,10 +47,21 @@ whole_abiding grid whole = record {
   queries = law_queries-holds grid whole.sound;
 }
 
--- a lawful run's record keeps the laws
+-- A lawful run's record keeps the laws,
 pub keeps_laws : (heading : Heading) (lines : List Line) (left : Record) → IsLawfulRun heading lines left → KeepsLaws heading left
 keeps_laws heading lines left lawful shard within = whole_abiding (grid_from heading (histories_in left) shard)
     (lawful.run.whole shard within)
+
+-- and all else that is said of it.
+pub record_of_run : (heading : Heading) (lines : List Line) (left : Record) → IsScript heading lines → IsLawfulRun heading lines left
+    → IsRecordOfRun heading lines left
+record_of_run heading lines left head lawful = record {
+  lawful = lawful;
+  laws = keeps_laws heading lines left lawful;
+  served = lawful.run.clients;
+  all = takes_all heading lines (histories_in left) left.clients head lawful.run;
+  rows = regions_same heading lines (histories_in left) left.clients head lawful.run;
+}
 
 -- ---- members by their numbers
 

@@ -4,5 +4,6 @@ pub mod Plans
 pub mod Runs
 pub mod Threads
 pub mod Closed
+pub mod Records
 pub mod Small
 pub mod Broken

@@ -20,6 +20,7 @@ ghost use Rattle.gr_run_law.specs.Broken.{asked_early, given_twice, half_rounds,
 ghost use Rattle.gr_run_law.specs.Threads.{AreLeftByThreads, IsLeftByThreads, LooksFit};
 ghost use Rattle.gr_run_law.specs.Duties.{gift_in, given_to, own_where};
 ghost use Rattle.gr_run_law.specs.Closed.{HasSameRows, EndsReady, TakesAll};
+ghost use Rattle.gr_run_law.specs.Records.{IsRecordOfRun};
 ghost use Rattle.gr_run_law.specs.Runs.{AreRounds, DoesDuties, GivesGifts, HearsReports, IsLawfulRun, IsRun, TakesChanges, WaitsForImage};
 ghost use Rattle.gr_world.specs.Events.{Peek};
 ghost use Rattle.gr_world.specs.Served.{Looked, Served, all_deeds_of, client_of};
@@ -51,6 +52,8 @@ pub fn lawful_runs_are_closed()
 /// each drill, its members are equal.
 pub fn records_of_runs_keep_the_laws()
     ensures laws { (heading : Heading) (lines : List Line) (left : Record) → IsLawfulRun heading lines left → KeepsLaws heading left }
+    ensures whole { (heading : Heading) (lines : List Line) (left : Record) → IsScript heading lines → IsLawfulRun heading lines left
+        → IsRecordOfRun heading lines left }
     ensures equal { (heading : Heading) (lines : List Line) (left : Record) → IsScript heading lines → IsLawfulRun heading lines left
         → ((member : ℕ) → IsMember heading member → EndsReady heading lines member) → are_equal left.members ≡ true }
     ensures drill { (start steps : ℕ) (script : Heading × List Line) (left : Record) → IsDrill start steps script
