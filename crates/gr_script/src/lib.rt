@@ -45,6 +45,7 @@ pub use generating::generate;
 pub use laws::values_end_with_their_brace;
 pub use line::{Act, Line, LineList, Step, StepList};
 pub use numbering::line_number;
+pub use numeral::number_of;
 pub use print_script::{print, scripts_read_back};
 pub use reading::read;
 pub use reason::Reason;

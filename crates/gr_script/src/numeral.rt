@@ -40,8 +40,8 @@ fn worth(digits: &[u8]) -> u128
     number
 }
 
-/// The number that is spelled so.
-pub(crate) fn number_of(text: &[u8]) -> Option<u128>
+/// The number that is spelled so: at most 20 digits, of which the first is 0 only where it is the last.
+pub fn number_of(text: &[u8]) -> Option<u128>
     ensures { result ≡ number_of text.now }
 {
     if is_number(text) {
