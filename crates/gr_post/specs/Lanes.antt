@@ -16,6 +16,7 @@ use Rattle.std.specs.Prelude.{
   Some,
   None,
   length,
+  map,
   slice_index_or,
   if◌then◌else◌,
 }
@@ -45,16 +46,34 @@ new_way pass = record { pass = pass; waiting = []; held = []; ready = None }
 abbrev pub pass_of : Way → Sending
 pass_of way = way.pass
 
--- there is room for what was made ready, and for an End where nothing waits
-abbrev pub HasRoomFor : ℕ → ℕ → ℕ → ℕ → Option Fate → Type 0
-HasRoomFor waiting room held held_room None = 1 ≤ room
-HasRoomFor waiting room held held_room (Some (Once mail)) = (waiting + held + 2 ≤ room) × (held + 1 ≤ held_room)
-HasRoomFor waiting room held held_room (Some (Twice mail copy)) = (waiting + held + 2 ≤ room) × (held + 1 ≤ held_room)
-HasRoomFor waiting room held held_room (Some (Hold one)) = (waiting + held + 2 ≤ room) × (held + 1 ≤ held_room)
-HasRoomFor waiting room held held_room (Some Last) = waiting + held + 1 ≤ room
+-- mails that are held back to the end
+abbrev pub to_the_end : List Mail → List Held
+to_the_end mails = map (λ mail. record { mail = mail; left = 0 }) mails
 
-abbrev pub HasRoom : {A : Type 0} → VecDeque Mail A → VecDeque Held A → Option Fate → Type 0
-HasRoom waiting held ready = HasRoomFor (deque_len waiting) (deque_capacity waiting) (deque_len held) (deque_capacity held) ready
+-- The room that a deque has, and how much of it is taken.
+pub record Filled : Type 0 where
+  pub len : ℕ
+  pub room : ℕ
+
+abbrev pub filled : {X A : Type 0} → VecDeque X A → Filled
+filled deque = record { len = deque_len deque; room = deque_capacity deque }
+
+-- there is room for a mail that is released twice, or held back
+pub record HasRoomForMail (waiting late held : Filled) : Type 0 where
+  pub released : waiting.len + held.len + 2 ≤ waiting.room
+  pub held_back : held.len + 1 ≤ held.room
+  pub set_aside : late.len + held.len + 1 ≤ late.room
+
+-- there is room for what was made ready, and for an End where nothing waits
+abbrev pub HasRoomFor : Filled → Filled → Filled → Option Fate → Type 0
+HasRoomFor waiting late held None = 1 ≤ waiting.room
+HasRoomFor waiting late held (Some (Once mail)) = HasRoomForMail waiting late held
+HasRoomFor waiting late held (Some (Twice mail copy)) = HasRoomForMail waiting late held
+HasRoomFor waiting late held (Some (Hold one)) = HasRoomForMail waiting late held
+HasRoomFor waiting late held (Some Last) = waiting.len + late.len + held.len + 1 ≤ waiting.room
+
+abbrev pub HasRoom : {A : Type 0} → VecDeque Mail A → VecDeque Mail A → VecDeque Held A → Option Fate → Type 0
+HasRoom waiting late held ready = HasRoomFor (filled waiting) (filled late) (filled held) ready
 
 -- the part of a fate that is released at once, and the part that is held back
 abbrev pub at_once : Fate → List Mail

@@ -4,7 +4,7 @@ ghost use Rattle.std.specs.VecDeque.{deque_len, deque_capacity};
 ghost use Rattle.gr_post.specs.declared.mail.Mail.TheVariants.{End};
 ghost use Rattle.gr_post.specs.declared.fate.Fate.TheVariants.{Last};
 ghost use Rattle.gr_post.specs.Plan.{fate, due, kept, mails};
-ghost use Rattle.gr_post.specs.Lanes.{settled, at_once, later, Moves, is_none};
+ghost use Rattle.gr_post.specs.Lanes.{settled, at_once, later, to_the_end, Moves, is_none};
 ghost use Rattle.gr_value.specs.Counts.{Rose};
 
 use crate::fate::{Fate, Held};
@@ -17,23 +17,27 @@ use std::collections::VecDeque;
 use std::marker::Model;
 use std::sync::Wait;
 
-// The way to one inbox: what waits, what is held back, and what was made ready and hasn't happened yet.
+// The way to one inbox: what waits, what is held back, and what was made ready and hasn't happened yet. What
+// is held back to the end, and not behind a mail that is due earlier, is in `late`: so no more than the
+// newest few are counted down for a mail.
 #[derive(Drop)]
 pub struct Lane {
     pass: SendPass,
     waiting: VecDeque<Mail>,
+    late: VecDeque<Mail>,
     held: VecDeque<Held>,
     ready: Option<Fate>,
 }
 
 impl Model for Lane {
-    ghost use Rattle.gr_post.specs.Lanes.{Way, HasRoom};
+    ghost use Rattle.std.specs.Prelude.{◌++◌};
+    ghost use Rattle.gr_post.specs.Lanes.{Way, HasRoom, to_the_end};
 
     ghost Value = { Way };
 
-    ghost view = { λ lane. record { pass = lane.pass; waiting = lane.waiting.items; held = lane.held.items; ready = lane.ready } };
+    ghost view = { λ lane. record { pass = lane.pass; waiting = lane.waiting.items; held = to_the_end lane.late.items ++ lane.held.items; ready = lane.ready } };
 
-    ghost invariant = { λ lane. HasRoom lane.waiting lane.held lane.ready };
+    ghost invariant = { λ lane. HasRoom lane.waiting lane.late lane.held lane.ready };
 }
 
 // Releases one mail if it is due, and else counts down for it.
@@ -72,7 +76,37 @@ fn release_due(waiting: &mut VecDeque<Mail>, held: &mut VecDeque<Held>)
     }
 }
 
-// Releases all that is held back, and an `End` behind it.
+// Keeps the first of what is held back with what is held to the end, as long as it is.
+fn set_aside(late: &mut VecDeque<Mail>, held: &mut VecDeque<Held>)
+    requires { deque_len late.old + deque_len held.old ≤ deque_capacity late.old }
+    ensures held { to_the_end late.new.items ++ held.new.items ≡ to_the_end late.old.items ++ held.old.items }
+    ensures room { deque_len late.new + deque_len held.new ≤ deque_capacity late.new }
+    ensures late_room { deque_capacity late.new ≡ deque_capacity late.old }
+    ensures held_room { deque_capacity held.new ≡ deque_capacity held.old }
+{
+    while let Some(one) = held.pop_front() {
+        if one.left != 0 {
+            held.push_front_reserved(one);
+            return;
+        }
+        late.push_back_reserved(one.mail);
+    }
+}
+
+// Releases what is held to the end.
+fn release_late(waiting: &mut VecDeque<Mail>, late: &mut VecDeque<Mail>)
+    requires { deque_len waiting.old + deque_len late.old ≤ deque_capacity waiting.old }
+    ensures waiting { waiting.new.items ≡ waiting.old.items ++ late.old.items }
+    ensures late { late.new.items ≡ [] }
+    ensures len { deque_len waiting.new ≡ deque_len waiting.old + deque_len late.old }
+    ensures waiting_room { deque_capacity waiting.new ≡ deque_capacity waiting.old }
+{
+    while let Some(mail) = late.pop_front() {
+        waiting.push_back_reserved(mail);
+    }
+}
+
+// Releases what is held back behind it, and an `End` at last.
 fn release_all(waiting: &mut VecDeque<Mail>, held: &mut VecDeque<Held>)
     requires { deque_len waiting.old + deque_len held.old + 1 ≤ deque_capacity waiting.old }
     ensures waiting { waiting.new.items ≡ waiting.old.items ++ (mails held.old.items ++ End ∷ []) }
@@ -114,6 +148,7 @@ impl Lane {
         Ok(Lane {
             pass,
             waiting: VecDeque::with_capacity(alloc, 1)?,
+            late: VecDeque::new(alloc),
             held: VecDeque::new(alloc),
             ready: None,
         })
@@ -125,6 +160,7 @@ impl Lane {
         ensures err { OnErr result (self.new ≡ self.old) }
     {
         self.waiting.reserve(self.held.len() + 2)?;
+        self.late.reserve(self.held.len() + 1)?;
         self.held.reserve(1)?;
         self.ready = Some(Fate::of(alloc, mail, number)?);
         Ok(())
@@ -135,7 +171,7 @@ impl Lane {
         ensures ok { IfOk result (λ _. self.new ≡ record self.old { ready = Some Last }) }
         ensures err { OnErr result (self.new ≡ self.old) }
     {
-        self.waiting.reserve(self.held.len() + 1)?;
+        self.waiting.reserve(self.late.len() + self.held.len() + 1)?;
         self.ready = Some(Fate::Last);
         Ok(())
     }
@@ -151,15 +187,21 @@ impl Lane {
     pub(crate) fn settle(&mut self)
         ensures { self.new ≡ settled self.old }
     {
-        match self.ready.take() {
-            None => {}
-            Some(Fate::Last) => release_all(&mut self.waiting, &mut self.held),
-            Some(fate) => {
+        let Some(fate) = self.ready.take() else {
+            return;
+        };
+        match fate {
+            Fate::Last => {
+                release_late(&mut self.waiting, &mut self.late);
+                release_all(&mut self.waiting, &mut self.held);
+            }
+            _ => {
                 let later = release_now(&mut self.waiting, fate);
                 release_due(&mut self.waiting, &mut self.held);
                 if let Some(one) = later {
                     self.held.push_back_reserved(one);
                 }
+                set_aside(&mut self.late, &mut self.held);
             }
         }
     }
@@ -169,6 +211,7 @@ impl Lane {
         ensures { self.new ≡ record { pass = self.old.pass; waiting = End ∷ []; held = []; ready = None } }
     {
         self.ready = None;
+        self.late.clear();
         self.held.clear();
         self.waiting.clear();
         release_all(&mut self.waiting, &mut self.held);
@@ -196,6 +239,7 @@ impl Lane {
         let Lane {
             pass,
             waiting: _,
+            late: _,
             held: _,
             ready: _,
         } = self;

@@ -1,5 +1,5 @@
-use Rattle.std.proofs.Common.{ap, subst}
-use Rattle.gr_post.specs.Lanes.{Way, Moves}
+use Rattle.std.proofs.Common.{◌++◌, subst}
+use Rattle.gr_post.specs.Lanes.{Way, Moves, to_the_end}
 use Rattle.gr_post.proofs.Moving.{full_moves}
 use Rattle.gr_post.proofs.lane.Lane.send.Goals as goal
 
@@ -9,9 +9,15 @@ returns-in-Err-clause-moves g c =
     let l = c.loop-mail.self-inside in
     let s = c.self.inside in
     let now : Way =
-    record { pass = c.send.new.pass; waiting = c.push_front_reserved.new.self.items; held = l.held.items; ready = l.ready } in
+    record {
+      pass = c.send.new.pass;
+      waiting = c.push_front_reserved.new.self.items;
+      held = to_the_end l.late.items ++ l.held.items;
+      ready = l.ready;
+    } in
     subst (λ (o : Way). Moves o now) c.self.view_is
     (full_moves s.pass l.pass c.send.new.pass s.waiting.items l.waiting.items c.pop_front.new.self.items
     c.push_front_reserved.new.self.items
-    s.held.items l.held.items s.ready l.ready i.0 c.in-Some.mail c.in-Err.full.mail i.1 i.2 (ap (λ q. q.items) i.3) c.in-Some.ensures.items
+    (to_the_end s.late.items ++ s.held.items) (to_the_end l.late.items ++ l.held.items) s.ready l.ready i.0 c.in-Some.mail
+    c.in-Err.full.mail i.1 i.2 (λ j. to_the_end (i.3 j).items ++ (i.4 j).items) c.in-Some.ensures.items
     c.in-Err.ensures.back c.in-Err.ensures.refused.0 c.send.ensures.never_falls c.push_front_reserved.ensures.items)

@@ -7,9 +7,10 @@ use Rattle.gr_post.proofs.lane.Lane.send.Given as goal
 abbrev pub invariant-loop-mail : goal.invariant-loop-mail
 invariant-loop-mail g l = (gone : List Mail) × (l.initial.self-inside.waiting.items ≡ gone ++ l.self-inside.waiting.items)
     × (l.self-inside.pass ≡ record l.initial.self-inside.pass { sent = l.initial.self-inside.pass.sent ++ gone })
+    × (l.self-inside.late ≡ l.initial.self-inside.late)
     × (l.self-inside.held ≡ l.initial.self-inside.held)
     × (l.self-inside.ready ≡ l.initial.self-inside.ready)
-    × HasRoom l.self-inside.waiting l.self-inside.held l.self-inside.ready
+    × HasRoom l.self-inside.waiting l.self-inside.late l.self-inside.held l.self-inside.ready
 
 abbrev pub decreases-loop-mail : goal.decreases-loop-mail
 decreases-loop-mail g l = deque_len l.self-inside.waiting

@@ -1,0 +1,14 @@
+use Rattle.std.proofs.Common.{◌≡◌, ◌++◌, ◌+◌, ◌≤◌}
+use Rattle.std.specs.VecDeque.{deque_len, deque_capacity}
+use Rattle.gr_post.specs.Lanes.{to_the_end}
+use Rattle.gr_post.proofs.lane.set_aside.Given as goal
+
+abbrev pub invariant-loop-one : goal.invariant-loop-one
+invariant-loop-one l =
+    (to_the_end l.late.items ++ l.held.items ≡ to_the_end l.initial.late.items ++ l.initial.held.items)
+    × (deque_len l.late + deque_len l.held ≤ deque_capacity l.late)
+    × (deque_capacity l.late ≡ deque_capacity l.initial.late)
+    × (deque_capacity l.held ≡ deque_capacity l.initial.held)
+
+abbrev pub decreases-loop-one : goal.decreases-loop-one
+decreases-loop-one l = deque_len l.held
