@@ -4,5 +4,5 @@
 use gr_main::{Ended, run};
 
 fn main(rt: HostRuntime) -> Ended {
-    run(&rt)
+    run(&rt, &rt)
 }

@@ -10,16 +10,20 @@ mod running;
 use gr_io::{StdSink, StdSource};
 use gr_top::StdArguments;
 pub use running::{Ended, answer};
+use std::sync::Wait;
+use std::thread::Threads;
 
-/// Runs the program over the process's own words, input, output and error output.
-pub fn run(rt: &HostRuntime) -> Ended
+/// Runs the program over the process's own words, input, output and error output. `threads` starts its
+/// threads, and is the process itself once more: only `main` may hand that out.
+pub fn run<R: Threads + Wait + Sync>(process: &HostRuntime, threads: &R) -> Ended
     ensures { (cause : TheCause) × (result.status ≡ status_of cause) }
 {
     answer(
-        rt.alloc(),
-        &StdArguments::new(rt),
-        &mut StdSource::new(rt.stdin()),
-        &mut StdSink::new(rt.stdout()),
-        &mut StdSink::new(rt.stderr()),
+        threads,
+        process.alloc(),
+        &StdArguments::new(process),
+        &mut StdSource::new(process.stdin()),
+        &mut StdSink::new(process.stdout()),
+        &mut StdSink::new(process.stderr()),
     )
 }

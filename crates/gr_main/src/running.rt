@@ -1,6 +1,6 @@
 ghost use Rattle.std.specs.Prelude.{◌≡◌};
 ghost use Rattle.std.specs.Process.{exit_status};
-ghost use Rattle.gr_top.specs.Outcomes.{IsRun};
+ghost use Rattle.gr_top.specs.Outcomes.{EndsSo};
 ghost use Rattle.gr_io.specs.Streams.{stream};
 
 use gr_io::{Sink, Source};
@@ -9,6 +9,8 @@ use gr_value::Memory;
 use std::alloc::Global;
 use std::io::Eprint;
 use std::process::{ExitCode, Termination};
+use std::sync::Wait;
+use std::thread::Threads;
 
 /// That the program ended, and its status. Only `answer` makes one, and it can't be let go: a `main` that
 /// returns one has run the program and ends with its status.
@@ -26,21 +28,22 @@ impl Termination for Ended {
 }
 
 /// Runs the program over these arguments and streams, whatever they are.
-pub fn answer<A: Arguments, S: Source, K: Sink, E: Sink>(
+pub fn answer<R: Threads + Wait + Sync, A: Arguments, S: Source, K: Sink, E: Sink>(
+    rt: &R,
     alloc: Global,
     arguments: &A,
     source: &mut S,
     sink: &mut K,
     errors: &mut E,
 ) -> Ended
-    ensures { IsRun (A.list arguments.now)
+    ensures { EndsSo (A.list arguments.now)
         (stream (S.left source.old) (S.left source.new) (S.faults source.old) (S.faults source.new))
         (stream (K.held sink.old) (K.held sink.new) (K.faults sink.old) (K.faults sink.new))
         (stream (E.held errors.old) (E.held errors.new) (E.faults errors.old) (E.faults errors.new))
         result.status }
 {
     let status = match given_words(alloc, arguments) {
-        Ok(words) => program(alloc, words.as_slice(), source, sink, errors),
+        Ok(words) => program(rt, alloc, words.as_slice(), source, sink, errors),
         Err(Memory) => conclude(errors, &Cause::Memory),
     };
     Ended { status }

@@ -5,7 +5,9 @@ use std::alloc::Global;
 use std::env::{Env, FillError};
 use std::io::Eprint;
 use std::process::{ExitCode, Termination};
+use std::sync::Wait;
 use std::test::Fail;
+use std::thread::Threads;
 
 /// A process with these arguments.
 #[derive(Drop)]
@@ -73,12 +75,17 @@ fn sink_in_memory(alloc: Global) -> Result<MemorySink, Fail> {
 }
 
 // Runs the program over these arguments and the script.
-fn run_in_memory<R: Eprint>(rt: &R, alloc: Global, arguments: &[&[u8]]) -> Result<Left, Fail> {
+fn run_in_memory<R: Eprint + Threads + Wait + Sync>(
+    rt: &R,
+    alloc: Global,
+    arguments: &[&[u8]],
+) -> Result<Left, Fail> {
     let given = Given { arguments };
     let mut source = MemorySource::new(SCRIPT.as_bytes().to_vec(alloc)?, 3, Vec::new(alloc));
     let mut output = sink_in_memory(alloc)?;
     let mut message = sink_in_memory(alloc)?;
     let ended = answer(
+        rt,
         alloc,
         &StdArguments::new(&given),
         &mut source,

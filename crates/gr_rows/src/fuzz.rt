@@ -2,7 +2,7 @@ use crate::edits::{Numbers, edited};
 use crate::ending::{Ending, end_of, is_within};
 use crate::files::row_of;
 use crate::row::Row;
-use crate::running::{Left, no_memory, run};
+use crate::running::{Left, no_memory, run_alone};
 use crate::scripts::bad_case;
 use gr_picture::{Halt, drawn};
 use std::alloc::Global;
@@ -20,7 +20,7 @@ fn is_same(one: &Left, other: &Left) -> bool {
 }
 
 fn left_of(alloc: Global, words: &[&str], script: &[u8]) -> io::Result<Left> {
-    run(alloc, Row::given(alloc, words, script)?)
+    run_alone(alloc, Row::given(alloc, words, script)?)
 }
 
 // Whether a report is drawn, or refused with a line of it named.

@@ -19,17 +19,16 @@ mod sweeps;
 mod values;
 
 use causes::are_causes_so;
-use files::{row_names, row_of};
+use files::row_names;
 use queries::{Table, compare};
-use running::{compare_row, too_large};
+use running::{compare_each, compare_row, too_large};
 use std::io;
 use summaries::compare_summaries;
 use sweeps::{fail_calls, play_prefixes};
 
 fn main(rt: HostRuntime) -> io::Result<()> {
     for name in row_names(&rt)? {
-        let row = row_of(&rt, name.as_str())?;
-        compare_row(&rt, name.as_str(), row)?;
+        compare_each(&rt, name.as_str())?;
     }
     compare_row(&rt, "too-large", too_large(rt.alloc())?)?;
     let causes = if are_causes_so(rt.alloc())? {

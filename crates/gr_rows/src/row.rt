@@ -47,6 +47,8 @@ pub struct Row {
     pub status: String,
     pub message: String,
     pub report: String,
+    /// How often it is run.
+    pub times: usize,
 }
 
 // Puts bytes last that are written as numbers of two hexadecimal digits.
@@ -77,6 +79,7 @@ impl Row {
             status: String::new(alloc),
             message: String::new(alloc),
             report: String::new(alloc),
+            times: 1,
         }
     }
 
@@ -114,6 +117,7 @@ impl Row {
             ">>" => self.report.push_str(text)?,
             "!" => put_line(&mut self.message, text)?,
             "status" => self.status.push_str(text)?,
+            "times" => self.times = text.parse::<usize>().unwrap_or(1),
             "source" => self.source = Moves::read(alloc, text)?,
             "sink" => self.sink = Moves::read(alloc, text)?,
             "" | "#" => {}

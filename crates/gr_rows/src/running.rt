@@ -1,9 +1,13 @@
+use crate::files::row_of;
 use crate::row::Row;
 use gr_io::{MemorySink, MemorySource};
-use gr_top::program;
+use gr_top::{conclude, program, replay_words};
 use std::alloc::Global;
 use std::io::{self, Print};
+use std::rt::Files;
 use std::str;
+use std::sync::Wait;
+use std::thread::Threads;
 
 /// The most bytes that a sink here has room for.
 const ROOM: usize = 0x10_0000;
@@ -30,24 +34,56 @@ pub struct Left {
     pub output: MemorySink,
 }
 
+// What a run of the program is given.
+#[derive(Drop)]
+struct Given {
+    words: Vec<String>,
+    source: MemorySource,
+    output: MemorySink,
+    message: MemorySink,
+}
+
+impl Given {
+    fn new(alloc: Global, row: Row) -> io::Result<Given> {
+        Ok(Given {
+            words: row.words,
+            source: MemorySource::new(row.script, row.source.piece.max(1), row.source.fails),
+            output: sink_in_memory(alloc, row.sink.piece, row.sink.fails)?,
+            message: sink_in_memory(alloc, MESSAGE_PIECE, Vec::new(alloc))?,
+        })
+    }
+
+    fn left(self, alloc: Global, status: u8) -> io::Result<Left> {
+        let status = format!(in alloc; "{status}")?;
+        Ok(Left {
+            status,
+            message: self.message,
+            output: self.output,
+        })
+    }
+}
+
 /// Runs the program over the row's words, source and sink.
-pub fn run(alloc: Global, row: Row) -> io::Result<Left> {
-    let mut source = MemorySource::new(row.script, row.source.piece.max(1), row.source.fails);
-    let mut output = sink_in_memory(alloc, row.sink.piece, row.sink.fails)?;
-    let mut message = sink_in_memory(alloc, MESSAGE_PIECE, Vec::new(alloc))?;
+pub fn run<R: Threads + Wait + Sync>(rt: &R, alloc: Global, row: Row) -> io::Result<Left> {
+    let mut given = Given::new(alloc, row)?;
     let status = program(
+        rt,
         alloc,
-        row.words.as_slice(),
-        &mut source,
-        &mut output,
-        &mut message,
+        given.words.as_slice(),
+        &mut given.source,
+        &mut given.output,
+        &mut given.message,
     );
-    let status = format!(in alloc; "{status}")?;
-    Ok(Left {
-        status,
-        message,
-        output,
-    })
+    given.left(alloc, status)
+}
+
+/// The same of a mode that needs no threads.
+pub fn run_alone(alloc: Global, row: Row) -> io::Result<Left> {
+    let mut given = Given::new(alloc, row)?;
+    let words = given.words.as_slice();
+    let outcome = replay_words(alloc, words, &mut given.source, &mut given.output);
+    let status = conclude(&mut given.message, &outcome.cause);
+    given.left(alloc, status)
 }
 
 /// The first line at which two texts differ: its number, and what each has there.
@@ -81,11 +117,15 @@ fn first_difference<'a>(wanted: &'a str, given: &'a str) -> Option<Difference<'a
 }
 
 /// Runs a row, and prints that all is as wanted, or the first line that differs.
-pub fn compare_row<R: Print + AllocGlobal>(rt: &R, name: &str, row: Row) -> io::Result<()> {
+pub fn compare_row<R: Print + AllocGlobal + Threads + Wait + Sync>(
+    rt: &R,
+    name: &str,
+    row: Row,
+) -> io::Result<()> {
     let status = row.status.clone()?;
     let message = row.message.clone()?;
     let report = row.report.clone()?;
-    let left = run(rt.alloc(), row)?;
+    let left = run(rt, rt.alloc(), row)?;
     let parts = [
         ("status", status.as_str(), left.status.as_bytes()),
         ("message", message.as_str(), left.message.held()),
@@ -104,6 +144,18 @@ pub fn compare_row<R: Print + AllocGlobal>(rt: &R, name: &str, row: Row) -> io::
         }
     }
     println!(rt; "{name}: same")
+}
+
+/// Runs a row as often as it says.
+pub fn compare_each<R: Files + Print + AllocGlobal + Threads + Wait + Sync>(
+    rt: &R,
+    name: &str,
+) -> io::Result<()> {
+    let times = row_of(rt, name)?.times;
+    for _ in 0..times {
+        compare_row(rt, name, row_of(rt, name)?)?;
+    }
+    Ok(())
 }
 
 /// The row of a script with one byte more than a script may have.

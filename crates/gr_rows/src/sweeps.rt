@@ -1,7 +1,7 @@
 use crate::ending::{Ending, end_of};
 use crate::files::row_of;
 use crate::row::{Moves, Row};
-use crate::running::{Left, run};
+use crate::running::{Left, run_alone};
 use std::alloc::Global;
 use std::io::{self, Print};
 use std::rt::Files;
@@ -38,7 +38,7 @@ impl Stream {
             Stream::Source => failing.source = moves,
             Stream::Sink => failing.sink = moves,
         }
-        run(alloc, failing)
+        run_alone(alloc, failing)
     }
 
     // The status and the message of a run in which a call failed.
@@ -107,7 +107,7 @@ pub fn fail_calls<R: Files + Print + AllocGlobal>(rt: &R) -> io::Result<()> {
 
 // What a replay of the first bytes of a script comes to.
 fn prefix_ending(alloc: Global, script: &[u8]) -> io::Result<Option<Ending>> {
-    let left = run(alloc, Row::given(alloc, &["replay"], script)?)?;
+    let left = run_alone(alloc, Row::given(alloc, &["replay"], script)?)?;
     Ok(end_of(&left, script))
 }
 

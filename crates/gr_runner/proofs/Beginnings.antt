@@ -71,6 +71,10 @@ lawful_end h lines houses rings desks dealt (Some told) left ready gone is ended
     subst (λ (clients : List ClientRecord). IsLeftByThreads h lines (record { members = left.members; clients = clients })) same
     (run_lawful h lines ready.script houses rings desks g.news g.gone left.members ended)
 
+pub ok_then : {X E : Type 0} (P Q : X → Type 0) → ((x : X) → P x → Q x) → (r : Result X E) → IfOk r P → IfOk r Q
+ok_then P Q next (Ok x) p = next x p
+ok_then P Q next (Err e) p = p
+
 pub ok_both : {X E : Type 0} (P Q R : X → Type 0) → ((x : X) → P x → Q x → R x) → (r : Result X E) → IfOk r P → IfOk r Q → IfOk r R
 ok_both P Q R both (Ok x) p q = both x p q
 ok_both P Q R both (Err e) p q = p

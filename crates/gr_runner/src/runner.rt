@@ -3,7 +3,7 @@ ghost use Rattle.std.specs.Prelude.{◌≡◌, ◌≤◌, ◌+◌, length, vec_l
 ghost use Rattle.std.specs.List.{AllByRecursion};
 ghost use Rattle.std.specs.Vec.{vec_capacity};
 ghost use Rattle.gr_script.specs.Scripts.{heading_of};
-ghost use Rattle.gr_run_law.specs.Runs.{IsLawfulRun};
+ghost use Rattle.gr_run_law.specs.Records.{IsRecordOfRun};
 ghost use Rattle.gr_run_law.specs.Threads.{IsLeftByThreads};
 ghost use Rattle.gr_member.specs.Passes.{HaveAll};
 ghost use Rattle.gr_host.specs.Houses.{ArePassesOf};
@@ -31,7 +31,8 @@ use std::sync::atomic::AtomicBool;
 use std::thread::Threads;
 
 /// Runs a script, with a thread for each client and one for each member. The gate is told of each step of a
-/// client. A run that is refused memory ends all the same, with no record.
+/// client. A run that is refused memory ends all the same, with no record. Where a thread can't be started, its
+/// work is done after another's, and the run may then not return.
 pub fn run<R: Threads + Wait + Sync, G: Gate>(
     rt: &R,
     alloc: Global,
@@ -39,7 +40,7 @@ pub fn run<R: Threads + Wait + Sync, G: Gate>(
     gate: &G,
 ) -> Result<Record, Memory>
     ensures left { IfOk result (IsLeftByThreads (heading_of script.now) script.now.lines) }
-    ensures lawful { IfOk result (IsLawfulRun (heading_of script.now) script.now.lines) }
+    ensures lawful { IfOk result (IsRecordOfRun (heading_of script.now) script.now.lines) }
 {
     let SetUp {
         inboxes,

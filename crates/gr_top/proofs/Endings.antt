@@ -1,15 +1,17 @@
 -- How a call ends where the words are understood.
-use Rattle.std.proofs.Common.{◌≡◌, ℕ, List, ◌++◌, append_assoc, codes, decimal, refl, Option, None}
+use Rattle.std.proofs.Common.{◌≡◌, ℕ, List, [], ◌++◌, append_assoc, arith, codes, decimal, refl, subst, sym, Option, Some, None}
 use Rattle.gr_script.specs.declared.ending.ScriptFault.{ScriptFault}
 use Rattle.gr_script.specs.Reasons.{name_of, number_of}
 use Rattle.gr_top.specs.CauseTexts.{text_of_cause}
 use Rattle.gr_top.specs.declared.cause.Cause.{Cause}
 use Rattle.gr_top.specs.declared.cause.Cause.TheVariants.{Finished, Usage, ReadFault, TooLarge, Script, WriteFault, Memory}
 use Rattle.gr_history.specs.declared.record.Record.{Record}
-use Rattle.gr_top.specs.declared.words.Mode.{Mode}
 use Rattle.gr_top.specs.declared.words.Mode.TheVariants.{Check, Replay}
-use Rattle.gr_top.specs.Outcomes.{Keeps, Prints, IsWritten, Explains, IsWhole, IsWithin}
-use Rattle.gr_io.specs.Streams.{Stream}
+use Rattle.gr_top.specs.declared.words.Request.{Request}
+use Rattle.gr_top.specs.declared.words.Request.TheVariants.{Alone, Run, Drill}
+use Rattle.gr_top.specs.Outcomes.{Reads, Keeps, Prints, IsWritten, Explains, IsWhole, IsWithin, most_bytes}
+use Rattle.gr_io.specs.Ends.{TakesAtMost}
+use Rattle.gr_io.specs.Streams.{Stream, IsUntouched}
 
 -- seven texts, joined from either end
 in_turn : (a b c d e f g : List ℕ) → a ++ b ++ c ++ d ++ e ++ f ++ g ≡ a ++ (b ++ (c ++ (d ++ (e ++ (f ++ g)))))
@@ -24,21 +26,33 @@ script_line cause fault line number name is at of called =
     (in_turn (codes "georep: line ") (decimal fault.line) (codes ": ") (decimal (number_of fault.reason)) (codes " ")
     (name_of fault.reason) (codes "\n"))
 
--- Where no record is kept, that is right in each mode.
-pub keeps_none : (mode : Mode) (source : Stream) → Keeps mode source None
-keeps_none Check source = refl
-keeps_none (Replay histories) source = tt
+-- Where no record is kept, that is right wherever a script is read.
+pub keeps_none : (request : Request) (source : Stream) → Reads request → Keeps request source None
+keeps_none (Alone Check) source reads = refl
+keeps_none (Alone (Replay histories)) source reads = tt
+keeps_none (Run histories) source reads = tt
+keeps_none (Drill start steps) source reads = absurd reads
 
 -- A text that was written, or a part of it, explains how writing ended.
-pub written_explains : (mode : Mode) (source sink : Stream) (kept : Option Record) (text : List ℕ) (cause : Cause)
-    → Prints mode source kept text → IsWritten sink text cause → Explains mode source sink kept cause
-written_explains mode source sink kept text Finished prints written = (text, prints, written)
-written_explains mode source sink kept text WriteFault prints written = (text, prints, written.0, written.1)
-written_explains mode source sink kept text (Usage place) prints written = absurd written
-written_explains mode source sink kept text ReadFault prints written = absurd written
-written_explains mode source sink kept text (TooLarge bytes lines) prints written = absurd written
-written_explains mode source sink kept text (Script fault) prints written = absurd written
-written_explains mode source sink kept text Memory prints written = absurd written
+pub written_explains : (request : Request) (source sink : Stream) (kept : Option Record) (text : List ℕ) (cause : Cause)
+    → Prints request source kept text → IsWritten sink text cause → Explains request source sink kept cause
+written_explains request source sink kept text Finished prints written = (text, prints, written)
+written_explains request source sink kept text WriteFault prints written = (text, prints, written.0, written.1)
+written_explains request source sink kept text (Usage place) prints written = absurd written
+written_explains request source sink kept text ReadFault prints written = absurd written
+written_explains request source sink kept text (TooLarge bytes lines) prints written = absurd written
+written_explains request source sink kept text (Script fault) prints written = absurd written
+written_explains request source sink kept text Memory prints written = absurd written
+
+takes_none : (bytes : Option (List ℕ)) → TakesAtMost most_bytes bytes bytes
+takes_none None = ([], tt, omega arith)
+takes_none (Some bytes) = ([], refl, omega arith)
+
+-- Of a source that wasn't read no more was taken than a script may have.
+pub within_untouched : (source : Stream) → IsUntouched source → IsWithin source
+within_untouched source untouched =
+    subst (λ (after : Option (List ℕ)). TakesAtMost most_bytes source.bytes_before after) (sym untouched.bytes)
+    (takes_none source.bytes_before)
 
 pub within : (source : Stream) (text : List ℕ) → IsWhole source text → IsWithin source
 within source text whole = (text, whole.taken, whole.fits)

@@ -1,17 +1,24 @@
 -- The words that the program is given.
-use Rattle.std.specs.Prelude.{ℕ, List, [], ◌∷◌, true, false, codes, bytes_eq, if◌then◌else◌, Result, Ok, Err}
+use Rattle.std.specs.Prelude.{ℕ, List, [], ◌∷◌, true, false, codes, bytes_eq, nat_le, ◌&&◌, if◌then◌else◌}
+use Rattle.std.specs.Prelude.{Option, Some, None, Result, Ok, Err}
+use Rattle.gr_script.specs.Numerals.{number_of}
+use Rattle.gr_script.specs.Rules.{IsWithin}
 use Rattle.gr_top.specs.declared.words.Mode.{Mode}
 use Rattle.gr_top.specs.declared.words.Mode.TheVariants.{Check, Replay}
+use Rattle.gr_top.specs.declared.words.Request.{Request}
+use Rattle.gr_top.specs.declared.words.Request.TheVariants.{Alone, Run, Drill}
 
--- The mode, where no word is left. A word too many is told with its place, counted from 0.
-abbrev pub alone : ℕ → Mode → List (List ℕ) → Result Mode ℕ
-alone place mode [] = Ok mode
-alone place mode (word ∷ words) = Err place
+-- What is asked for, where no word is left. A word too many is told with its place, counted from 0.
+abbrev pub alone : {X : Type 0} → ℕ → X → List (List ℕ) → Result X ℕ
+alone place asked [] = Ok asked
+alone place asked (word ∷ words) = Err place
 
--- the words behind `replay`
-abbrev pub behind_replay : List (List ℕ) → Result Mode ℕ
-behind_replay [] = Ok (Replay false)
-behind_replay (word ∷ words) = if bytes_eq word (codes "--history") then alone 2 (Replay true) words else Err 1
+-- The words behind a mode that prints a report: none, or that the histories are told too.
+abbrev pub behind_report : {X : Type 0} → X → X → List (List ℕ) → Result X ℕ
+behind_report plain told [] = Ok plain
+behind_report plain told (word ∷ words) = if bytes_eq word (codes "--history") then alone 2 told words else Err 1
+
+-- ---- without threads
 
 -- the words behind `--history`
 abbrev pub behind_history : List (List ℕ) → Result Mode ℕ
@@ -24,6 +31,56 @@ abbrev pub mode_of : List (List ℕ) → Result Mode ℕ
 mode_of [] = Err 0
 mode_of (word ∷ words) =
     if bytes_eq word (codes "check") then alone 1 Check words
-    else (if bytes_eq word (codes "replay") then behind_replay words
+    else (if bytes_eq word (codes "replay") then behind_report (Replay false) (Replay true) words
     else (if bytes_eq word (codes "--history") then behind_history words
     else Err 0))
+
+abbrev pub asked_alone : Result Mode ℕ → Result Request ℕ
+asked_alone (Ok mode) = Ok (Alone mode)
+asked_alone (Err place) = Err place
+
+-- ---- with threads
+
+-- the number from 1 to the most that a word spells
+abbrev pub up_to : ℕ → Option ℕ → Option ℕ
+up_to most (Some number) = if nat_le 1 number && nat_le number most then Some number else None
+up_to most None = None
+
+abbrev pub number_in : ℕ → List ℕ → Option ℕ
+number_in most word = up_to most (number_of word)
+
+-- The words behind `drill`: the number that its script is drawn from, and how many steps that has.
+abbrev pub with_steps : ℕ → Option ℕ → List (List ℕ) → Result Request ℕ
+with_steps start None words = Err 2
+with_steps start (Some steps) words = alone 3 (Drill start steps) words
+
+abbrev pub behind_start : Option ℕ → List (List ℕ) → Result Request ℕ
+behind_start None words = Err 1
+behind_start (Some start) [] = Err 2
+behind_start (Some start) (word ∷ words) = with_steps start (number_in 50000 word) words
+
+abbrev pub behind_drill : List (List ℕ) → Result Request ℕ
+behind_drill [] = Err 1
+behind_drill (word ∷ words) = behind_start (number_in 2147483646 word) words
+
+-- the words behind `--history`
+abbrev pub told_behind : List (List ℕ) → Result Request ℕ
+told_behind [] = Err 1
+told_behind (word ∷ words) =
+    if bytes_eq word (codes "run") then alone 2 (Run true) words else asked_alone (behind_history (word ∷ words))
+
+-- The words are those of a mode without threads, or `run` with or without `--history` before or behind it, or `drill`
+-- with two numbers. Else the place is as there.
+abbrev pub request_of : List (List ℕ) → Result Request ℕ
+request_of [] = Err 0
+request_of (word ∷ words) =
+    if bytes_eq word (codes "run") then behind_report (Run false) (Run true) words
+    else (if bytes_eq word (codes "drill") then behind_drill words
+    else (if bytes_eq word (codes "--history") then told_behind words
+    else asked_alone (mode_of (word ∷ words))))
+
+-- The numbers of a drill are within their limits.
+abbrev pub IsFit : Request → Type 0
+IsFit (Alone mode) = Unit {0}
+IsFit (Run histories) = Unit {0}
+IsFit (Drill start steps) = IsWithin 1 2147483646 start × IsWithin 1 50000 steps

@@ -1,37 +1,29 @@
-ghost use Rattle.std.specs.Prelude.{◌≡◌, map, string_bytes, Some, None, MatchResult, Bool};
+ghost use Rattle.std.specs.Prelude.{◌≡◌, map, string_bytes, None, MatchResult, Bool};
 ghost use Rattle.gr_top.specs.Causes.{status_of};
-ghost use Rattle.gr_top.specs.Outcomes.{Answers, Explains, IsPrinted, IsReplayOf, IsWritten, Prints, Stops};
-ghost use Rattle.gr_top.specs.Words.{mode_of};
+ghost use Rattle.gr_top.specs.Outcomes.{Answers, Explains, IsReplayOf, Stops};
+ghost use Rattle.gr_top.specs.Words.{asked_alone, mode_of};
 ghost use Rattle.gr_top.specs.declared.words.Mode.TheVariants as mode;
-ghost use Rattle.gr_io.specs.Streams.{stream, Stream};
+ghost use Rattle.gr_top.specs.declared.words.Request.TheVariants as request;
+ghost use Rattle.gr_io.specs.Streams.{stream};
 
 use crate::giving::{cause_of, script_from, text_from};
+use crate::handing::{ended, hand_out, hand_out_report};
 use crate::words::{Mode, mode_of};
 use crate::{Cause, Outcome};
 use gr_history::Record;
-use gr_io::{Sink, Source, write_all};
-use gr_report::report_in;
-use gr_script::print;
+use gr_io::{Sink, Source};
+use gr_script::{Form, print};
 use gr_value::Memory;
 use gr_world::play_text;
 use std::alloc::Global;
 
-fn hand_out<K: Sink>(sink: &mut K, text: &[u8]) -> Cause
-    ensures { IsWritten (stream (K.held sink.old) (K.held sink.new) (K.faults sink.old) (K.faults sink.new)) text.now result }
-{
-    match write_all(sink, text) {
-        Ok(()) => Cause::Finished,
-        Err(_) => Cause::WriteFault,
-    }
-}
-
 // Prints the script that the source has.
 fn check<S: Source, K: Sink>(alloc: Global, source: &mut S, sink: &mut K) -> Cause
-    ensures { Explains mode.Check
+    ensures { Explains (request.Alone mode.Check)
         (stream (S.left source.old) (S.left source.new) (S.faults source.old) (S.faults source.new))
         (stream (K.held sink.old) (K.held sink.new) (K.faults sink.old) (K.faults sink.new)) None result }
 {
-    let script = match script_from(alloc, source) {
+    let script = match script_from(alloc, source, Form::Replay) {
         Ok(script) => script,
         Err(cause) => return cause,
     };
@@ -52,7 +44,7 @@ struct Replayed {
 fn record_from<S: Source>(alloc: Global, source: &mut S) -> Result<Replayed, Cause>
     ensures { (histories : Bool)
         → MatchResult result (λ replayed. IsReplayOf (stream (S.left source.old) (S.left source.new) (S.faults source.old) (S.faults source.new)) replayed.record_of)
-        (Stops (mode.Replay histories) (stream (S.left source.old) (S.left source.new) (S.faults source.old) (S.faults source.new))) }
+        (Stops (request.Alone (mode.Replay histories)) (stream (S.left source.old) (S.left source.new) (S.faults source.old) (S.faults source.new))) }
 {
     let text = text_from(alloc, source)?;
     let bytes = text.as_slice();
@@ -65,43 +57,15 @@ fn record_from<S: Source>(alloc: Global, source: &mut S) -> Result<Replayed, Cau
     }
 }
 
-// Prints the report into the room, and hands it out.
-fn hand_out_report<K: Sink>(
-    alloc: Global,
-    room: Vec<u8>,
-    histories: bool,
-    record_of: &Record,
-    sink: &mut K,
-) -> Cause
-    ensures { (source : Stream) → IsReplayOf source record_of.now
-        → Explains (mode.Replay histories) source
-        (stream (K.held sink.old) (K.held sink.new) (K.faults sink.old) (K.faults sink.new)) (Some record_of.now) result }
-{
-    match report_in(alloc, room, record_of, histories) {
-        Ok(text) => hand_out(sink, text.as_slice()),
-        Err(Memory) => Cause::Memory,
-    }
-}
-
-fn ended(cause: Cause, kept: Option<Record>) -> Outcome
-    ensures { result ≡ record { status = status_of cause; cause = cause; kept = kept } }
-{
-    Outcome {
-        status: cause.status(),
-        cause,
-        kept,
-    }
-}
-
 // Replays the script that the source has, and prints the report.
-fn report_of<S: Source, K: Sink>(
+fn replay_answer<S: Source, K: Sink>(
     alloc: Global,
     histories: bool,
     source: &mut S,
     sink: &mut K,
 ) -> Outcome
     ensures status { result.status ≡ status_of result.cause }
-    ensures explained { Explains (mode.Replay histories)
+    ensures explained { Explains (request.Alone (mode.Replay histories))
         (stream (S.left source.old) (S.left source.new) (S.faults source.old) (S.faults source.new))
         (stream (K.held sink.old) (K.held sink.new) (K.faults sink.old) (K.faults sink.new)) result.kept result.cause }
 {
@@ -114,7 +78,26 @@ fn report_of<S: Source, K: Sink>(
     }
 }
 
-/// Answers the words with the script that the source has, and writes to the sink.
+/// Answers a mode that needs no threads.
+pub(crate) fn answer_alone<S: Source, K: Sink>(
+    alloc: Global,
+    mode: Mode,
+    source: &mut S,
+    sink: &mut K,
+) -> Outcome
+    ensures status { result.status ≡ status_of result.cause }
+    ensures explained { Explains (request.Alone mode)
+        (stream (S.left source.old) (S.left source.new) (S.faults source.old) (S.faults source.new))
+        (stream (K.held sink.old) (K.held sink.new) (K.faults sink.old) (K.faults sink.new)) result.kept result.cause }
+{
+    match mode {
+        Mode::Check => ended(check(alloc, source, sink), None),
+        Mode::Replay { histories } => replay_answer(alloc, histories, source, sink),
+    }
+}
+
+/// Answers the words with the script that the source has, and writes to the sink. Of the modes it
+/// understands those that need no threads, and it waits for nothing.
 pub fn replay_words<S: Source, K: Sink>(
     alloc: Global,
     words: &[String],
@@ -125,14 +108,13 @@ pub fn replay_words<S: Source, K: Sink>(
 
     // What the cause says of the words, the source, the sink and the record. A word isn't understood
     // exactly where the words aren't those of a mode.
-    ensures explained { Answers (mode_of (map (λ word. string_bytes word) words.now))
+    ensures explained { Answers (asked_alone (mode_of (map (λ word. string_bytes word) words.now)))
         (stream (S.left source.old) (S.left source.new) (S.faults source.old) (S.faults source.new))
         (stream (K.held sink.old) (K.held sink.new) (K.faults sink.old) (K.faults sink.new))
         result.kept result.cause }
 {
     match mode_of(words) {
         Err(place) => ended(Cause::Usage(place), None),
-        Ok(Mode::Check) => ended(check(alloc, source, sink), None),
-        Ok(Mode::Replay { histories }) => report_of(alloc, histories, source, sink),
+        Ok(mode) => answer_alone(alloc, mode, source, sink),
     }
 }

@@ -3,12 +3,15 @@ ghost use Rattle.gr_top.specs.Causes.{status_of};
 ghost use Rattle.gr_top.specs.Outcomes.{IsAnswered, IsTold};
 ghost use Rattle.gr_io.specs.Streams.{stream};
 
-use crate::answering::replay_words;
 use crate::cause_texts::tell;
+use crate::running::georep;
 use crate::{Cause, Outcome};
 use gr_io::{Sink, Source};
+use gr_session::FreeGate;
 use std::alloc::Global;
 use std::mem;
+use std::sync::Wait;
+use std::thread::Threads;
 
 /// Writes the line of a cause, and gives the status to end with. It takes no memory.
 pub fn conclude<E: Sink>(errors: &mut E, cause: &Cause) -> u8
@@ -23,7 +26,8 @@ pub fn conclude<E: Sink>(errors: &mut E, cause: &Cause) -> u8
 /// The whole program: answers the words with the script that the source has, writes the report to the
 /// sink and the line of the cause to `errors`, and gives the status to end with. It is the last thing
 /// that a process does: the record that was kept isn't freed.
-pub fn program<S: Source, K: Sink, E: Sink>(
+pub fn program<R: Threads + Wait + Sync, S: Source, K: Sink, E: Sink>(
+    rt: &R,
     alloc: Global,
     words: &[String],
     source: &mut S,
@@ -36,7 +40,7 @@ pub fn program<S: Source, K: Sink, E: Sink>(
         (stream (E.held errors.old) (E.held errors.new) (E.faults errors.old) (E.faults errors.new))
         result }
 {
-    let Outcome { cause, kept, .. } = replay_words(alloc, words, source, sink);
+    let Outcome { cause, kept, .. } = georep(rt, alloc, words, source, sink, &FreeGate);
     let status = conclude(errors, &cause);
     mem::forget(kept);
     status

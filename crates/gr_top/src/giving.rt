@@ -1,8 +1,9 @@
-ghost use Rattle.std.specs.Prelude.{ℕ, List, false, MatchResult};
+ghost use Rattle.std.specs.Prelude.{◌≡◌, ℕ, List, MatchResult};
 ghost use Rattle.gr_script.specs.Said.{script_of};
+ghost use Rattle.gr_script.specs.Scripts.{is_run};
 ghost use Rattle.gr_script.specs.Sayings.{Ends};
-ghost use Rattle.gr_top.specs.Outcomes.{IsGiven, IsWhole, Stops};
-ghost use Rattle.gr_top.specs.declared.words.Mode.{Mode as AMode};
+ghost use Rattle.gr_top.specs.Outcomes.{IsGiven, IsWhole, Reads, runs, Stops};
+ghost use Rattle.gr_top.specs.declared.words.Request.{Request as TheRequest};
 ghost use Rattle.gr_io.specs.Streams.{stream, Stream};
 
 use crate::Cause;
@@ -15,9 +16,9 @@ const MOST_BYTES: u64 = 8_388_608;
 
 /// All that the source has.
 pub(crate) fn text_from<S: Source>(alloc: Global, source: &mut S) -> Result<Vec<u8>, Cause>
-    ensures { (m : AMode) → MatchResult result
+    ensures { (request : TheRequest) → Reads request → MatchResult result
         (λ text. IsWhole (stream (S.left source.old) (S.left source.new) (S.faults source.old) (S.faults source.new)) text.items)
-        (Stops m (stream (S.left source.old) (S.left source.new) (S.faults source.old) (S.faults source.new))) }
+        (Stops request (stream (S.left source.old) (S.left source.new) (S.faults source.old) (S.faults source.new))) }
 {
     match read_all(alloc, source, MOST_BYTES) {
         Ok(text) => Ok(text),
@@ -32,7 +33,8 @@ pub(crate) fn text_from<S: Source>(alloc: Global, source: &mut S) -> Result<Vec<
 
 /// Why a text is no script.
 pub(crate) fn cause_of(end: ScriptEnd, text: &[u8]) -> Cause
-    ensures { (m : AMode) (source : Stream) → IsWhole source text.now → Ends end (script_of false text.now) → Stops m source result }
+    ensures { (request : TheRequest) (source : Stream) → Reads request → IsWhole source text.now
+        → Ends end (script_of (runs request) text.now) → Stops request source result }
 {
     match end {
         ScriptEnd::TooManyLines(lines) => Cause::TooLarge {
@@ -45,14 +47,18 @@ pub(crate) fn cause_of(end: ScriptEnd, text: &[u8]) -> Cause
 }
 
 /// The script that the source has. Its text isn't kept.
-pub(crate) fn script_from<S: Source>(alloc: Global, source: &mut S) -> Result<Script, Cause>
-    ensures { (m : AMode) → MatchResult result
-        (λ script. (text : List ℕ) × IsGiven (stream (S.left source.old) (S.left source.new) (S.faults source.old) (S.faults source.new)) text script)
-        (Stops m (stream (S.left source.old) (S.left source.new) (S.faults source.old) (S.faults source.new))) }
+pub(crate) fn script_from<S: Source>(
+    alloc: Global,
+    source: &mut S,
+    form: Form,
+) -> Result<Script, Cause>
+    ensures { (request : TheRequest) → Reads request → is_run form ≡ runs request → MatchResult result
+        (λ script. (text : List ℕ) × IsGiven (runs request) (stream (S.left source.old) (S.left source.new) (S.faults source.old) (S.faults source.new)) text script)
+        (Stops request (stream (S.left source.old) (S.left source.new) (S.faults source.old) (S.faults source.new))) }
 {
     let text = text_from(alloc, source)?;
     let bytes = text.as_slice();
-    match read(alloc, bytes, Form::Replay) {
+    match read(alloc, bytes, form) {
         Ok(script) => Ok(script),
         Err(end) => Err(cause_of(end, bytes)),
     }

@@ -7,6 +7,8 @@ mod cause;
 mod cause_texts;
 mod concluding;
 mod giving;
+mod handing;
+mod running;
 mod words;
 
 pub use answering::replay_words;
@@ -14,3 +16,4 @@ pub use arguments::{Arguments, StdArguments, given_words};
 pub use cause::{Cause, Outcome};
 pub use cause_texts::cause_text;
 pub use concluding::{conclude, program};
+pub use running::georep;

@@ -1,7 +1,10 @@
-ghost use Rattle.std.specs.Prelude.{◌≡◌, map, string_bytes};
-ghost use Rattle.gr_top.specs.Words.{alone, behind_history, behind_replay, mode_of};
+ghost use Rattle.std.specs.Prelude.{◌≡◌, map, string_bytes, IfOk};
+ghost use Rattle.gr_top.specs.Words.{alone, asked_alone, behind_drill, behind_history, behind_report, behind_start, IsFit};
+ghost use Rattle.gr_top.specs.Words.{mode_of, number_in, request_of, told_behind};
 
-/// What the words ask for.
+use gr_script::number_of;
+
+/// What needs no threads.
 #[derive(Clone, Copy)]
 pub(crate) enum Mode {
     /// Prints the script.
@@ -10,24 +13,38 @@ pub(crate) enum Mode {
     Replay { histories: bool },
 }
 
-fn alone(place: u32, mode: Mode, words: &[String]) -> Result<Mode, u32>
-    ensures { result ≡ alone place mode (map (λ word. string_bytes word) words.now) }
+/// What the words ask for.
+#[derive(Clone, Copy)]
+pub(crate) enum Request {
+    Alone(Mode),
+    /// Runs the script and prints the report.
+    Run { histories: bool },
+    /// Draws a script of so many steps, runs it and prints the summary.
+    Drill { start: u32, steps: u32 },
+}
+
+/// The greatest number that a drill is drawn from.
+const MOST_START: u32 = 2_147_483_646;
+
+/// The most steps of a drill.
+const MOST_STEPS: u32 = 50_000;
+
+fn alone<X: Copy>(place: u32, asked: X, words: &[String]) -> Result<X, u32>
+    ensures { result ≡ alone place asked (map (λ word. string_bytes word) words.now) }
 {
     if words.is_empty() {
-        Ok(mode)
+        Ok(asked)
     } else {
         Err(place)
     }
 }
 
-fn behind_replay(words: &[String]) -> Result<Mode, u32>
-    ensures { result ≡ behind_replay (map (λ word. string_bytes word) words.now) }
+fn behind_report<X: Copy>(plain: X, told: X, words: &[String]) -> Result<X, u32>
+    ensures { result ≡ behind_report plain told (map (λ word. string_bytes word) words.now) }
 {
     match words {
-        [] => Ok(Mode::Replay { histories: false }),
-        [word, rest @ ..] if word.as_str() == "--history" => {
-            alone(2, Mode::Replay { histories: true }, rest)
-        }
+        [] => Ok(plain),
+        [word, rest @ ..] if word.as_str() == "--history" => alone(2, told, rest),
         _ => Err(1),
     }
 }
@@ -52,8 +69,85 @@ pub(crate) fn mode_of(words: &[String]) -> Result<Mode, u32>
     };
     match word.as_str() {
         "check" => alone(1, Mode::Check, rest),
-        "replay" => behind_replay(rest),
+        "replay" => behind_report(
+            Mode::Replay { histories: false },
+            Mode::Replay { histories: true },
+            rest,
+        ),
         "--history" => behind_history(rest),
         _ => Err(0),
+    }
+}
+
+fn asked_alone(mode: Result<Mode, u32>) -> Result<Request, u32>
+    ensures { result ≡ asked_alone mode }
+{
+    match mode {
+        Ok(mode) => Ok(Request::Alone(mode)),
+        Err(place) => Err(place),
+    }
+}
+
+fn number_in(most: u32, word: &str) -> Option<u32>
+    ensures { result ≡ number_in most word.now }
+{
+    match number_of(word.as_bytes()) {
+        Some(number) if 1 <= number && number <= u128::from(most) => Some(number as u32),
+        _ => None,
+    }
+}
+
+fn behind_start(start: Option<u32>, words: &[String]) -> Result<Request, u32>
+    ensures { result ≡ behind_start start (map (λ word. string_bytes word) words.now) }
+{
+    let Some(start) = start else {
+        return Err(1);
+    };
+    let [word, rest @ ..] = words else {
+        return Err(2);
+    };
+    match number_in(MOST_STEPS, word.as_str()) {
+        Some(steps) => alone(3, Request::Drill { start, steps }, rest),
+        None => Err(2),
+    }
+}
+
+fn behind_drill(words: &[String]) -> Result<Request, u32>
+    ensures { result ≡ behind_drill (map (λ word. string_bytes word) words.now) }
+{
+    match words {
+        [] => Err(1),
+        [word, rest @ ..] => behind_start(number_in(MOST_START, word.as_str()), rest),
+    }
+}
+
+fn told_behind(words: &[String]) -> Result<Request, u32>
+    ensures { result ≡ told_behind (map (λ word. string_bytes word) words.now) }
+{
+    match words {
+        [word, rest @ ..] if word.as_str() == "run" => {
+            alone(2, Request::Run { histories: true }, rest)
+        }
+        _ => asked_alone(behind_history(words)),
+    }
+}
+
+/// What the words ask for, or the place of the first word that isn't understood, counted from 0.
+pub(crate) fn request_of(words: &[String]) -> Result<Request, u32>
+    ensures exact { result ≡ request_of (map (λ word. string_bytes word) words.now) }
+    ensures fit { IfOk result IsFit }
+{
+    let [word, rest @ ..] = words else {
+        return Err(0);
+    };
+    match word.as_str() {
+        "run" => behind_report(
+            Request::Run { histories: false },
+            Request::Run { histories: true },
+            rest,
+        ),
+        "drill" => behind_drill(rest),
+        "--history" => told_behind(rest),
+        _ => asked_alone(mode_of(words)),
     }
 }

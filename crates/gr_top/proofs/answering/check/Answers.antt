@@ -1,12 +1,13 @@
 use Rattle.std.proofs.Common.{◌∙◌, refl, None}
 use Rattle.gr_top.specs.declared.words.Mode.TheVariants as mode
+use Rattle.gr_top.specs.declared.words.Request.TheVariants as request
 use Rattle.gr_top.proofs.Endings.{written_explains, within}
 use Rattle.gr_top.proofs.answering.check.Goals as goal
 
 pub returns-in-Ok-print : goal.returns-in-Ok-print
 returns-in-Ok-print g c =
-    let given = c.in-Ok.ensures mode.Check in
-    written_explains mode.Check _ _ None c.as_slice.result.now c.hand_out.result (
+    let given = c.in-Ok.ensures (request.Alone mode.Check) tt refl in
+    written_explains (request.Alone mode.Check) _ _ None c.as_slice.result.now c.hand_out.result (
       refl,
       record {
         text = given.0;
@@ -19,5 +20,5 @@ returns-in-Ok-print g c =
 
 pub returns : goal.returns
 returns g c =
-    let given = c.in-Ok.ensures mode.Check in
+    let given = c.in-Ok.ensures (request.Alone mode.Check) tt refl in
     (refl, within _ given.0 given.1.whole, record { bytes = refl; faults = refl })

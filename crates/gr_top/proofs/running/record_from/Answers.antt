@@ -1,0 +1,17 @@
+use Rattle.std.proofs.Common.{refl}
+use Rattle.gr_top.specs.declared.words.Request.TheVariants as request
+use Rattle.gr_top.proofs.Endings.{within}
+use Rattle.gr_top.proofs.running.record_from.Goals as goal
+
+pub returns-in-Err : goal.returns-in-Err
+returns-in-Err g c histories = c.in-Err.ensures (request.Run histories) tt refl
+
+pub returns-in-Ok-run : goal.returns-in-Ok-run
+returns-in-Ok-run g c histories =
+    let given = c.in-Ok.ensures (request.Run histories) tt refl in
+    record { text = given.0; script = c.in-Ok.script; given = given.1; left = c.in-Ok-run.ensures.lawful }
+
+pub returns : goal.returns
+returns g c histories sink untouched =
+    let given = c.in-Ok.ensures (request.Run histories) tt refl in
+    (tt, within _ given.0 given.1.whole, untouched)
