@@ -47,6 +47,8 @@ pub struct Row {
     pub status: String,
     pub message: String,
     pub report: String,
+    /// Lines that stand in the output in this order, with others between them.
+    pub among: String,
     /// How often it is run.
     pub times: usize,
 }
@@ -79,6 +81,7 @@ impl Row {
             status: String::new(alloc),
             message: String::new(alloc),
             report: String::new(alloc),
+            among: String::new(alloc),
             times: 1,
         }
     }
@@ -115,6 +118,7 @@ impl Row {
             "<x" => put_bytes(&mut self.script, text)?,
             ">" => put_line(&mut self.report, text)?,
             ">>" => self.report.push_str(text)?,
+            "+" => put_line(&mut self.among, text)?,
             "!" => put_line(&mut self.message, text)?,
             "status" => self.status.push_str(text)?,
             "times" => self.times = text.parse::<usize>().unwrap_or(1),

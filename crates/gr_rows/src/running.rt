@@ -116,6 +116,32 @@ fn first_difference<'a>(wanted: &'a str, given: &'a str) -> Option<Difference<'a
     })
 }
 
+// The first of the wanted lines that doesn't stand in a text behind those before it.
+fn first_missing<'a>(wanted: &'a str, given: &str) -> Option<&'a str> {
+    let mut lines = given.lines();
+    for line in wanted.lines() {
+        if !lines.any(|other| other == line) {
+            return Some(line);
+        }
+    }
+    None
+}
+
+// Runs a row of whose output some lines are wanted, and prints that they are there, or the first that isn't.
+fn compare_among<R: Print + AllocGlobal + Threads + Wait + Sync>(
+    rt: &R,
+    name: &str,
+    row: Row,
+) -> io::Result<()> {
+    let among = row.among.clone()?;
+    let left = run(rt, rt.alloc(), row)?;
+    let output = str::from_utf8(left.output.held()).unwrap_or("bytes that are no text");
+    match first_missing(among.as_str(), output) {
+        Some(line) => println!(rt; "{name}: report, {line}: missing"),
+        None => println!(rt; "{name}: same"),
+    }
+}
+
 /// Runs a row, and prints that all is as wanted, or the first line that differs.
 pub fn compare_row<R: Print + AllocGlobal + Threads + Wait + Sync>(
     rt: &R,
@@ -153,7 +179,12 @@ pub fn compare_each<R: Files + Print + AllocGlobal + Threads + Wait + Sync>(
 ) -> io::Result<()> {
     let times = row_of(rt, name)?.times;
     for _ in 0..times {
-        compare_row(rt, name, row_of(rt, name)?)?;
+        let row = row_of(rt, name)?;
+        if row.among.is_empty() {
+            compare_row(rt, name, row)?;
+        } else {
+            compare_among(rt, name, row)?;
+        }
     }
     Ok(())
 }

@@ -1,5 +1,5 @@
 -- What each cause says of the words, the source, the sink and the record.
-use Rattle.std.specs.Prelude.{◌≡◌, ◌⊎◌, ℕ, ◌+◌, List, length, Option, None, Result, Ok, Err, Bool, true, false, IfSome, IsSomeAnd}
+use Rattle.std.specs.Prelude.{◌≡◌, ◌⊎◌, ℕ, ◌+◌, List, length, Option, Some, None, Result, Ok, Err, Bool, true, false, IfSome, IsSomeAnd}
 use Rattle.std.specs.Io.KnownBytes.{Appends, Consumes}
 use Rattle.gr_history.specs.declared.record.Record.{Record}
 use Rattle.gr_io.specs.Ends.{AppendsPart}
@@ -123,6 +123,12 @@ Prints (Run histories) source kept text =
 Prints (Drill start steps) source kept text =
     IsUntouched source × IsSomeAnd kept (λ record_of.
     (script : TheScript) × IsDrillOf start steps script record_of × (text ≡ summary_of start steps script record_of))
+
+-- The record may be kept, and its text printed.
+pub record Leaves (request : Request) (source : Stream) (histories : Bool) (record_of : Record) : Type 0 where
+  pub within : IsWithin source
+  pub keeps : Keeps request source (Some record_of)
+  pub prints : Prints request source (Some record_of) (record_text histories record_of)
 
 -- what each cause says of the source, the sink and the record that was kept
 abbrev pub Explains : Request → Stream → Stream → Option Record → Cause → Type 0

@@ -1,16 +1,15 @@
 ghost use Rattle.std.specs.Prelude.{◌≡◌, map, string_bytes, None, MatchResult, Bool};
 ghost use Rattle.gr_top.specs.Causes.{status_of};
-ghost use Rattle.gr_top.specs.Outcomes.{Answers, Explains, IsReplayOf, Stops};
+ghost use Rattle.gr_top.specs.Outcomes.{Answers, Explains, Leaves, Stops};
 ghost use Rattle.gr_top.specs.Words.{asked_alone, mode_of};
 ghost use Rattle.gr_top.specs.declared.words.Mode.TheVariants as mode;
 ghost use Rattle.gr_top.specs.declared.words.Request.TheVariants as request;
 ghost use Rattle.gr_io.specs.Streams.{stream};
 
 use crate::giving::{cause_of, script_from, text_from};
-use crate::handing::{ended, hand_out, hand_out_report};
+use crate::handing::{Played, ended, hand_out, report_outcome};
 use crate::words::{Mode, mode_of};
 use crate::{Cause, Outcome};
-use gr_history::Record;
 use gr_io::{Sink, Source};
 use gr_script::{Form, print};
 use gr_value::Memory;
@@ -33,23 +32,16 @@ fn check<S: Source, K: Sink>(alloc: Global, source: &mut S, sink: &mut K) -> Cau
     }
 }
 
-// A record, and the memory of the text that it was played from.
-#[derive(Drop)]
-struct Replayed {
-    record_of: Record,
-    room: Vec<u8>,
-}
-
-// The record of the script that the source has.
-fn record_from<S: Source>(alloc: Global, source: &mut S) -> Result<Replayed, Cause>
-    ensures { (histories : Bool)
-        → MatchResult result (λ replayed. IsReplayOf (stream (S.left source.old) (S.left source.new) (S.faults source.old) (S.faults source.new)) replayed.record_of)
+// The record of the script that the source has, and the memory of its text.
+fn record_from<S: Source>(alloc: Global, source: &mut S) -> Result<Played, Cause>
+    ensures { (histories : Bool) → MatchResult result
+        (λ played. Leaves (request.Alone (mode.Replay histories)) (stream (S.left source.old) (S.left source.new) (S.faults source.old) (S.faults source.new)) histories played.record_of)
         (Stops (request.Alone (mode.Replay histories)) (stream (S.left source.old) (S.left source.new) (S.faults source.old) (S.faults source.new))) }
 {
     let text = text_from(alloc, source)?;
     let bytes = text.as_slice();
     match play_text(alloc, bytes) {
-        Ok(record_of) => Ok(Replayed {
+        Ok(record_of) => Ok(Played {
             record_of,
             room: text,
         }),
@@ -69,13 +61,8 @@ fn replay_answer<S: Source, K: Sink>(
         (stream (S.left source.old) (S.left source.new) (S.faults source.old) (S.faults source.new))
         (stream (K.held sink.old) (K.held sink.new) (K.faults sink.old) (K.faults sink.new)) result.kept result.cause }
 {
-    match record_from(alloc, source) {
-        Err(cause) => ended(cause, None),
-        Ok(Replayed { record_of, room }) => {
-            let cause = hand_out_report(alloc, room, histories, &record_of, sink);
-            ended(cause, Some(record_of))
-        }
-    }
+    let played = record_from(alloc, source);
+    report_outcome(alloc, histories, played, sink)
 }
 
 /// Answers a mode that needs no threads.

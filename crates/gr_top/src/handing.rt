@@ -1,8 +1,7 @@
-ghost use Rattle.std.specs.Prelude.{◌≡◌, Some};
-ghost use Rattle.gr_report.specs.Report.{record_text};
+ghost use Rattle.std.specs.Prelude.{◌≡◌, Some, MatchResult};
 ghost use Rattle.gr_report.specs.Summary.{summary_of};
 ghost use Rattle.gr_top.specs.Causes.{status_of};
-ghost use Rattle.gr_top.specs.Outcomes.{Explains, IsWithin, IsWritten, Keeps, Prints};
+ghost use Rattle.gr_top.specs.Outcomes.{Explains, IsWithin, IsWritten, Keeps, Leaves, Prints, Stops};
 ghost use Rattle.gr_top.specs.declared.words.Request.{Request as TheRequest};
 ghost use Rattle.gr_io.specs.Streams.{stream, Stream};
 
@@ -24,23 +23,51 @@ pub(crate) fn hand_out<K: Sink>(sink: &mut K, text: &[u8]) -> Cause
     }
 }
 
-/// Prints the report into the room, and hands it out.
+// Prints the report into the room, and hands it out.
 #[tactic(auto, using(crate::proofs::Endings::written_explains))]
-pub(crate) fn hand_out_report<K: Sink>(
+fn hand_out_report<K: Sink>(
     alloc: Global,
     room: Vec<u8>,
     histories: bool,
     record_of: &Record,
     sink: &mut K,
 ) -> Cause
-    ensures { (request : TheRequest) (source : Stream) → Keeps request source (Some record_of.now) → IsWithin source
-        → Prints request source (Some record_of.now) (record_text histories record_of.now)
+    ensures { (request : TheRequest) (source : Stream) → Leaves request source histories record_of.now
         → Explains request source
         (stream (K.held sink.old) (K.held sink.new) (K.faults sink.old) (K.faults sink.new)) (Some record_of.now) result }
 {
     match report_in(alloc, room, record_of, histories) {
         Ok(text) => hand_out(sink, text.as_slice()),
         Err(Memory) => Cause::Memory,
+    }
+}
+
+/// A record, and memory that its report may take.
+#[derive(Drop)]
+pub(crate) struct Played {
+    pub(crate) record_of: Record,
+    pub(crate) room: Vec<u8>,
+}
+
+/// Prints the report of what was played, or tells why nothing was.
+pub(crate) fn report_outcome<K: Sink>(
+    alloc: Global,
+    histories: bool,
+    played: Result<Played, Cause>,
+    sink: &mut K,
+) -> Outcome
+    ensures status { result.status ≡ status_of result.cause }
+    ensures explained { (request : TheRequest) (source : Stream)
+        → MatchResult played (λ one. Leaves request source histories one.record_of) (Stops request source)
+        → Explains request source
+        (stream (K.held sink.old) (K.held sink.new) (K.faults sink.old) (K.faults sink.new)) result.kept result.cause }
+{
+    match played {
+        Err(cause) => ended(cause, None),
+        Ok(Played { record_of, room }) => {
+            let cause = hand_out_report(alloc, room, histories, &record_of, sink);
+            ended(cause, Some(record_of))
+        }
     }
 }
 

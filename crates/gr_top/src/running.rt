@@ -1,13 +1,13 @@
 ghost use Rattle.std.specs.Prelude.{◌≡◌, map, string_bytes, IfOk, MatchResult, Bool};
 ghost use Rattle.gr_top.specs.Causes.{status_of};
-ghost use Rattle.gr_top.specs.Outcomes.{Answers, Explains, IsDrillOf, IsRunOf, Stops};
+ghost use Rattle.gr_top.specs.Outcomes.{Answers, Explains, IsDrillOf, Leaves, Stops};
 ghost use Rattle.gr_top.specs.Words.{IsFit, request_of};
 ghost use Rattle.gr_top.specs.declared.words.Request.TheVariants as request;
 ghost use Rattle.gr_io.specs.Streams.{IsUntouched, stream, Stream};
 
 use crate::answering::answer_alone;
 use crate::giving::script_from;
-use crate::handing::{ended, hand_out_report, hand_out_summary};
+use crate::handing::{Played, ended, hand_out_summary, report_outcome};
 use crate::words::{Request, request_of};
 use crate::{Cause, Outcome};
 use gr_history::Record;
@@ -26,9 +26,9 @@ fn record_from<R: Threads + Wait + Sync, S: Source, G: Gate>(
     alloc: Global,
     source: &mut S,
     gate: &G,
-) -> Result<Record, Cause>
-    ensures { (histories : Bool)
-        → MatchResult result (IsRunOf (stream (S.left source.old) (S.left source.new) (S.faults source.old) (S.faults source.new)))
+) -> Result<Played, Cause>
+    ensures { (histories : Bool) → MatchResult result
+        (λ played. Leaves (request.Run histories) (stream (S.left source.old) (S.left source.new) (S.faults source.old) (S.faults source.new)) histories played.record_of)
         (Stops (request.Run histories) (stream (S.left source.old) (S.left source.new) (S.faults source.old) (S.faults source.new))) }
 {
     let script = match script_from(alloc, source, Form::Run) {
@@ -36,7 +36,10 @@ fn record_from<R: Threads + Wait + Sync, S: Source, G: Gate>(
         Err(cause) => return Err(cause),
     };
     match run(rt, alloc, &script, gate) {
-        Ok(record_of) => Ok(record_of),
+        Ok(record_of) => Ok(Played {
+            record_of,
+            room: Vec::new(alloc),
+        }),
         Err(Memory) => Err(Cause::Memory),
     }
 }
@@ -55,14 +58,8 @@ fn run_answer<R: Threads + Wait + Sync, S: Source, K: Sink, G: Gate>(
         (stream (S.left source.old) (S.left source.new) (S.faults source.old) (S.faults source.new))
         (stream (K.held sink.old) (K.held sink.new) (K.faults sink.old) (K.faults sink.new)) result.kept result.cause }
 {
-    match record_from(rt, alloc, source, gate) {
-        Err(cause) => ended(cause, None),
-        Ok(record_of) => {
-            let room = Vec::new(alloc);
-            let cause = hand_out_report(alloc, room, histories, &record_of, sink);
-            ended(cause, Some(record_of))
-        }
-    }
+    let played = record_from(rt, alloc, source, gate);
+    report_outcome(alloc, histories, played, sink)
 }
 
 // A drill that was run: its script, and what threads left of it.

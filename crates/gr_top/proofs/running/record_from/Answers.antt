@@ -1,5 +1,6 @@
 use Rattle.std.proofs.Common.{refl}
 use Rattle.gr_top.specs.declared.words.Request.TheVariants as request
+use Rattle.gr_top.specs.Outcomes.{IsRunOf}
 use Rattle.gr_top.proofs.Endings.{within}
 use Rattle.gr_top.proofs.running.record_from.Goals as goal
 
@@ -9,7 +10,8 @@ returns-in-Err g c histories = c.in-Err.ensures (request.Run histories) tt refl
 pub returns-in-Ok-run : goal.returns-in-Ok-run
 returns-in-Ok-run g c histories =
     let given = c.in-Ok.ensures (request.Run histories) tt refl in
-    record { text = given.0; script = c.in-Ok.script; given = given.1; left = c.in-Ok-run.ensures.lawful }
+    let left : IsRunOf _ _ = record { text = given.0; script = c.in-Ok.script; given = given.1; left = c.in-Ok-run.ensures.lawful } in
+    record { within = within _ given.0 given.1.whole; keeps = left; prints = (left, refl) }
 
 pub returns : goal.returns
 returns g c histories sink untouched =
