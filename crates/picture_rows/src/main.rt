@@ -6,7 +6,7 @@ use std::io::Print;
 use std::rt::Files;
 use std::{fs, io};
 
-const NAMES: [&str; 5] = ["expiry", "joining", "late", "signs", "two-members"];
+const NAMES: [&str; 6] = ["expiry", "joining", "late", "run", "signs", "two-members"];
 
 // What a file of this name says.
 fn text_of<R: Files + AllocGlobal>(rt: &R, name: &str, ending: &str) -> io::Result<String> {
