@@ -18,6 +18,7 @@ key_of (ask.Replace key value) = key
 key_of (ask.ReplaceIf key old new) = key
 key_of (ask.Destroy key) = key
 key_of (ask.Remove key value) = key
+key_of (ask.Invalidate key) = key
 
 -- the value that was there, or that there was none
 abbrev pub reply_of : Option (List Field) → Reply
@@ -37,17 +38,42 @@ abbrev pub where_so : Bool → Kind → Told
 where_so true kind = changing reply.Yes kind
 where_so false kind = unchanged reply.No
 
--- The table of the operations, over the value that is present at the key.
-abbrev pub told : Ask → Option (List Field) → Told
-told (ask.Get key) present = unchanged (reply_of present)
-told (ask.Put key value) present = changing (reply_of present) (kind.Put value)
-told (ask.PutIfAbsent key value) None = changing reply.Null (kind.Put value)
-told (ask.PutIfAbsent key value) (Some here) = unchanged (reply.Value here)
-told (ask.Replace key value) None = unchanged reply.Null
-told (ask.Replace key value) (Some here) = changing (reply.Value here) (kind.Put value)
-told (ask.ReplaceIf key old new) None = unchanged reply.No
-told (ask.ReplaceIf key old new) (Some here) = where_so (value_eq here old) (kind.Put new)
-told (ask.Destroy key) None = unchanged reply.NotFound
-told (ask.Destroy key) (Some here) = changing reply.Done kind.Remove
-told (ask.Remove key value) None = unchanged reply.No
-told (ask.Remove key value) (Some here) = where_so (value_eq here value) kind.Remove
+-- What is at a key: nothing, the key without a value, or a value.
+pub data AtKey : Type 0 where
+  Absent : AtKey
+  Valueless : AtKey
+  Valued : List Field → AtKey
+
+-- by whether the key is there, and the value that is present
+abbrev pub at_key : Bool → Option (List Field) → AtKey
+at_key there (Some value) = Valued value
+at_key true None = Valueless
+at_key false None = Absent
+
+abbrev pub value_at : AtKey → Option (List Field)
+value_at Absent = None
+value_at Valueless = None
+value_at (Valued value) = Some value
+
+-- The table of the operations, over what is at the key.
+abbrev pub told : Ask → AtKey → Told
+told (ask.Get key) at = unchanged (reply_of (value_at at))
+told (ask.Put key value) at = changing (reply_of (value_at at)) (kind.Put value)
+told (ask.PutIfAbsent key value) Absent = changing reply.Null (kind.Put value)
+told (ask.PutIfAbsent key value) Valueless = changing reply.Null (kind.Put value)
+told (ask.PutIfAbsent key value) (Valued here) = unchanged (reply.Value here)
+told (ask.Replace key value) Absent = unchanged reply.Null
+told (ask.Replace key value) Valueless = changing reply.Null (kind.Put value)
+told (ask.Replace key value) (Valued here) = changing (reply.Value here) (kind.Put value)
+told (ask.ReplaceIf key old new) Absent = unchanged reply.No
+told (ask.ReplaceIf key old new) Valueless = unchanged reply.No
+told (ask.ReplaceIf key old new) (Valued here) = where_so (value_eq here old) (kind.Put new)
+told (ask.Destroy key) Absent = unchanged reply.NotFound
+told (ask.Destroy key) Valueless = changing reply.Done kind.Remove
+told (ask.Destroy key) (Valued here) = changing reply.Done kind.Remove
+told (ask.Remove key value) Absent = unchanged reply.No
+told (ask.Remove key value) Valueless = unchanged reply.No
+told (ask.Remove key value) (Valued here) = where_so (value_eq here value) kind.Remove
+told (ask.Invalidate key) Absent = unchanged reply.NotFound
+told (ask.Invalidate key) Valueless = unchanged reply.Done
+told (ask.Invalidate key) (Valued here) = changing reply.Done kind.Invalid

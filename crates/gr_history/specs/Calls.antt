@@ -10,9 +10,9 @@ use Rattle.gr_history.specs.declared.reply.Reply.{Reply}
 use Rattle.gr_history.specs.declared.reply.Reply.TheVariants.{Limit, NotReady}
 use Rattle.gr_history.specs.declared.deed.Deed.{Deed}
 use Rattle.gr_history.specs.declared.done.Done.{Done}
-use Rattle.gr_history.specs.Asks.{key_of, told}
+use Rattle.gr_history.specs.Asks.{at_key, key_of, told}
 use Rattle.gr_history.specs.Ids.{ids}
-use Rattle.gr_history.specs.Standing.{standing, present}
+use Rattle.gr_history.specs.Standing.{standing, there, present}
 use Rattle.gr_history.specs.Floor.{floor}
 use Rattle.gr_history.specs.Recipients.{is_ready, recipients}
 
@@ -52,7 +52,7 @@ given id opening past key reply (Some kind) =
 -- where calls are answered
 abbrev pub ready_gives : Identity → ℕ → List Deed → Ask → Done
 ready_gives id opening past ask =
-    let answer = told ask (present (key_of ask) past) in
+    let answer = told ask (at_key (there (key_of ask) past) (present (key_of ask) past)) in
     given id opening past (key_of ask) answer.reply answer.change
 
 abbrev pub call_gives : Identity → ℕ → List Deed → Ask → Done

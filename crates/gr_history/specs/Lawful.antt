@@ -26,7 +26,7 @@ IsLawfulDeed id opening (Asked client seq ask reply) past = reply ≡ query_give
 IsLawfulDeed id opening (Taken change told) past = told ≡ verdict past change
 IsLawfulDeed id opening (Gave to what) past = Unit {0}
 IsLawfulDeed id opening (Imaged image) past = AreInOrder image.rows
-IsLawfulDeed id opening (Reported report) past = IsReportOf id.member past report
+IsLawfulDeed id opening (Reported report) past = IsReportOf id past report
 IsLawfulDeed id opening (Heard report) past = Unit {0}
 IsLawfulDeed id opening (Swept moment expired) past = expired ≡ due id moment past
 

@@ -21,7 +21,7 @@ use Rattle.gr_history.specs.declared.reply.Reply.TheVariants as reply
 use Rattle.gr_history.specs.declared.query_ask.QueryAsk.TheVariants.{Enrol, Stop, Close, Fetch}
 use Rattle.gr_history.specs.declared.query_reply.QueryReply.TheVariants as told
 use Rattle.gr_history.specs.declared.query_reply.Row.{Row}
-use Rattle.gr_history.specs.declared.verdict.Verdict.TheVariants.{Discarded}
+use Rattle.gr_history.specs.declared.verdict.Verdict.TheVariants.{Applied, Discarded}
 use Rattle.gr_history.specs.declared.deed.Deed.{Deed}
 use Rattle.gr_history.specs.declared.deed.Deed.TheVariants.{Call, Asked, Taken}
 
@@ -135,3 +135,36 @@ one_stopped = Asked 2 10 (Stop (codes "q")) told.NotRunning ∷ Asked 2 9 (Fetch
 abbrev pub query_states : List Deed
 query_states = Asked 2 13 (Enrol (codes "p") all_rows) told.Taken ∷ Asked 2 12 (Fetch (codes "q")) told.Unknown
     ∷ Asked 2 11 (Close (codes "q")) told.Closed ∷ one_stopped
+
+-- ---- a key that is invalidated while a query is open
+
+abbrev whole : Question
+whole = record {
+  text = codes "SELECT * FROM /r";
+  asked = record { region = codes "/r"; alias = None; condition = None };
+}
+
+abbrev change_of_a : ℕ → ℕ → ℕ → Kind → Change
+change_of_a ver member rv kind = record { key = codes "a"; kind = kind; stamp = record { ver = ver; member = member; rv = rv } }
+
+abbrev pub invalidated : List Deed
+invalidated = Taken (change_of_a 2 1 2 kind.Invalid) Applied
+    ∷ Asked 2 1 (Enrol query_name whole) (told.Opened (row (codes "a") (number 1) ∷ []))
+    ∷ Taken (change_of_a 1 1 1 (kind.Put (number 1))) Applied ∷ []
+
+-- what the query is told of it, and of the put behind it
+abbrev told_of_a : List Event
+told_of_a = event op.Destroy base.Invalidate (codes "a") None ∷ event op.Create base.Update (codes "a") (Some (number 2)) ∷ []
+
+abbrev pub put_behind : List Deed
+put_behind = Asked 2 3 (Fetch query_name) (told.Fetched told_of_a)
+    ∷ Call 2 1 2 (ask.PutIfAbsent (codes "a") (number 2)) reply.Null (Some (change_of_a 3 2 1 (kind.Put (number 2)))) ∷ invalidated
+
+-- What the operations find at a key without a value.
+abbrev pub destroyed : List Deed
+destroyed = Call 2 0 3 (ask.Get (codes "a")) reply.Null None
+    ∷ Call 2 1 2 (ask.Destroy (codes "a")) reply.Done (Some (change_of_a 3 2 1 kind.Remove)) ∷ invalidated
+
+abbrev pub again : List Deed
+again = Call 2 0 4 (ask.Invalidate (codes "b")) reply.NotFound None ∷ Call 2 0 3 (ask.Invalidate (codes "a")) reply.Done None
+    ∷ Call 2 0 2 (ask.ReplaceIf (codes "a") (number 1) (number 2)) reply.No None ∷ invalidated

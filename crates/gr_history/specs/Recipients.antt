@@ -1,5 +1,6 @@
 -- Which members are ready, and whom a change goes to.
 use Rattle.std.specs.Prelude.{ℕ, zero, suc, ◌+◌, ◌^◌, ◌≤◌, ◌<◌, List, Bool, true, false, ◌&&◌, ◌||◌, ◌==◌, not, nat_le, if◌then◌else◌}
+use Rattle.std.specs.Int.{bit_at}
 use Rattle.std.specs.List.{list_any}
 use Rattle.gr_history.specs.declared.identity.Identity.{Identity}
 use Rattle.gr_history.specs.declared.deed.Deed.{Deed}
@@ -28,6 +29,11 @@ gave_to member past = list_any (is_gift_to member) past
 -- A change goes to the founders and to the members that were given something, but not to its maker.
 abbrev pub is_recipient : Identity → List Deed → ℕ → Bool
 is_recipient id past member = (nat_le member id.founders || gave_to member past) && not (member == id.member)
+
+-- whether the member is among these, with bit m - 1 for member m
+abbrev pub is_in_bits : ℕ → ℕ → Bool
+is_in_bits zero bits = false
+is_in_bits (suc below) bits = bit_at bits below == 1
 
 -- the members from 1 to n that pass the test, with bit m - 1 for member m
 abbrev pub member_bits : (ℕ → Bool) → ℕ → ℕ

@@ -7,7 +7,7 @@ use Rattle.gr_stamp.specs.declared.change.Change.{Change}
 use Rattle.gr_history.specs.declared.deed.Deed.{Deed}
 use Rattle.gr_history.specs.declared.record.Region.{Region}
 use Rattle.gr_history.specs.Ids.{known}
-use Rattle.gr_history.specs.Standing.{changes, standing}
+use Rattle.gr_history.specs.Standing.{changes, standing, there}
 use Rattle.gr_stamp.specs.Winner.{is_removal}
 use Rattle.gr_history.specs.Floor.{floor}
 
@@ -25,7 +25,11 @@ keys_of (change ∷ past) = with_key change.key (keys_of past)
 abbrev pub all_standing : List Deed → List Change
 all_standing past = filter_map (λ key. standing key past) (keys_of (changes past))
 
--- A region has the puts that stand, the number of removals that stand, the floor, and all ids that are known.
+-- the keys that are there, in order
+abbrev pub keys : List Deed → List (List ℕ)
+keys past = filter (λ key. there key past) (keys_of (changes past))
+
+-- A region has the puts and invalidations that stand, the number of removals that stand, the floor, and all ids that are known.
 pub record IsRegionOf (opening : ℕ) (past : List Deed) (region : Region) : Type 0 where
   pub rows_are : region.rows ≡ filter (λ change. not (is_removal change.kind)) (all_standing past)
   pub tombstones_are : region.tombstones ≡ count_by (λ change. is_removal change.kind) (all_standing past)

@@ -48,6 +48,7 @@ second_report = record {
   member = 2;
   at = 2;
   own = 0;
+  to = 1;
   vector = record { ids = id_number 1 2 ∷ id_number 1 1 ∷ []; spare = 0 };
 }
 

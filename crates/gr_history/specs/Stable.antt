@@ -1,5 +1,5 @@
 -- Which tombstones are stable, and which a sweep lets expire.
-use Rattle.std.specs.Prelude.{ℕ, zero, suc, ◌-◌, List, [], ◌∷◌, Bool, true, false, ◌&&◌, ◌||◌, ◌==◌, nat_le, nat_lt, max, filter, Option}
+use Rattle.std.specs.Prelude.{ℕ, zero, suc, ◌-◌, List, [], ◌∷◌, Bool, true, false, ◌&&◌, ◌||◌, not, ◌==◌, nat_le, nat_lt, max, filter, Option}
 use Rattle.std.specs.Prelude.{Some, None, if◌then◌else◌}
 use Rattle.gr_stamp.specs.declared.change.Change.{Change}
 use Rattle.gr_stamp.specs.Expiry.{timeout}
@@ -12,6 +12,7 @@ use Rattle.gr_history.specs.Ids.{id_of, ids}
 use Rattle.gr_history.specs.Standing.{changes, standing}
 use Rattle.gr_stamp.specs.Winner.{is_removal}
 use Rattle.gr_history.specs.Clock.{clock, since}
+use Rattle.gr_history.specs.Recipients.{gave_to, is_in_bits}
 use Rattle.gr_history.specs.Regions.{keys_of}
 
 -- whether a report was made at a later place than the one that counted so far
@@ -37,14 +38,30 @@ abbrev pub is_covered : ℕ → Id → Option Report → List Id → Bool
 is_covered member tombstone None ids = false
 is_covered member tombstone (Some report) ids = has_id tombstone report.vector.ids && covers member report.own ids
 
--- whether that is so of each of the members from 1 to n but this one
-abbrev pub is_stable_upto : ℕ → ℕ → Id → List Deed → Bool
-is_stable_upto me zero tombstone past = true
-is_stable_upto me (suc n) tombstone past =
-    (suc n == me || is_covered (suc n) tombstone (last_heard (suc n) past) (ids past)) && is_stable_upto me n tombstone past
+-- whether a report says that changes of its member go to this one
+abbrev pub is_named : ℕ → Option Report → Bool
+is_named member None = false
+is_named member (Some report) = is_in_bits member report.to
 
-abbrev pub is_stable : Identity → Id → List Deed → Bool
-is_stable id tombstone past = is_stable_upto id.member id.members tombstone past
+-- whether the report that counts of one of the founders from 1 to n names the member
+abbrev pub is_named_upto : ℕ → ℕ → List Deed → Bool
+is_named_upto member zero past = false
+is_named_upto member (suc n) past = is_named member (last_heard (suc n) past) || is_named_upto member n past
+
+-- The members that count are the founders, those that were given something here, and those that the reports of
+-- founders name: only they can have made changes that may still come.
+abbrev pub is_counting : ℕ → ℕ → List Deed → Bool
+is_counting founders member past = nat_le member founders || (gave_to member past || is_named_upto member founders past)
+
+-- whether each of the members from 1 to n but this one is covered, if it counts
+abbrev pub is_stable_upto : ℕ → ℕ → ℕ → Id → List Deed → Bool
+is_stable_upto me founders zero tombstone past = true
+is_stable_upto me founders (suc n) tombstone past =
+    (suc n == me || (not (is_counting founders (suc n) past)
+    || is_covered (suc n) tombstone (last_heard (suc n) past) (ids past))) && is_stable_upto me founders n tombstone past
+
+unfoldable pub is_stable : Identity → Id → List Deed → Bool
+is_stable id tombstone past = is_stable_upto id.member id.founders 8 tombstone past
 
 -- whether what stands, which came in at a time, is a tombstone that has timed out and is stable
 abbrev pub is_due_from : Identity → ℕ → Option Change → ℕ → List Deed → Bool

@@ -3,7 +3,7 @@ use Rattle.std.specs.Prelude.{ℕ, List, [], ◌∷◌, ◌++◌, Bool, false, �
 use Rattle.std.specs.Option.{option_to_list}
 use Rattle.gr_value.specs.declared.value.Field.{Field}
 use Rattle.gr_stamp.specs.declared.change.Change.{Change}
-use Rattle.gr_stamp.specs.Winner.{winner, holds}
+use Rattle.gr_stamp.specs.Winner.{winner, holds, is_there}
 use Rattle.gr_vector.specs.Ids.{Id, has_id}
 use Rattle.gr_history.specs.declared.verdict.Verdict.TheVariants.{Applied, Discarded, Repeat}
 use Rattle.gr_history.specs.declared.deed.Deed.{Deed}
@@ -63,6 +63,10 @@ lasting key (deed ∷ past) = if drops key deed (winner key (lasting key past)) 
 -- the change that stands at the key: the one that won
 abbrev pub standing : List ℕ → List Deed → Option Change
 standing key past = winner key (lasting key past)
+
+-- whether the key is there, with a value or without
+abbrev pub there : List ℕ → List Deed → Bool
+there key past = is_there (standing key past)
 
 -- the value that is present at the key
 abbrev pub present : List ℕ → List Deed → Option (List Field)

@@ -3,7 +3,7 @@ use Rattle.std.specs.Prelude.{ℕ, List, [], ◌∷◌, ◌++◌, Bool, true, fa
 use Rattle.std.specs.Prelude.{option_and_then, if◌then◌else◌}
 use Rattle.gr_value.specs.declared.value.Field.{Field}
 use Rattle.gr_stamp.specs.declared.change.Change.{Change}
-use Rattle.gr_stamp.specs.Winner.{put_value}
+use Rattle.gr_stamp.specs.Winner.{put_value, is_there}
 use Rattle.gr_oql.specs.declared.event.Event.{Event}
 use Rattle.gr_oql.specs.declared.event.Turned.{Turned}
 use Rattle.gr_oql.specs.Question.{Question}
@@ -34,12 +34,18 @@ abbrev pub value_of : Option Change → Option (List Field)
 value_of stands = option_and_then (λ change. put_value change.kind) stands
 
 abbrev pub turned_by : List ℕ → Option Change → Option Change → Turned
-turned_by key before behind = record { key = key; old = value_of before; new = value_of behind }
+turned_by key before behind = record {
+  key = key;
+  old = value_of before;
+  new = value_of behind;
+  had = is_there before;
+  has = is_there behind;
+}
 
 abbrev pub turned_at : Deed → List Deed → List ℕ → Turned
 turned_at deed past key = turned_by key (standing key past) (standing key (deed ∷ past))
 
--- the keys that a deed turns, with their values before and behind it
+-- the keys that a deed turns, with their values before and behind it, and whether they were and are there
 abbrev pub turned : Deed → List Deed → List Turned
 turned deed past = map (turned_at deed past) (turned_keys deed past)
 

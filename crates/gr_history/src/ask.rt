@@ -18,6 +18,8 @@ pub enum Ask {
     Destroy { key: Key },
     /// Removes where this value is present.
     Remove { key: Key, value: Value },
+    /// Takes away the value that is present, and keeps the key.
+    Invalidate { key: Key },
 }
 
 impl Ask {
@@ -32,6 +34,7 @@ impl Ask {
             Ask::ReplaceIf { key, .. } => key,
             Ask::Destroy { key } => key,
             Ask::Remove { key, .. } => key,
+            Ask::Invalidate { key } => key,
         }
     }
 }
@@ -63,6 +66,7 @@ impl Copied for Ask {
                 key,
                 value: value.copy(alloc)?,
             }),
+            Ask::Invalidate { .. } => Ok(Ask::Invalidate { key }),
         }
     }
 }

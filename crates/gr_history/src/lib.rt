@@ -25,13 +25,16 @@ pub use image::{Gift, Image, What};
 pub use limits::vectors_hold_all_versions;
 pub use query_ask::QueryAsk;
 pub use query_reply::{QueryReply, QueryReplyList, Row, RowList};
-pub use query_rows::{a_query_is_stopped_and_closed, a_query_is_told_of_changes};
+pub use query_rows::{
+    a_query_is_stopped_and_closed, a_query_is_told_of_changes, an_invalidated_key_stays,
+};
 pub use record::{
     Answer, AnswerList, ClientRecord, ClientRecordList, MemberRecord, MemberRecordList, Record,
     Region, ShardRecord, ShardRecordList,
 };
 pub use reply::{Reply, Told};
 pub use rows::{
-    a_joiner_waits_for_its_image, a_late_put_is_discarded, a_put_passes_an_expired_tombstone,
+    a_joiner_counts_once_it_is_given_to, a_joiner_waits_for_its_image, a_late_put_is_discarded,
+    a_put_passes_an_expired_tombstone,
 };
 pub use verdict::Verdict;

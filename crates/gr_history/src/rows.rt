@@ -18,7 +18,7 @@ ghost use Rattle.gr_history.specs.Standing.{standing, present};
 
 /// A tombstone expires 600 seconds after it came in, once the other member has reported it. A put
 /// behind it has a greater version than it had.
-#[tactic(auto, unfolding(crate::specs::Recipients::recipients))]
+#[tactic(auto, unfolding(crate::specs::Recipients::recipients, crate::specs::Stable::is_stable))]
 pub fn a_put_passes_an_expired_tombstone()
     ensures lawful { IsLawful (member_in 1 2 2) 0 first_whole }
     ensures expired { standing one_key first_swept ≡ None }
@@ -33,6 +33,7 @@ pub fn a_put_passes_an_expired_tombstone()
 
 /// A put that comes behind its removal loses, and so does the removal to the put that came last. A
 /// member that heard nothing of the other lets nothing expire.
+#[tactic(auto, unfolding(crate::specs::Recipients::recipients, crate::specs::Stable::is_stable))]
 pub fn a_late_put_is_discarded()
     ensures lawful { IsLawful (member_in 2 2 2) 0 second_whole }
     ensures absent { present one_key second_swept ≡ None }
@@ -53,4 +54,15 @@ pub fn a_joiner_waits_for_its_image()
     // It takes the image's floor over.
     ensures floor { floor 0 (deed.Imaged bare_image ∷ []) ≡ 5 }
     ensures heard { last_heard 2 (deed.Heard (record second_report { at = 1 }) ∷ deed.Heard second_report ∷ []) ≡ Some second_report }
+{}
+
+/// A member that never joined holds no tombstone back. One that was given something does, and one that a
+/// founder's report names, until its own report is heard.
+#[tactic(auto, unfolding(crate::specs::Recipients::recipients, crate::specs::Stable::is_stable))]
+pub fn a_joiner_counts_once_it_is_given_to()
+    ensures unjoined { due (member_in 1 3 2) 600 first_early ≡ one_key ∷ [] }
+    ensures given { due (member_in 1 3 2) 600 (deed.Gave 3 what.Own ∷ first_early) ≡ [] }
+    ensures named { due (member_in 1 3 2) 600 (deed.Heard (record second_report { at = 3; to = 5 }) ∷ first_early) ≡ [] }
+    ensures heard { due (member_in 1 3 2) 600
+        (deed.Heard (record second_report { member = 3; to = 3 }) ∷ deed.Gave 3 what.Own ∷ first_early) ≡ one_key ∷ [] }
 {}

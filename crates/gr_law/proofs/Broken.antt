@@ -6,7 +6,7 @@ use Rattle.gr_stamp.specs.declared.change.Change.{Change}
 use Rattle.gr_oql.specs.declared.event.Event.{Event}
 use Rattle.gr_history.specs.Calls.{ver_of}
 use Rattle.gr_law.specs.Broken.{Breaks, older, newer, removed, known_unseen, equal_versions, tombstone_again, removal_ignored, put_ignored}
-use Rattle.gr_law.specs.Broken.{one_stamp, name, row_missing, event_missing}
+use Rattle.gr_law.specs.Broken.{gone, valueless, key_lost, one_stamp, name, row_missing, event_missing}
 use Rattle.gr_law.specs.Laws.{AreAlso, law_0, law_1, law_2, law_3, same_value, same_entry, law_4, law_5}
 use Rattle.gr_law.specs.QueryMaps.{law_queries}
 use Rattle.gr_law.specs.Small.{key}
@@ -52,7 +52,14 @@ stands-breaks law = not_older ((law 1 _ (inl refl) key).stands newer refl refl)
 
 pub same_value-breaks : Breaks same_value removal_ignored
 same_value-breaks law =
-    no_value [] (law 1 2 _ _ (inl refl) (inl refl) key (fewer older removed key) (more older removed key))
+    no_value [] (law 1 2 _ _ (inl refl) (inl refl) key (fewer older removed key) (more older removed key)).0
+
+pub there-breaks : Breaks law_3 key_lost
+there-breaks law = false_isnt_true (law 1 _ (inl refl) key).there_is
+
+pub same_key-breaks : Breaks same_value key_lost
+same_key-breaks law =
+    false_isnt_true (law 1 2 _ _ (inl refl) (inl refl) key (fewer gone valueless key) (more gone valueless key)).1
 
 pub same_entry-breaks : Breaks same_entry put_ignored
 same_entry-breaks law = not_older (law 2 1 _ _ (inl refl) (inl refl) key (more older newer key) (fewer older newer key) newer refl refl)

@@ -47,12 +47,12 @@ there true true base key old new stood is = rw (same key) refl
 told_there : (question : Question) (one : Turned) (stood : Present)
     → (stood one.key ≡ where_matching question one.old) ⊎ (stood one.key ≡ where_matching question one.new)
     → with_told (told question one) stood one.key ≡ where_matching question one.new
-told_there question one stood is = there (is_match question one.old) (is_match question one.new) (base_op one.old one.new) one.key
+told_there question one stood is = there (is_match question one.old) (is_match question one.new) (base_op one.had one.has one.new) one.key
     one.old one.new stood is
 
 told_elsewhere : (question : Question) (one : Turned) (other : List ℕ) (stood : Present) → bytes_eq other one.key ≡ false
     → with_told (told question one) stood other ≡ stood other
-told_elsewhere question one other stood apart = with_told-elsewhere question one.key other one.old one.new stood apart
+told_elsewhere question one other stood apart = with_told-elsewhere question one other stood apart
 
 pub played_append : (stood : Present) (xs ys : List Event) → played stood (xs ++ ys) ≡ played (played stood xs) ys
 played_append stood [] ys = refl

@@ -133,6 +133,7 @@ once_more (Swept moment named) past first h = h
 pub whole_pushed : (grid : Grid) → IsWhole grid → (m : ℕ) (deed : Deed) → IsNext grid m deed → IsWhole (pushed grid m deed)
 whole_pushed grid whole m deed next = record {
   sound = record {
+    few = whole.sound.few;
     lawful = at_each grid m deed (λ i h. IsLawful (identity grid i) (grid.opening i) h) (
       next.lawful,
       whole.sound.lawful m,

@@ -1,13 +1,13 @@
 -- Laws 3 to 5.
-use Rattle.std.proofs.Common.{bytes_eq, ◌≡◌, ◌⊎◌, ℕ, ◌≤◌, List, [], ◌∷◌, ◌++◌, Bool, true, false, refl, sym, ap, ◌∙◌, subst, inl, inr}
+use Rattle.std.proofs.Common.{bytes_eq, ◌≡◌, ◌⊎◌, ℕ, ◌≤◌, List, [], ◌∷◌, ◌++◌, Bool, true, false, not, refl, sym, ap, ◌∙◌, subst, inl, inr}
 use Rattle.std.proofs.Common.{⊎_elim, arith}
 use Rattle.std.specs.Prelude.{Option, Some, None, option_and_then}
 use Rattle.gr_history.specs.declared.identity.Identity.{Identity}
 use Rattle.gr_stamp.specs.declared.change.Change.{Change}
 use Rattle.gr_stamp.specs.declared.change.Kind.{Kind}
-use Rattle.gr_stamp.specs.declared.change.Kind.TheVariants.{Put, Remove}
+use Rattle.gr_stamp.specs.declared.change.Kind.TheVariants.{Put, Invalid, Remove}
 use Rattle.gr_stamp.specs.Version.{beats}
-use Rattle.gr_stamp.specs.Winner.{winner, holds, put_value, is_removal}
+use Rattle.gr_stamp.specs.Winner.{winner, holds, leaves, is_there, put_value, is_removal}
 use Rattle.std.proofs.lemmas.Slice.Eq.{bytes_eq-Decides}
 use Rattle.gr_history.specs.declared.image.Image.{Image}
 use Rattle.gr_history.specs.declared.verdict.Verdict.TheVariants.{Applied, Discarded, Repeat}
@@ -251,6 +251,7 @@ no_winner key all none = at_winner (winner key all) (winner-best key all)
 
 no_value : (kind : Kind) → is_removal kind ≡ true → put_value kind ≡ None
 no_value (Put value) h = absurd (true_isnt_false (sym h))
+no_value Invalid h = absurd (true_isnt_false (sym h))
 no_value Remove h = refl
 
 held_from : (grid : Grid) → IsSound grid → (key : List ℕ) (past : List Deed)
@@ -264,14 +265,15 @@ held_from grid sound key past made_ h = at_standing (standing key past) refl h
     at_standing : (o : Option Change) → standing key past ≡ o → IsSettled key (took grid past) (gone grid past) o → IsHeld grid key past
     at_standing (Some best) e b =
         let w = winner_is grid sound key (took grid past) made_ best b in
-        record { present_is = rw (e, w) refl; stands = λ change is puts. e ∙ sym w ∙ is }
+        record { present_is = rw (e, w) refl; there_is = rw (e, w) refl; stands = λ change is puts. e ∙ sym w ∙ is }
     at_standing None e (inl none) =
         let w = no_winner key (took grid past) none in
-        record { present_is = rw (e, w) refl; stands = λ change is puts. e ∙ sym w ∙ is }
+        record { present_is = rw (e, w) refl; there_is = rw (e, w) refl; stands = λ change is puts. e ∙ sym w ∙ is }
     at_standing None e (inr t) =
         let w = winner_is grid sound key (took grid past) made_ t.0 t.1 in
         record {
           present_is = rw (e, w) (sym (no_value t.0.kind t.2));
+          there_is = rw (e, w) (sym (ap not t.2));
           stands = λ change is puts. absurd
               (true_isnt_false (sym t.2 ∙ (subst (λ c. is_removal c.kind ≡ false) (sym (some_same t.0 change (sym w ∙ is))) puts)));
         }
@@ -391,30 +393,27 @@ same_value-holds grid whole i j one two o p key into back =
     let w = one_winner grid whole.sound key (took grid one) (took grid two) (took_made grid whole.sound i one o)
     (took_made grid whole.sound j two p) into back in
     let e : holds key (took grid one) ≡ holds key (took grid two) = rw w refl in
-    (law_3-holds grid whole i one o key).present_is ∙ e ∙ sym (law_3-holds grid whole j two p key).present_is
+    let l : leaves key (took grid one) ≡ leaves key (took grid two) = ap is_there w in (
+      (law_3-holds grid whole i one o key).present_is ∙ e ∙ sym (law_3-holds grid whole j two p key).present_is,
+      (law_3-holds grid whole i one o key).there_is ∙ l ∙ sym (law_3-holds grid whole j two p key).there_is,
+    )
 
--- a put that stands has won
+-- a put or an invalidation that stands has won
 standing_won : (grid : Grid) (key : List ℕ) (past : List Deed) → IsHeld grid key past → (held : Change) → standing key past ≡ Some held
     → is_removal held.kind ≡ false → winner key (took grid past) ≡ Some held
 standing_won grid key past law held is puts = at_winner (winner key (took grid past)) refl
   where
-    shown : present key past ≡ put_value held.kind
-    shown = ap (option_and_then (λ change. put_value change.kind)) is
+    left : leaves key (took grid past) ≡ true
+    left = sym law.there_is ∙ ap is_there is ∙ ap not puts
 
-    isnt_none : (kind : Kind) → is_removal kind ≡ false → None ≡ put_value kind → ⊥
-    isnt_none (Put value) h e = cc
-    isnt_none Remove h e = true_isnt_false h
-
-    puts_too : (one two : Kind) → is_removal two ≡ false → put_value one ≡ put_value two → is_removal one ≡ false
-    puts_too (Put value) two h e = refl
-    puts_too Remove two h e = absurd (isnt_none two h e)
+    stays : (kind : Kind) → not (is_removal kind) ≡ true → is_removal kind ≡ false
+    stays (Put value) h = refl
+    stays Invalid h = refl
+    stays Remove h = absurd (true_isnt_false (sym h))
 
     at_winner : (o : Option Change) → winner key (took grid past) ≡ o → o ≡ Some held
-    at_winner None none =
-        absurd (isnt_none held.kind puts (sym (law.present_is ∙ ap (option_and_then (λ change. put_value change.kind)) none) ∙ shown))
-    at_winner (Some best) won =
-        let same = sym (law.present_is ∙ ap (option_and_then (λ change. put_value change.kind)) won) ∙ shown in
-        sym (law.stands best won (puts_too best.kind held.kind puts same)) ∙ is
+    at_winner None none = absurd (true_isnt_false (sym left ∙ ap is_there none))
+    at_winner (Some best) won = sym (law.stands best won (stays best.kind (sym (ap is_there won) ∙ left))) ∙ is
 
 pub same_entry-holds : (grid : Grid) → IsWhole grid → same_entry grid
 same_entry-holds grid whole i j one two o p key into back held is puts =

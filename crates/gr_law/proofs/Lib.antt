@@ -5,6 +5,9 @@ pub mod Steps
 pub mod Images
 pub mod Reached
 pub mod Took
+pub mod Bits
+pub mod Expired
+pub mod Joiners
 pub mod Late
 pub mod Settled
 pub mod Imaged

@@ -10,7 +10,7 @@ use Rattle.gr_history.specs.declared.ask.Ask.{Ask}
 use Rattle.gr_history.specs.declared.reply.Reply.{Reply}
 use Rattle.gr_history.specs.declared.reply.Told.{Told}
 use Rattle.gr_history.specs.declared.reply.Reply.TheVariants.{Limit, NotReady}
-use Rattle.gr_history.specs.Asks.{key_of, told}
+use Rattle.gr_history.specs.Asks.{at_key, key_of, told}
 use Rattle.gr_history.specs.Calls.{call_gives, given, nothing_made, made_change, reach, last_rv}
 use Rattle.gr_history.specs.Recipients.{recipients, is_ready}
 use Rattle.gr_vector.specs.Ids.{Id, has_id, is_same_id, top}
@@ -18,7 +18,7 @@ use Rattle.gr_history.specs.declared.deed.Deed.{Deed}
 use Rattle.gr_history.specs.declared.deed.Deed.TheVariants.{Call}
 use Rattle.gr_history.specs.Ids.{id_of, ids_at, ids}
 use Rattle.gr_history.specs.Made.{made_at, made}
-use Rattle.gr_history.specs.Standing.{present}
+use Rattle.gr_history.specs.Standing.{there, present}
 use Rattle.gr_law.specs.Grids.{identity, Among, Older, at_place, Grid}
 use Rattle.gr_law.specs.Integrity.{IsMade, IsGenuine, IsSound}
 use Rattle.gr_history.specs.Lawful.{IsLawful, IsLawfulDeed}
@@ -123,12 +123,29 @@ gives_stamped : (id : Identity) (opening : ℕ) (past : List Deed) (ask : Ask) (
 gives_stamped id opening past ask change h = at_test (is_ready id past) h
   where
     answer : Told
-    answer = told ask (present (key_of ask) past)
+    answer = told ask (at_key (there (key_of ask) past) (present (key_of ask) past))
 
     at_test : (b : Bool) → (if b then given id opening past (key_of ask) answer.reply answer.change else nothing_made NotReady).made
         ≡ Some change
         → IsStamped id.member opening past change
     at_test true h = given_stamped id opening past (key_of ask) answer.reply answer.change change h
+    at_test false h = absurd (no h)
+      where
+        no : None ≡ Some change → ⊥
+        no e = cc
+
+-- who makes a change is ready
+pub gives_ready : (id : Identity) (opening : ℕ) (past : List Deed) (ask : Ask) (change : Change)
+    → (call_gives id opening past ask).made ≡ Some change → is_ready id past ≡ true
+gives_ready id opening past ask change h = at_test (is_ready id past) h
+  where
+    answer : Told
+    answer = told ask (at_key (there (key_of ask) past) (present (key_of ask) past))
+
+    at_test : (b : Bool) → (if b then given id opening past (key_of ask) answer.reply answer.change else nothing_made NotReady).made
+        ≡ Some change
+        → b ≡ true
+    at_test true h = refl
     at_test false h = absurd (no h)
       where
         no : None ≡ Some change → ⊥

@@ -6,7 +6,7 @@ use Rattle.gr_history.specs.Recipients.{recipients}
 use Rattle.gr_history.specs.declared.deed.Deed.{Deed}
 use Rattle.gr_history.specs.Standing.{standing}
 use Rattle.gr_history.specs.Floor.{floor}
-use Rattle.gr_history.specs.Stable.{is_due}
+use Rattle.gr_history.specs.Stable.{is_due, is_stable}
 use Rattle.gr_law.specs.Grids.{identity, at_place}
 use Rattle.gr_law.specs.Small.{key, second, image, history_1, history_2, history_3, history, small}
 use Rattle.gr_history.specs.Lawful.{IsLawful}
@@ -14,15 +14,15 @@ use Rattle.gr_law.specs.Integrity.{IsGenuine, IsImagedOnce, AreHeard, IsWhole, I
 
 lawful_1 : IsLawful (identity small 1) 0 history_1
 unfolding recipients
-lawful_1 = (tt, (record { member_is = refl; at_is = refl; own_is = refl; vector_is = refl }, (refl, (refl, tt))))
+lawful_1 = (tt, (record { member_is = refl; at_is = refl; own_is = refl; to_is = refl; vector_is = refl }, (refl, (refl, tt))))
 
 lawful_2 : IsLawful (identity small 2) 0 history_2
-unfolding recipients
+unfolding recipients is_stable
 lawful_2 = (tt, (refl, (tt, (tt, (refl, (refl, tt))))))
 
 lawful_3 : IsLawful (identity small 3) 0 history_3
 unfolding recipients
-lawful_3 = (refl, (refl, (refl, (record { member_is = refl; at_is = refl; own_is = refl; vector_is = refl }, (refl, tt)))))
+lawful_3 = (refl, (refl, (refl, (record { member_is = refl; at_is = refl; own_is = refl; to_is = refl; vector_is = refl }, (refl, tt)))))
 
 pub stands_3 : standing key history_3 ≡ Some second
 stands_3 = refl
@@ -37,6 +37,7 @@ not_yet : is_due (identity small 2) 599 (at_place 4 history_2) key ≡ false
 not_yet = refl
 
 now : is_due (identity small 2) 600 (at_place 4 history_2) key ≡ true
+unfolding is_stable
 now = refl
 
 each : (P : ℕ → List Deed → Type 0) → P 1 history_1 → P 2 history_2 → P 3 history_3 → ((m : ℕ) → P m []) → (m : ℕ) → P m (history m)
@@ -74,6 +75,7 @@ gift = record {
 pub small-whole : IsWhole small
 small-whole = record {
   sound = record {
+    few = omega arith;
     lawful = each (λ m h. IsLawful (identity small m) 0 h) lawful_1 lawful_2 lawful_3 (λ m. tt);
     genuine = each (λ m h. IsGenuine small m h) (tt, (tt, (inl refl, (tt, tt)))) (tt, (tt, (tt, (tt, (tt, (inl refl, tt)))))) (
       tt,

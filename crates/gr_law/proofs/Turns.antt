@@ -1,5 +1,5 @@
 -- Which keys each kind of deed turns.
-use Rattle.std.proofs.Common.{suc, ◌≡◌, ◌⊎◌, ℕ, ◌+◌, ◌≤◌, List, [], ◌∷◌, Bool, true, false, refl, sym, ap, ◌∙◌, subst}
+use Rattle.std.proofs.Common.{suc, ◌≡◌, ◌⊎◌, ℕ, ◌+◌, ◌≤◌, List, [], ◌∷◌, Bool, true, false, not, refl, sym, ap, ◌∙◌, subst}
 use Rattle.std.proofs.Common.{inl, inr, ⊎_elim, arith, bytes_eq, if◌then◌else◌}
 use Rattle.std.specs.Prelude.{Option, Some, None, map}
 use Rattle.std.specs.Option.{option_and_then}
@@ -8,9 +8,9 @@ use Rattle.std.proofs.lemmas.Slice.Eq.{bytes_eq-Decides}
 use Rattle.std.proofs.lemmas.List.Kept.{IsStrictlySortedBy-filter}
 use Rattle.gr_stamp.specs.declared.change.Change.{Change}
 use Rattle.gr_stamp.specs.declared.change.Kind.{Kind}
-use Rattle.gr_stamp.specs.declared.change.Kind.TheVariants.{Put, Remove}
+use Rattle.gr_stamp.specs.declared.change.Kind.TheVariants.{Put, Invalid, Remove}
 use Rattle.gr_stamp.specs.Version.{beats}
-use Rattle.gr_stamp.specs.Winner.{winner, wins, put_value, is_removal}
+use Rattle.gr_stamp.specs.Winner.{winner, wins, is_there, put_value, is_removal}
 use Rattle.gr_history.specs.declared.identity.Identity.{Identity}
 use Rattle.gr_history.specs.declared.ask.Ask.{Ask}
 use Rattle.gr_history.specs.declared.reply.Reply.{Reply}
@@ -23,7 +23,7 @@ use Rattle.gr_history.specs.declared.verdict.Verdict.TheVariants.{Applied, Disca
 use Rattle.gr_history.specs.declared.deed.Deed.{Deed}
 use Rattle.gr_history.specs.declared.deed.Deed.TheVariants.{Call, Taken, Gave, Reported, Heard, Swept}
 use Rattle.gr_history.specs.Ids.{id_of, ids}
-use Rattle.gr_history.specs.Standing.{changes, names, lasting, standing, present}
+use Rattle.gr_history.specs.Standing.{changes, names, lasting, standing, there, present}
 use Rattle.gr_history.specs.Stable.{is_due}
 use Rattle.gr_history.specs.Calls.{ver_of, reach}
 use Rattle.gr_law.specs.Grids.{Among}
@@ -218,6 +218,7 @@ removal_absent change h = at_kind change.kind h
   where
     at_kind : (kind : Kind) → is_removal kind ≡ true → put_value kind ≡ None
     at_kind (Put value) h = absurd (cc)
+    at_kind Invalid h = absurd (cc)
     at_kind Remove h = refl
 
 pub swept_absent : (id : Identity) (opening moment : ℕ) (named : List (List ℕ)) (past : List Deed) → IsLawfulDeed id opening (Swept
@@ -226,6 +227,14 @@ pub swept_absent : (id : Identity) (opening moment : ℕ) (named : List (List �
 swept_absent id opening moment named past law key is =
     let due = named_due id opening moment named past law key is in
     (ap (option_and_then (λ c. put_value c.kind)) due.1.stands ∙ removal_absent due.0 due.1.removes, rw is refl)
+
+-- The key of a removal isn't there, neither before a sweep that names it nor behind.
+pub swept_not_there : (id : Identity) (opening moment : ℕ) (named : List (List ℕ)) (past : List Deed) → IsLawfulDeed id opening (Swept
+    moment named) past
+    → (key : List ℕ) → names key named ≡ true → (there key past ≡ false) × (there key (Swept moment named ∷ past) ≡ false)
+swept_not_there id opening moment named past law key is =
+    let due = named_due id opening moment named past law key is in
+    (ap is_there due.1.stands ∙ ap not due.1.removes, rw is refl)
 
 untold : (question : Question) (deed : Deed) (past : List Deed) (keys : List (List ℕ))
     → ((key : List ℕ) → Among key keys → (present key past ≡ None) × (present key (deed ∷ past) ≡ None))

@@ -3,7 +3,7 @@
 use Rattle.std.specs.Prelude.{ℕ, ◌==◌, List, [], ◌∷◌, Some, None, if◌then◌else◌}
 use Rattle.gr_stamp.specs.declared.change.Change.{Change}
 use Rattle.gr_stamp.specs.declared.change.Kind.{Kind}
-use Rattle.gr_stamp.specs.declared.change.Kind.TheVariants.{Put, Remove}
+use Rattle.gr_stamp.specs.declared.change.Kind.TheVariants.{Put, Invalid, Remove}
 use Rattle.gr_oql.specs.Question.{Question}
 use Rattle.gr_history.specs.declared.ask.Ask.TheVariants as asks
 use Rattle.gr_history.specs.declared.reply.Reply.TheVariants as replies
@@ -72,6 +72,17 @@ removal_ignored = two (Taken older Applied ∷ Imaged image ∷ []) (Taken remov
 -- The same of a put with the value that is present.
 abbrev pub put_ignored : Grid
 put_ignored = two (Taken older Applied ∷ Imaged image ∷ []) (Taken newer Applied ∷ Taken older Applied ∷ [])
+
+-- an older removal, and an invalidation that beats it
+abbrev pub gone : Change
+gone = changed Remove 1 2
+
+abbrev pub valueless : Change
+valueless = changed Invalid 2 2
+
+-- The same of an invalidation over a removal: no value is present at either, but the key is lost.
+abbrev pub key_lost : Grid
+key_lost = two (Taken gone Applied ∷ Imaged image ∷ []) (Taken valueless Applied ∷ Taken gone Applied ∷ [])
 
 -- Law 4: a put stands beside a removal with its stamp.
 abbrev pub one_stamp : Grid

@@ -57,6 +57,7 @@ AreHeard grid (deed ∷ past) = IsHeardDeed grid deed × AreHeard grid past
 
 -- lawful histories, with integrity on changes and images
 pub record IsSound (grid : Grid) : Type 0 where
+  pub few : grid.members ≤ 8
   pub lawful : (member : ℕ) → IsLawful (identity grid member) (grid.opening member) (grid.history member)
   pub genuine : (member : ℕ) → IsGenuine grid member (grid.history member)
   pub once : (member : ℕ) → IsImagedOnce (grid.history member)

@@ -3,13 +3,13 @@ use Rattle.std.specs.Prelude.{◌≡◌, ◌≤◌, ◌<◌, ◌∷◌, ◌++◌
 use Rattle.std.specs.Option.{option_to_list}
 use Rattle.gr_stamp.specs.declared.change.Change.{Change}
 use Rattle.gr_stamp.specs.Version.{beats}
-use Rattle.gr_stamp.specs.Winner.{winner, holds, is_removal}
+use Rattle.gr_stamp.specs.Winner.{winner, holds, leaves, is_removal}
 use Rattle.gr_vector.specs.Ids.{has_id}
 use Rattle.gr_history.specs.declared.deed.Deed.{Deed}
 use Rattle.gr_history.specs.declared.deed.Deed.TheVariants.{Call, Asked, Taken, Gave, Imaged, Reported, Heard, Swept}
 use Rattle.gr_history.specs.Ids.{id_of, ids}
 use Rattle.gr_history.specs.Made.{made_at}
-use Rattle.gr_history.specs.Standing.{came, standing, present, changes}
+use Rattle.gr_history.specs.Standing.{came, standing, there, present, changes}
 use Rattle.gr_history.specs.Floor.{expired}
 use Rattle.gr_history.specs.Calls.{reach}
 use Rattle.gr_law.specs.Grids.{Among, Older, Grid}
@@ -68,9 +68,11 @@ law_1 grid = (member : ℕ) (deed : Deed) (past : List Deed) → Older (deed ∷
 abbrev pub law_2 : Grid → Type 0
 law_2 grid = (member : ℕ) → IsLate (grid.history member)
 
--- What is present is the value of the winner of all that was taken in, and where that winner is a put, it stands.
+-- What is present is the value of the winner of all that was taken in, the key is there where that winner is a put
+-- or an invalidation, and then this winner stands.
 pub record IsHeld (grid : Grid) (key : List ℕ) (past : List Deed) : Type 0 where
   pub present_is : present key past ≡ holds key (took grid past)
+  pub there_is : there key past ≡ leaves key (took grid past)
   pub stands : (change : Change) → winner key (took grid past) ≡ Some change → is_removal change.kind ≡ false
       → standing key past ≡ Some change
 
@@ -82,18 +84,20 @@ law_3 grid = (member : ℕ) (past : List Deed) → Older past (grid.history memb
 abbrev pub AreAlso : List ℕ → List Change → List Change → Type 0
 AreAlso key few many = (change : Change) → Among change few → change.key ≡ key → Among change many
 
--- Law 3 of two members: after histories that took in the same changes of a key, one value is present.
+-- Law 3 of two members: after histories that took in the same changes of a key, one value is present, and the key is
+-- there after both or after none.
 abbrev pub same_value : Grid → Type 0
 same_value grid = (i j : ℕ) (one two : List Deed) → Older one (grid.history i) → Older two (grid.history j) → (key : List ℕ)
-    → AreAlso key (took grid one) (took grid two) → AreAlso key (took grid two) (took grid one) → present key one ≡ present key two
+    → AreAlso key (took grid one) (took grid two) → AreAlso key (took grid two) (took grid one)
+    → (present key one ≡ present key two) × (there key one ≡ there key two)
 
--- The same of what stands: where a put stands at one, the same change stands at the other, stamp included.
+-- The same of what stands: where a put or an invalidation stands at one, the same change stands at the other, stamp included.
 abbrev pub same_entry : Grid → Type 0
 same_entry grid = (i j : ℕ) (one two : List Deed) → Older one (grid.history i) → Older two (grid.history j) → (key : List ℕ)
     → AreAlso key (took grid one) (took grid two) → AreAlso key (took grid two) (took grid one)
     → (held : Change) → standing key one ≡ Some held → is_removal held.kind ≡ false → standing key two ≡ Some held
 
--- Law 4 of one history: a put that stands beats each removal of its key that was taken in.
+-- Law 4 of one history: a put or an invalidation that stands beats each removal of its key that was taken in.
 abbrev pub OutlastsRemovals : Grid → List Deed → Type 0
 OutlastsRemovals grid past = (tombstone held : Change) → Among tombstone (took grid past) → is_removal tombstone.kind ≡ true
     → standing tombstone.key past ≡ Some held → is_removal held.kind ≡ false → beats held.stamp tombstone.stamp ≡ true

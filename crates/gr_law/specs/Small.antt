@@ -34,10 +34,10 @@ abbrev pub removal_id : Id
 removal_id = record { member = 2; rv = 1 }
 
 abbrev pub report_1 : Report
-report_1 = record { member = 1; at = 2; own = 1; vector = record { ids = first_id ∷ removal_id ∷ []; spare = 0 } }
+report_1 = record { member = 1; at = 2; own = 1; to = 2; vector = record { ids = first_id ∷ removal_id ∷ []; spare = 0 } }
 
 abbrev pub report_3 : Report
-report_3 = record { member = 3; at = 1; own = 0; vector = record { ids = removal_id ∷ []; spare = 0 } }
+report_3 = record { member = 3; at = 1; own = 0; to = 3; vector = record { ids = removal_id ∷ []; spare = 0 } }
 
 abbrev pub image : Image
 image = record { from = 2; at = 5; rows = []; vector = record { ids = first_id ∷ removal_id ∷ []; spare = 0 }; floor = 2 }

@@ -5,7 +5,7 @@ ghost use Rattle.gr_history.specs.Standing.{standing};
 ghost use Rattle.gr_history.specs.Floor.{floor};
 ghost use Rattle.gr_law.specs.Small.{key, second, history_3, small};
 ghost use Rattle.gr_law.specs.Grids.{Grid, at_place};
-ghost use Rattle.gr_law.specs.Broken.{Breaks, known_unseen, equal_versions, tombstone_again, removal_ignored, put_ignored, one_stamp};
+ghost use Rattle.gr_law.specs.Broken.{Breaks, key_lost, known_unseen, equal_versions, tombstone_again, removal_ignored, put_ignored, one_stamp};
 ghost use Rattle.gr_law.specs.Broken.{row_missing, event_missing};
 ghost use Rattle.gr_law.specs.Laws.{law_0, law_1, law_2, law_3, same_value, same_entry, law_4, law_5};
 ghost use Rattle.gr_law.specs.Queries.{IsAnswered};
@@ -57,7 +57,9 @@ pub fn bad_records_break_the_laws()
     ensures law_2 { Breaks law_2 tombstone_again }
     ensures law_3 { Breaks law_3 removal_ignored }
     ensures stands { Breaks law_3 put_ignored }
+    ensures there { Breaks law_3 key_lost }
     ensures same_value { Breaks same_value removal_ignored }
+    ensures same_key { Breaks same_value key_lost }
     ensures same_entry { Breaks same_entry put_ignored }
     ensures law_4 { Breaks law_4 one_stamp }
     ensures law_5 { Breaks law_5 removal_ignored }

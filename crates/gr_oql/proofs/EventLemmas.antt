@@ -5,8 +5,9 @@ use Rattle.std.proofs.lemmas.Slice.Eq.{bytes_eq-Decides}
 use Rattle.gr_value.specs.declared.value.Field.{Field}
 use Rattle.gr_oql.specs.declared.event.BaseOp.{BaseOp}
 use Rattle.gr_oql.specs.declared.event.Event.{Event}
+use Rattle.gr_oql.specs.declared.event.Turned.{Turned}
 use Rattle.gr_oql.specs.Question.{Question}
-use Rattle.gr_oql.specs.Events.{is_match, query_op, event_of, where_matching, with_told, base_op, Present}
+use Rattle.gr_oql.specs.Events.{is_match, query_op, told, where_matching, with_told, base_op, Present}
 
 -- the event by whether the old and the new value match
 abbrev event_by : Bool → Bool → BaseOp → List ℕ → Option (List Field) → Option Event
@@ -31,13 +32,14 @@ elsewhere true false base key other new present apart = rw apart refl
 elsewhere true true base key other new present apart = rw apart refl
 
 -- An event leaves at its key what matches of the new value, where there stood what matches of the old one.
-pub with_told-there : (question : Question) (key : List ℕ) (old new : Option (List Field)) (present : Present)
-    → present key ≡ where_matching question old → with_told (event_of question key old new) present key ≡ where_matching question new
-with_told-there question key old new present stood =
-    there (is_match question old) (is_match question new) (base_op old new) key old new present stood
+pub with_told-there : (question : Question) (one : Turned) (present : Present)
+    → present one.key ≡ where_matching question one.old → with_told (told question one) present one.key ≡ where_matching question one.new
+with_told-there question one present stood =
+    there (is_match question one.old) (is_match question one.new) (base_op one.had one.has one.new) one.key one.old one.new present stood
 
 -- It leaves all other keys as they were.
-pub with_told-elsewhere : (question : Question) (key other : List ℕ) (old new : Option (List Field)) (present : Present)
-    → bytes_eq other key ≡ false → with_told (event_of question key old new) present other ≡ present other
-with_told-elsewhere question key other old new present apart =
-    elsewhere (is_match question old) (is_match question new) (base_op old new) key other new present apart
+pub with_told-elsewhere : (question : Question) (one : Turned) (other : List ℕ) (present : Present)
+    → bytes_eq other one.key ≡ false → with_told (told question one) present other ≡ present other
+with_told-elsewhere question one other present apart =
+    elsewhere (is_match question one.old) (is_match question one.new) (base_op one.had one.has one.new) one.key other one.new present
+    apart

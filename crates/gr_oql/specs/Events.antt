@@ -33,20 +33,19 @@ query_op false false = None
 abbrev pub classify : Question → Option (List Field) → Option (List Field) → Option QueryOp
 classify question old new = query_op (is_match question old) (is_match question new)
 
--- by whether the old and the new value are there, of which one is
-abbrev pub base_op : Option (List Field) → Option (List Field) → BaseOp
-base_op None (Some new) = base.Create
-base_op (Some old) (Some new) = base.Update
-base_op old None = base.Destroy
+-- What happened to the key: it isn't there any more, it is there without a value, or it has one and was there before
+-- or wasn't.
+abbrev pub base_op : Bool → Bool → Option (List Field) → BaseOp
+base_op had false new = base.Destroy
+base_op had true None = base.Invalidate
+base_op true true (Some new) = base.Update
+base_op false true (Some new) = base.Create
 
--- the event of a query where a key has had the old value and has the new one
-abbrev pub event_of : Question → List ℕ → Option (List Field) → Option (List Field) → Option Event
-event_of question key old new =
-    option_map (λ told. record { op = told; base = base_op old new; key = key; value = new }) (classify question old new)
-
--- what a query is told of a turned key, if anything
+-- What a query is told of a turned key, if anything.
 abbrev pub told : Question → Turned → Option Event
-told question turned = event_of question turned.key turned.old turned.new
+told question turned =
+    option_map (λ told. record { op = told; base = base_op turned.had turned.has turned.new; key = turned.key; value = turned.new })
+    (classify question turned.old turned.new)
 
 -- what it is told of several, in order
 abbrev pub told_all : Question → List Turned → List Event

@@ -20,14 +20,18 @@ pub enum BaseOp {
     Create,
     Update,
     Destroy,
+    Invalidate,
 }
 
-/// A key with its value before and behind a deed, where there is one.
+/// A key with its value before and behind a deed, where there is one, and whether the key was there
+/// and is there, with a value or without.
 #[derive(Drop)]
 pub struct Turned {
     pub key: Key,
     pub old: Option<Value>,
     pub new: Option<Value>,
+    pub had: bool,
+    pub has: bool,
 }
 
 /// What a query tells of a change. The value is the new one, absent where there is none.
@@ -52,7 +56,7 @@ impl Event {
         };
         Ok(Some(Event {
             op,
-            base: base_op(old, new),
+            base: base_op(turned.had, turned.has, new),
             key: turned.key.copy(alloc)?,
             value: copied(alloc, new)?,
         }))
@@ -79,13 +83,15 @@ pub(crate) fn copied(alloc: Global, value: Option<&Value>) -> Result<Option<Valu
     }
 }
 
-fn base_op(old: Option<&Value>, new: Option<&Value>) -> BaseOp
-    ensures { result ≡ base_op (option_copied old.entry) (option_copied new.entry) }
+// What happened to the key, by whether it was there and is there, and its new value.
+fn base_op(had: bool, has: bool, new: Option<&Value>) -> BaseOp
+    ensures { result ≡ base_op had has (option_copied new.entry) }
 {
-    match (old, new) {
-        (None, Some(_)) => BaseOp::Create,
-        (Some(_), Some(_)) => BaseOp::Update,
-        (_, None) => BaseOp::Destroy,
+    match (had, has, new) {
+        (_, false, _) => BaseOp::Destroy,
+        (_, true, None) => BaseOp::Invalidate,
+        (true, true, Some(_)) => BaseOp::Update,
+        (false, true, Some(_)) => BaseOp::Create,
     }
 }
 

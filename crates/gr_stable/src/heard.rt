@@ -1,6 +1,7 @@
 ghost use Rattle.std.specs.Prelude.{◌≡◌, ◌≤◌, [], IfOk, OnOk, OnErr, option_copied};
-ghost use Rattle.gr_history.specs.Stable.{is_covered, is_later};
-ghost use Rattle.gr_stable.specs.Heard.{heard, later_of, with_report, is_stable_by};
+ghost use Rattle.gr_history.specs.Recipients.{is_in_bits};
+ghost use Rattle.gr_history.specs.Stable.{is_covered, is_later, is_named};
+ghost use Rattle.gr_stable.specs.Heard.{heard, later_of, with_report, is_named_by, is_counting_by, is_passed, is_stable_now};
 
 use gr_stamp::Stamp;
 use gr_value::{Copied, Memory};
@@ -67,6 +68,27 @@ fn is_covered(member: u8, tombstone: &Stamp, report: Option<&Report>, vector: &V
     }
 }
 
+// Whether the member is among these, with bit m - 1 for member m.
+fn is_in_bits(member: u8, bits: u8) -> bool
+    requires a_member { 1 ≤ member }
+    requires of_eight { member ≤ 8 }
+    ensures { result ≡ is_in_bits member bits }
+{
+    (bits >> (member - 1)) & 1 == 1
+}
+
+// Whether a report says that changes of its member go to this one.
+fn is_named(member: u8, report: Option<&Report>) -> bool
+    requires a_member { 1 ≤ member }
+    requires of_eight { member ≤ 8 }
+    ensures { result ≡ is_named member (option_copied report.entry) }
+{
+    match report {
+        None => false,
+        Some(report) => is_in_bits(member, report.to),
+    }
+}
+
 impl Heard {
     /// Nothing was heard yet.
     pub fn new(alloc: Global) -> Result<Heard, Memory>
@@ -99,17 +121,73 @@ impl Heard {
         Ok(())
     }
 
-    /// Whether each of the members from 1 on but this one reported that it knows the tombstone, and all
-    /// that it had made by then is in the vector.
-    pub fn stable(&self, tombstone: &Stamp, me: u8, members: u8, vector: &Vector) -> bool
-        requires { members ≤ 8 }
-        ensures { result ≡ is_stable_by me members (record { member = tombstone.now.member; rv = tombstone.now.rv })
+    // Whether the report that counts of one of the founders names the member.
+    fn is_named(&self, member: u8, founders: u8) -> bool
+        requires a_member { 1 ≤ member }
+        requires of_eight { member ≤ 8 }
+        requires few { founders ≤ 8 }
+        ensures { result ≡ is_named_by member founders self.now }
+    {
+        let mut founder = founders;
+        while founder > 0 {
+            if is_named(member, self.reports[usize::from(founder) - 1].as_ref()) {
+                return true;
+            }
+            founder -= 1;
+        }
+        false
+    }
+
+    // Whether the member counts.
+    fn counts(&self, member: u8, founders: u8, given: u8) -> bool
+        requires a_member { 1 ≤ member }
+        requires of_eight { member ≤ 8 }
+        requires few { founders ≤ 8 }
+        ensures { result ≡ is_counting_by founders given member self.now }
+    {
+        member <= founders || is_in_bits(member, given) || self.is_named(member, founders)
+    }
+
+    // Whether the member holds no tombstone back: it is this one, it doesn't count, or it is covered.
+    fn passes(
+        &self,
+        tombstone: &Stamp,
+        me: u8,
+        founders: u8,
+        given: u8,
+        vector: &Vector,
+        member: u8,
+    ) -> bool
+        requires a_member { 1 ≤ member }
+        requires of_eight { member ≤ 8 }
+        requires few { founders ≤ 8 }
+        ensures { result ≡ is_passed me founders given (record { member = tombstone.now.member; rv = tombstone.now.rv })
+            self.now vector.now.ids member }
+    {
+        let report = self.reports[usize::from(member) - 1].as_ref();
+        member == me
+            || !self.counts(member, founders, given)
+            || is_covered(member, tombstone, report, vector)
+    }
+
+    /// Whether each member that counts, but this one, reported that it knows the tombstone, and all that
+    /// it had made by then is in the vector. The founders count, the members that were given something,
+    /// with bit m - 1 for member m, and those to which the founders' reports say that changes go.
+    pub fn stable(
+        &self,
+        tombstone: &Stamp,
+        me: u8,
+        founders: u8,
+        given: u8,
+        vector: &Vector,
+    ) -> bool
+        requires { founders ≤ 8 }
+        ensures { result ≡ is_stable_now me founders given (record { member = tombstone.now.member; rv = tombstone.now.rv })
             self.now vector.now.ids }
     {
-        let mut member = members;
+        let mut member = MEMBERS as u8;
         while member > 0 {
-            let report = self.reports[usize::from(member) - 1].as_ref();
-            if member != me && !is_covered(member, tombstone, report, vector) {
+            if !self.passes(tombstone, me, founders, given, vector, member) {
                 return false;
             }
             member -= 1;

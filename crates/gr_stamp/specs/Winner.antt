@@ -1,11 +1,11 @@
 -- Which of the changes of a key wins.
-use Rattle.std.specs.Prelude.{◌≡◌, ℕ, List, [], ◌∷◌, Bool, true, false, ◌&&◌, IsTrue, Contains, bytes_eq, if◌then◌else◌, Option, Some}
+use Rattle.std.specs.Prelude.{◌≡◌, ℕ, List, [], ◌∷◌, Bool, true, false, ◌&&◌, not, IsTrue, Contains, bytes_eq, if◌then◌else◌, Option, Some}
 use Rattle.std.specs.Prelude.{None, option_and_then, option_map}
 use Rattle.std.specs.List.{AllByRecursion}
 use Rattle.gr_value.specs.declared.value.Field.{Field}
 use Rattle.gr_stamp.specs.declared.change.Change.{Change}
 use Rattle.gr_stamp.specs.declared.change.Kind.{Kind}
-use Rattle.gr_stamp.specs.declared.change.Kind.TheVariants.{Put, Remove}
+use Rattle.gr_stamp.specs.declared.change.Kind.TheVariants.{Put, Invalid, Remove}
 use Rattle.gr_stamp.specs.Version.{beats, decides}
 
 -- whether a change replaces what won before it
@@ -22,15 +22,26 @@ winner key (change ∷ past) =
 -- the value that a kind of change puts
 abbrev pub put_value : Kind → Option (List Field)
 put_value (Put value) = Some value
+put_value Invalid = None
 put_value Remove = None
 
 abbrev pub is_removal : Kind → Bool
 is_removal (Put value) = false
+is_removal Invalid = false
 is_removal Remove = true
 
 -- what the changes leave at a key: the value, where its winner is a put
 abbrev pub holds : List ℕ → List Change → Option (List Field)
 holds key changes = option_and_then (λ change. put_value change.kind) (winner key changes)
+
+-- whether a key is there where this won, as a put or without a value
+abbrev pub is_there : Option Change → Bool
+is_there None = false
+is_there (Some change) = not (is_removal change.kind)
+
+-- whether the changes leave a key there
+abbrev pub leaves : List ℕ → List Change → Bool
+leaves key changes = is_there (winner key changes)
 
 -- the key has no change among these
 abbrev pub HasNoChange : List ℕ → List Change → Type 0

@@ -8,6 +8,8 @@ use std::alloc::Global;
 #[derive(Drop)]
 pub enum Kind {
     Put(Value),
+    /// The key stays, without a value.
+    Invalid,
     Remove,
 }
 
@@ -15,6 +17,7 @@ impl Copied for Kind {
     fn copy(&self, alloc: Global) -> Result<Kind, Memory> {
         match self {
             Kind::Put(value) => Ok(Kind::Put(value.copy(alloc)?)),
+            Kind::Invalid => Ok(Kind::Invalid),
             Kind::Remove => Ok(Kind::Remove),
         }
     }
