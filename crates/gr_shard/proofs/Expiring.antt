@@ -10,15 +10,16 @@ use Rattle.gr_history.specs.declared.deed.Deed.TheVariants.{Swept}
 use Rattle.gr_history.specs.Clock.{clock as clock_of}
 use Rattle.gr_history.specs.Floor.{floor as floor_of}
 use Rattle.gr_history.specs.Stable.{due}
-use Rattle.gr_history.specs.Standing.{names, present}
+use Rattle.gr_history.specs.Standing.{names}
 use Rattle.gr_history.specs.Turned.{turned, turned_at}
-use Rattle.gr_law.proofs.Turns.{swept_absent, swept_keys}
+use Rattle.gr_law.proofs.Turns.{swept_absent, swept_keys, swept_not_there}
 use Rattle.gr_shard.specs.declared.effect.SlotsAfter.TheVariants as slots_
 use Rattle.gr_shard.specs.Effects.{unchanged}
 use Rattle.gr_shard.specs.Prepared.{IsFit}
 use Rattle.gr_shard.specs.Sweeps.{risen, valueless, without_all}
 use Rattle.gr_shard.specs.View.{Account, IsKept}
 use Rattle.gr_shard.proofs.Sweeps.{floor_swept, kept_swept}
+use Rattle.gr_shard.proofs.Turning.{same_turned}
 
 -- ---- what a sweep turns
 
@@ -33,20 +34,22 @@ names_later first key keys is = at_first (bytes_eq first key)
     at_first false = is
 
 valueless_at : (deed : Deed) (past : List Deed) (keys : List (List ℕ))
-    → ((key : List ℕ) → names key keys ≡ true → (present key past ≡ None) × (present key (deed ∷ past) ≡ None))
+    → ((key : List ℕ) → names key keys ≡ true → turned_at deed past key ≡ valueless key)
     → map (turned_at deed past) keys ≡ map valueless keys
 valueless_at deed past [] absent = refl
 valueless_at deed past (key ∷ keys) absent =
-    let here = absent key (names_first key keys) in
-    rw (here.0, here.1)
-    (ap (λ rest. valueless key ∷ rest) (valueless_at deed past keys (λ other is. absent other (names_later key other keys is))))
+    ap (λ one. one ∷ map (turned_at deed past) keys) (absent key (names_first key keys))
+    ∙ ap (λ rest. valueless key ∷ rest) (valueless_at deed past keys (λ other is. absent other (names_later key other keys is)))
 
--- A sweep turns what is due, which has no value before and behind.
+-- A sweep turns what is due, which is there neither before nor behind.
 pub turned_swept : (id : Identity) (opening moment : ℕ) (expired : List (List ℕ)) (past : List Deed) → expired ≡ due id moment past
     → turned (Swept moment expired) past ≡ map valueless expired
 turned_swept id opening moment expired past is =
     ap (map (turned_at (Swept moment expired) past)) (swept_keys id opening moment expired past is)
-    ∙ valueless_at (Swept moment expired) past expired (swept_absent id opening moment expired past is)
+    ∙ valueless_at (Swept moment expired) past expired (λ key named.
+    let absent = swept_absent id opening moment expired past is key named in
+    let gone = swept_not_there id opening moment expired past is key named in
+    same_turned key absent.0 absent.1 gone.0 gone.1)
 
 -- ---- what it keeps
 

@@ -6,7 +6,7 @@ use Rattle.std.proofs.lemmas.Bool.Decides.{nat_tests}
 use Rattle.gr_value.specs.Shard.{shard_of}
 use Rattle.gr_stamp.specs.declared.change.Change.{Change}
 use Rattle.gr_stamp.specs.Version.{beats}
-use Rattle.gr_stamp.specs.Winner.{wins, put_value}
+use Rattle.gr_stamp.specs.Winner.{wins}
 use Rattle.gr_vector.specs.Ids.{has_id}
 use Rattle.gr_vector.specs.Order.{with_id}
 use Rattle.gr_history.specs.declared.identity.Identity.{Identity}
@@ -36,7 +36,7 @@ use Rattle.gr_shard.proofs.Made.{IsMade, made_by_call}
 use Rattle.gr_shard.specs.Telling.{turned_by_change}
 use Rattle.gr_shard.proofs.KeptOn.{kept_on}
 use Rattle.gr_shard.proofs.Named.{call_below}
-use Rattle.gr_shard.proofs.Turning.{told_in_step, value-slot_at}
+use Rattle.gr_shard.proofs.Turning.{same_turned, there-slot_at, told_in_step, value-slot_at}
 use Rattle.gr_shard.proofs.Slots.{stands_unchanged, stands_with, stands_after, stands_still}
 
 -- a change that was made wins over what stood
@@ -122,7 +122,8 @@ slots_taken id opening now past change Repeat kept is =
 pub turned_change : (change : Change) (past : List Deed) (slots : Entries) → Hold slots past
     → turned_to change past ∷ [] ≡ turned_by_change slots (Some change)
 turned_change change past slots stands =
-    ap (λ v. record { key = change.key; old = v; new = put_value change.kind } ∷ []) (sym (value-slot_at change.key slots past stands))
+    ap (λ one. one ∷ []) (same_turned change.key (sym (value-slot_at change.key slots past stands)) refl
+    (sym (there-slot_at change.key slots past stands)) refl)
 
 pub turned_taken : (change : Change) (told : Verdict) (past : List Deed) (slots : Entries) → told ≡ verdict past change → Hold slots past
     → turned (Taken change told) past ≡ turned_by_change slots (applied told change)

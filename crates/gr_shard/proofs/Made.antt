@@ -6,7 +6,7 @@ use Rattle.gr_stamp.specs.declared.change.Change.{Change}
 use Rattle.gr_stamp.specs.declared.change.Kind.{Kind}
 use Rattle.gr_stamp.specs.declared.stamp.TheConstants.{LIMIT}
 use Rattle.gr_stamp.specs.Version.{Version, IsInRange}
-use Rattle.gr_stamp.specs.Winner.{put_value}
+use Rattle.gr_stamp.specs.Winner.{is_there, put_value}
 use Rattle.gr_history.specs.declared.identity.Identity.{Identity}
 use Rattle.gr_history.specs.declared.reply.Reply.{Reply}
 use Rattle.gr_history.specs.declared.reply.Reply.TheVariants.{Limit, NotReady}
@@ -17,14 +17,15 @@ use Rattle.gr_history.specs.declared.ask.Ask.{Ask}
 use Rattle.gr_history.specs.Ids.{ids, known}
 use Rattle.gr_law.proofs.Lists.{known_ids}
 use Rattle.gr_vector.proofs.Same.{same_top}
-use Rattle.gr_history.specs.Asks.{key_of, told}
+use Rattle.gr_history.specs.Asks.{at_key, key_of, told}
 use Rattle.gr_history.specs.Verdicts.{verdict_over}
-use Rattle.gr_history.specs.Standing.{standing, present}
+use Rattle.gr_history.specs.Standing.{standing, there, present}
 use Rattle.gr_history.specs.Floor.{floor}
 use Rattle.gr_history.specs.Recipients.{member_bits, recipients, is_ready}
 use Rattle.gr_history.specs.Calls.{ver_of, reach, last_rv, made_change, given, ready_gives, call_gives, nothing_made}
 use Rattle.gr_shard.specs.Entries.{slot_of, slot_ver, verdict_at}
 use Rattle.gr_shard.specs.Calls.{given_with}
+use Rattle.gr_shard.specs.Telling.{slot_there}
 
 -- The bits of one member more: its own bit is there where the member passes the test.
 bits_at : (test : ℕ → Bool) (n bit : ℕ) → bit ≡ 2 ^ n → member_bits test (n + 1) ≡ member_bits test n + (if test (n + 1) then bit else 0)
@@ -51,6 +52,10 @@ pub value-slot_of : (stands : Option Change) (since : ℕ)
     → option_and_then (λ slot. put_value slot.kind) (slot_of stands since) ≡ option_and_then (λ change. put_value change.kind) stands
 value-slot_of None since = refl
 value-slot_of (Some change) since = refl
+
+pub there-slot_of : (stands : Option Change) (since : ℕ) → slot_there (slot_of stands since) ≡ is_there stands
+there-slot_of None since = refl
+there-slot_of (Some change) since = refl
 
 pub verdict-slot_of : (known : Bool) (stands : Option Change) (since : ℕ) (change : Change)
     → verdict_at known (slot_of stands since) change.stamp ≡ verdict_over known stands change
@@ -182,7 +187,7 @@ made_by_call id opening past ask reply change to gives = at_ready (is_ready id p
 
     at_ready : (b : Bool) → is_ready id past ≡ b → IsMade id opening past (key_of ask) change
     at_ready true ready =
-        let answer = told ask (present (key_of ask) past) in
+        let answer = told ask (at_key (there (key_of ask) past) (present (key_of ask) past)) in
         let is : done ≡ ready_gives id opening past ask =
         gives ∙ ap (λ b. if b then ready_gives id opening past ask else nothing_made NotReady) ready in
         made_by_given id opening past (key_of ask) answer.reply answer.change change (ap (λ d. d.made) (sym is))

@@ -16,10 +16,10 @@ use Rattle.gr_history.specs.declared.reply.Reply.TheVariants.{Limit, NotReady}
 use Rattle.gr_history.specs.declared.deed.Deed.{Deed}
 use Rattle.gr_history.specs.declared.deed.Deed.TheVariants.{Call, Asked, Taken, Gave, Imaged, Reported, Heard, Swept}
 use Rattle.gr_history.specs.declared.done.Done.{Done}
-use Rattle.gr_history.specs.Asks.{key_of, told}
+use Rattle.gr_history.specs.Asks.{at_key, key_of, told}
 use Rattle.gr_history.specs.Calls.{reach, last_rv, made_change, given, ready_gives, call_gives, nothing_made}
 use Rattle.gr_history.specs.Recipients.{NamesMembers, gave_to, is_ready, is_recipient, member_bits, recipients}
-use Rattle.gr_history.specs.Standing.{present}
+use Rattle.gr_history.specs.Standing.{there, present}
 use Rattle.gr_shard.proofs.Made.{made_by_call}
 
 positive : (few : ℕ) → 0 < 2 ^ few
@@ -95,7 +95,8 @@ module _ (id : Identity) (opening : ℕ) (past : List Deed) where
     where
       at_test : (b : Bool) → (if b then ready_gives id opening past ask else nothing_made NotReady).to < 2 ^ id.members
       at_test true =
-          given_below (key_of ask) (told ask (present (key_of ask) past)).reply (told ask (present (key_of ask) past)).change founded all
+          let answer = told ask (at_key (there (key_of ask) past) (present (key_of ask) past)) in
+          given_below (key_of ask) answer.reply answer.change founded all
       at_test false = positive id.members
 
   -- What a call gives goes to members of 1 to `members`,

@@ -80,7 +80,7 @@ ready_for queries (Closed client name) made room = tt
 -- ---- deeds that turn no key
 
 module _ (account : Account) (some : 1 ≤ account.spare) where
-  pub fit_reported : (report : Report) → IsReportOf account.id.member (reverse account.deeds) report
+  pub fit_reported : (report : Report) → IsReportOf account.id (reverse account.deeds) report
       → IsFit account (Reported report) unchanged
   fit_reported report is = record {
     room = some;

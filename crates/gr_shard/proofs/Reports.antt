@@ -15,7 +15,7 @@ use Rattle.gr_shard.proofs.KeptOn.{kept_on}
 use Rattle.gr_shard.proofs.Slots.{stands_unchanged}
 
 module _ (id : Identity) (opening : ℕ) (now : Kept) (past : List Deed) where
-  pub kept_reported : (report : Report) → IsKept id opening now past → IsReportOf id.member past report
+  pub kept_reported : (report : Report) → IsKept id opening now past → IsReportOf id past report
       → IsKept id opening now (Reported report ∷ past)
   unfolding recipients
   kept_reported report kept is =

@@ -13,7 +13,9 @@ use Rattle.std.specs.BTreeSet.{insert_key}
 use Rattle.std.specs.Map.{keys_of as keys_in}
 use Rattle.std.proofs.lemmas.Slice.Eq.{bytes_eq-Decides}
 use Rattle.std.proofs.lemmas.Map.Text.{is_eq-slice_cmp}
+use Rattle.gr_value.specs.declared.value.Field.{Field}
 use Rattle.gr_stamp.specs.declared.change.Change.{Change}
+use Rattle.gr_stamp.specs.Winner.{is_there}
 use Rattle.gr_oql.specs.declared.event.Event.{Event}
 use Rattle.gr_oql.specs.declared.event.Turned.{Turned}
 use Rattle.gr_cq.specs.Entries.{Entry, Kept, Queries, coming_to, kept_noted, noted}
@@ -32,10 +34,10 @@ use Rattle.gr_slots.specs.Slots.{Entries, slot_at}
 use Rattle.gr_shard.specs.Asking.{Hold}
 use Rattle.gr_shard.specs.Entries.{slot_of}
 use Rattle.gr_shard.specs.InStep.{IsInStep, IsUnasked}
-use Rattle.gr_shard.specs.Telling.{IsForeseen, IsReady, is_other_slot, slot_value, told_of, turned_between, turned_slot, with_keys}
+use Rattle.gr_shard.specs.Telling.{IsForeseen, IsReady, is_other_slot, slot_there, slot_value, told_of, turned_between, turned_slot, with_keys}
 use Rattle.gr_shard.proofs.Following.{noted_in_step}
 use Rattle.gr_shard.proofs.Left.{with_key-sorted}
-use Rattle.gr_shard.proofs.Made.{value-slot_of}
+use Rattle.gr_shard.proofs.Made.{there-slot_of, value-slot_of}
 
 -- ---- queries that are told of no key
 
@@ -150,6 +152,18 @@ pub value-slot_at : (key : List ℕ) (slots : Entries) (past : List Deed) → Ho
     → slot_value (slot_at key slots) ≡ value_of (standing key past)
 value-slot_at key slots past stands = ap slot_value (stands key) ∙ value-slot_of (standing key past) (since key past)
 
+pub there-slot_at : (key : List ℕ) (slots : Entries) (past : List Deed) → Hold slots past
+    → slot_there (slot_at key slots) ≡ is_there (standing key past)
+there-slot_at key slots past stands = ap slot_there (stands key) ∙ there-slot_of (standing key past) (since key past)
+
+abbrev turned_with : List ℕ → Option (List Field) → Option (List Field) → Bool → Bool → Turned
+turned_with key old new had has = record { key = key; old = old; new = new; had = had; has = has }
+
+-- keys that turned alike
+pub same_turned : (key : List ℕ) {a b c d : Option (List Field)} {i j k l : Bool} → a ≡ b → c ≡ d → i ≡ j → k ≡ l
+    → turned_with key a c i k ≡ turned_with key b d j l
+same_turned key old new had has = cc
+
 nothing : IsInOrder []
 unfolding IsStrictlySortedBy
 nothing = tt
@@ -175,5 +189,5 @@ turned_by_slots deed past old new before behind =
 
     values : (key : List ℕ) → turned_at deed past key ≡ turned_slot old new key
     values key =
-        ap (λ v. record { key = key; old = v; new = value_of (standing key (deed ∷ past)) }) (sym (value-slot_at key old past before))
-        ∙ ap (λ v. record { key = key; old = slot_value (slot_at key old); new = v }) (sym (value-slot_at key new (deed ∷ past) behind))
+        same_turned key (sym (value-slot_at key old past before)) (sym (value-slot_at key new (deed ∷ past) behind))
+        (sym (there-slot_at key old past before)) (sym (there-slot_at key new (deed ∷ past) behind))

@@ -73,7 +73,7 @@ Gives id opening past (next.Give to what) answer deed =
     × (deed ≡ Gave to what)
 Gives id opening past (next.Merge image) answer deed = (answer ≡ came.Merged) × (deed ≡ Imaged image.now)
 Gives id opening past next.Tell answer deed =
-    (report : Report) × (answer ≡ came.Told report) × IsReportOf id.member past report × (report.vector.spare ≡ 0)
+    (report : Report) × (answer ≡ came.Told report) × IsReportOf id past report × (report.vector.spare ≡ 0)
     × (deed ≡ Reported report)
 Gives id opening past (next.Hear report) answer deed = (answer ≡ came.Heard) × (deed ≡ Heard report.now)
 Gives id opening past (next.Sweep moment) answer deed =

@@ -25,4 +25,4 @@ risen slots floor keys = fold (λ now key. max now (slot_ver (slot_at key slots)
 
 -- a key without a value, before and behind
 abbrev pub valueless : List ℕ → Turned
-valueless key = record { key = key; old = None; new = None }
+valueless key = record { key = key; old = None; new = None; had = false; has = false }

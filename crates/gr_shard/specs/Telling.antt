@@ -4,7 +4,7 @@ use Rattle.std.specs.List.{fold}
 use Rattle.std.specs.Map.{keys_of}
 use Rattle.gr_value.specs.declared.value.Field.{Field}
 use Rattle.gr_stamp.specs.declared.change.Change.{Change}
-use Rattle.gr_stamp.specs.Winner.{put_value}
+use Rattle.gr_stamp.specs.Winner.{is_removal, put_value}
 use Rattle.gr_oql.specs.declared.event.Turned.{Turned}
 use Rattle.gr_cq.specs.Entries.{Entry, Queries, noted}
 use Rattle.gr_cq.specs.Foresight.{Foresight, IsMadeFor, changed}
@@ -17,11 +17,21 @@ use Rattle.gr_slots.specs.Slots.{Entries, slot_at}
 abbrev pub slot_value : Option Slot → Option (List Field)
 slot_value slot = option_and_then (λ s. put_value s.kind) slot
 
+-- whether the key of a slot is there, with a value or without
+abbrev pub slot_there : Option Slot → Bool
+slot_there None = false
+slot_there (Some slot) = not (is_removal slot.kind)
+
 -- A change that comes in turns its key, over what stands there.
 abbrev pub turned_by_change : Entries → Option Change → List Turned
 turned_by_change slots None = []
-turned_by_change slots (Some change) =
-    record { key = change.key; old = slot_value (slot_at change.key slots); new = put_value change.kind } ∷ []
+turned_by_change slots (Some change) = record {
+  key = change.key;
+  old = slot_value (slot_at change.key slots);
+  new = put_value change.kind;
+  had = slot_there (slot_at change.key slots);
+  has = not (is_removal change.kind);
+} ∷ []
 
 -- whether another change stands, told by its stamp
 abbrev pub is_other_slot : Option Slot → Option Slot → Bool
@@ -35,7 +45,13 @@ abbrev pub with_keys : List (List ℕ) → Entries → List (List ℕ)
 with_keys keys slots = fold (λ more key. with_key key more) keys (keys_of slots)
 
 abbrev pub turned_slot : Entries → Entries → List ℕ → Turned
-turned_slot old new key = record { key = key; old = slot_value (slot_at key old); new = slot_value (slot_at key new) }
+turned_slot old new key = record {
+  key = key;
+  old = slot_value (slot_at key old);
+  new = slot_value (slot_at key new);
+  had = slot_there (slot_at key old);
+  has = slot_there (slot_at key new);
+}
 
 -- the keys at which other changes stand than before, with their values before and behind, in order
 abbrev pub turned_between : Entries → Entries → List Turned

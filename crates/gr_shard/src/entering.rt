@@ -2,6 +2,7 @@ ghost use Rattle.std.specs.Prelude.{◌≡◌, ◌≤◌, IfOk, OnOk, OnErr, opt
 ghost use Rattle.gr_stamp.specs.Winner.{put_value};
 ghost use Rattle.gr_shard.specs.Effects.{arriving, noting};
 ghost use Rattle.gr_shard.specs.Entries.{slot_ver, with_change, applied, verdict_at};
+ghost use Rattle.gr_shard.specs.Telling.{slot_there};
 
 use crate::effect::{IdsAfter, SlotsAfter};
 use gr_history::Verdict;
@@ -15,6 +16,16 @@ pub fn value_of(slot: Option<&Slot>) -> Option<&Value>
     ensures { option_copied result ≡ option_and_then (λ s. put_value s.kind) (option_copied slot.entry) }
 {
     slot?.value()
+}
+
+/// Whether the key of what stands is there, with a value or without.
+pub fn is_there(slot: Option<&Slot>) -> bool
+    ensures { result ≡ slot_there (option_copied slot.entry) }
+{
+    match slot {
+        None => false,
+        Some(slot) => slot.is_there(),
+    }
 }
 
 /// The version of what stands, or 0.

@@ -12,16 +12,16 @@ use gr_value::{Copied, Key, Memory};
 use gr_vector::Vector;
 use std::alloc::Global;
 
-// Puts what stands at a key last, where it is a put.
-fn push_put(alloc: Global, rows: &mut ChangeList, key: &Key, slot: &Slot) -> Result<(), Memory>
+// Puts what stands at a key last, where the key is there.
+fn push_change(alloc: Global, rows: &mut ChangeList, key: &Key, slot: &Slot) -> Result<(), Memory>
     ensures { OnOk result (rows.new ≡ rows.old ++ puts_of (change_of key.now slot.now ∷ [])) }
 {
     match &slot.kind {
         Kind::Remove => Ok(()),
-        Kind::Put(value) => {
+        Kind::Put(_) | Kind::Invalid => {
             let row = Change {
                 key: key.copy(alloc)?,
-                kind: Kind::Put(value.copy(alloc)?),
+                kind: slot.kind.copy(alloc)?,
                 stamp: slot.stamp,
             };
             rows.push(row)
@@ -29,7 +29,7 @@ fn push_put(alloc: Global, rows: &mut ChangeList, key: &Key, slot: &Slot) -> Res
     }
 }
 
-/// The puts among the slots, and how many are removals.
+/// What the slots hold of keys that are there, and how many are removals.
 pub fn region(alloc: Global, slots: &Slots, floor: u64, vector: Vector) -> Result<Region, Memory>
     ensures rows { IfOk result (λ region. region.rows ≡ puts_of (changes_in slots.now.entries)) }
     ensures tombstones { IfOk result (λ region. region.tombstones ≡ removals_of (changes_in slots.now.entries)) }
@@ -41,7 +41,7 @@ pub fn region(alloc: Global, slots: &Slots, floor: u64, vector: Vector) -> Resul
     let entries = slots.rows(alloc)?;
     let count = entries.len();
     for (key, slot) in entries {
-        push_put(alloc, &mut rows, key, slot)?;
+        push_change(alloc, &mut rows, key, slot)?;
     }
     let tombstones = (count - rows.len()) as u64;
     Ok(Region {

@@ -6,7 +6,7 @@ ghost use Rattle.gr_slots.specs.Slots.{slot_at};
 ghost use Rattle.gr_history.specs.Ids.{known};
 ghost use Rattle.gr_history.specs.Calls.{ver_of};
 ghost use Rattle.gr_history.specs.Lawful.{IsLawful, IsOfShard};
-ghost use Rattle.gr_history.specs.Standing.{standing, present};
+ghost use Rattle.gr_history.specs.Standing.{standing, there, present};
 ghost use Rattle.gr_history.specs.Floor.{floor};
 ghost use Rattle.gr_history.specs.Clock.{since};
 ghost use Rattle.gr_history.specs.Verdicts.{verdict};
@@ -21,6 +21,7 @@ ghost use Rattle.gr_history.specs.Stable.{due};
 ghost use Rattle.gr_shard.specs.Merges.{IsGiftFor, IsImageFor};
 ghost use Rattle.gr_shard.specs.Records.{IsRecordOf};
 ghost use Rattle.gr_shard.specs.Sweeps.{stands_stable};
+ghost use Rattle.gr_shard.specs.Telling.{slot_there};
 ghost use Rattle.gr_shard.specs.View.{IsPlace, after_deed, with_spare};
 
 mod calls;
@@ -30,9 +31,9 @@ mod halves;
 mod preparing;
 
 use crate::asking::{Replies, answer};
-use crate::entering::{applied, value_of, verdict_at};
+use crate::entering::{applied, is_there, value_of, verdict_at};
 use crate::giving::{own_changes, standing};
-use crate::making::{note, recipients};
+use crate::making::{given_bits, note, recipients};
 use crate::merging::merged;
 use crate::regions::region;
 use crate::sweeping::{drop_all, risen};
@@ -166,7 +167,7 @@ impl Shard {
 
     /// Says what this member knows of the shard, and adds that to the history.
     pub fn report(&mut self, alloc: Global) -> Result<Report, Memory>
-        ensures report { IfOk result (IsReportOf self.old.id.member (reverse self.old.deeds)) }
+        ensures report { IfOk result (IsReportOf self.old.id (reverse self.old.deeds)) }
         ensures room { IfOk result (λ report. report.vector.spare ≡ 0) }
         ensures added { IfOk result (λ report. self.new ≡ after_deed self.old (deed.Reported report)) }
         ensures err { OnErr result (self.new ≡ with_spare self.new.spare self.old) }
@@ -266,6 +267,13 @@ impl Shard {
         value_of(self.find(key))
     }
 
+    /// Whether the key is there, with a value or without.
+    pub fn known(&self, key: &Key) -> bool
+        ensures { result ≡ there key.now (reverse self.now.deeds) }
+    {
+        is_there(self.find(key))
+    }
+
     pub fn floor(&self) -> u64
         ensures { result ≡ floor self.now.opening (reverse self.now.deeds) }
     {
@@ -324,13 +332,14 @@ impl Shard {
 
     // What this member knows of the shard now.
     fn reported(&self, alloc: Global) -> Result<Report, Memory>
-        ensures report { IfOk result (IsReportOf self.now.id.member (reverse self.now.deeds)) }
+        ensures report { IfOk result (IsReportOf self.now.id (reverse self.now.deeds)) }
         ensures room { IfOk result (λ report. report.vector.spare ≡ 0) }
     {
         Ok(Report {
             member: self.id.member,
             at: self.history.len(),
             own: self.vector.top(self.id.member),
+            to: self.to,
             vector: SharedVector::new(alloc, self.vector.copy(alloc)?)?,
         })
     }
@@ -386,11 +395,12 @@ impl Shard {
         };
         let Identity {
             member,
-            members,
+            founders,
             ..
         } = self.id;
+        let given = given_bits(&self.given);
         self.heard
-            .stable(&slot.stamp, member, members, &self.vector)
+            .stable(&slot.stamp, member, founders, given, &self.vector)
     }
 
     // What becomes of a change that is taken in now.
@@ -408,6 +418,7 @@ impl Shard {
             (since key.now (reverse self.now.deeds)) }
         ensures ver { slot_ver (option_copied result) ≡ ver_of (standing key.now (reverse self.now.deeds)) }
         ensures value { option_and_then (λ s. put_value s.kind) (option_copied result) ≡ present key.now (reverse self.now.deeds) }
+        ensures there { slot_there (option_copied result) ≡ there key.now (reverse self.now.deeds) }
     {
         self.slots.find(key)
     }

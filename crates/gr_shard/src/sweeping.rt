@@ -30,7 +30,7 @@ pub fn risen(slots: &Slots, floor: u64, keys: &[Key]) -> u64
     risen
 }
 
-/// The keys, without a value before and behind.
+/// The keys, which are there neither before nor behind.
 pub fn valueless(alloc: Global, keys: &[Key]) -> Result<Vec<Turned>, Memory>
     ensures { IfOk result (λ turned. turned.items ≡ map valueless keys.now) }
 {
@@ -40,6 +40,8 @@ pub fn valueless(alloc: Global, keys: &[Key]) -> Result<Vec<Turned>, Memory>
             key: key.copy(alloc)?,
             old: None,
             new: None,
+            had: false,
+            has: false,
         })?;
     }
     Ok(turned)

@@ -1,13 +1,13 @@
-ghost use Rattle.std.specs.Prelude.{◌≡◌, ◌≤◌, ◌+◌, [], ◌∷◌, Some, IfOk, OnOk, OnErr, option_copied};
+ghost use Rattle.std.specs.Prelude.{◌≡◌, ◌≤◌, ◌+◌, [], ◌∷◌, not, Some, IfOk, OnOk, OnErr, option_copied};
 ghost use Rattle.gr_cq.specs.Entries.{noted};
 ghost use Rattle.gr_vector.specs.Order.{united};
 ghost use Rattle.gr_shard.specs.Effects.{IsMadeAt, needs, queries_after};
 ghost use Rattle.gr_shard.specs.Entries.{with_change};
-ghost use Rattle.gr_stamp.specs.Winner.{put_value};
+ghost use Rattle.gr_stamp.specs.Winner.{is_removal, put_value};
 ghost use Rattle.gr_shard.specs.Telling.{IsForeseen, IsReady, is_other_slot, slot_value, told_of, turned_between, turned_by_change, turned_slot, with_keys};
 
 use crate::effect::QueriesAfter;
-use crate::entering::{enter, value_of};
+use crate::entering::{enter, is_there, value_of};
 use gr_cq::{Coming, Foreseen, Registry, Turned};
 use gr_slots::{Slot, Slots};
 use gr_stamp::{Change, Kind};
@@ -32,7 +32,17 @@ fn put_value(alloc: Global, kind: &Kind) -> Result<Option<Value>, Memory>
 {
     match kind {
         Kind::Put(value) => Ok(Some(value.copy(alloc)?)),
-        Kind::Remove => Ok(None),
+        Kind::Invalid | Kind::Remove => Ok(None),
+    }
+}
+
+// Whether a key is there behind a change of this kind.
+fn stays(kind: &Kind) -> bool
+    ensures { result ≡ not (is_removal kind.now) }
+{
+    match kind {
+        Kind::Put(_) | Kind::Invalid => true,
+        Kind::Remove => false,
     }
 }
 
@@ -40,10 +50,13 @@ fn put_value(alloc: Global, kind: &Kind) -> Result<Option<Value>, Memory>
 fn turned_one(alloc: Global, slots: &Slots, change: &Change) -> Result<Turned, Memory>
     ensures { IfOk result (λ turned. turned ∷ [] ≡ turned_by_change slots.now.entries (Some change.now)) }
 {
+    let held = slots.find(&change.key);
     Ok(Turned {
         key: change.key.copy(alloc)?,
-        old: slot_value(alloc, slots.find(&change.key))?,
+        old: slot_value(alloc, held)?,
         new: put_value(alloc, &change.kind)?,
+        had: is_there(held),
+        has: stays(&change.kind),
     })
 }
 
@@ -230,10 +243,13 @@ fn add_keys(alloc: Global, keys: &mut BTreeSet<Key>, slots: &Slots) -> Result<()
 fn turned_at(alloc: Global, key: &Key, old: &Slots, new: &Slots) -> Result<Turned, Memory>
     ensures { IfOk result (λ turned. turned ≡ turned_slot old.now.entries new.now.entries key.now) }
 {
+    let (before, behind) = (old.find(key), new.find(key));
     Ok(Turned {
         key: key.copy(alloc)?,
-        old: slot_value(alloc, old.find(key))?,
-        new: slot_value(alloc, new.find(key))?,
+        old: slot_value(alloc, before)?,
+        new: slot_value(alloc, behind)?,
+        had: is_there(before),
+        has: is_there(behind),
     })
 }
 

@@ -1,7 +1,7 @@
 ghost use Rattle.std.specs.Prelude.{◌≡◌, IfOk, option_copied};
 ghost use Rattle.gr_stamp.specs.declared.change.Kind.TheVariants as kind;
 ghost use Rattle.gr_value.specs.Fields.{value_eq};
-ghost use Rattle.gr_history.specs.Asks.{reply_of, unchanged, changing, where_so, told};
+ghost use Rattle.gr_history.specs.Asks.{at_key, reply_of, unchanged, changing, where_so, told};
 
 use gr_history::{Ask, Reply, Told};
 use gr_stamp::Kind;
@@ -44,16 +44,22 @@ fn put(alloc: Global, value: &Value) -> Result<Kind, Memory>
     Ok(Kind::Put(value.copy(alloc)?))
 }
 
-pub(crate) fn tells(alloc: Global, ask: &Ask, present: Option<&Value>) -> Result<Told, Memory>
-    ensures { IfOk result (λ answer. answer ≡ told ask.now (option_copied present.entry)) }
+// What an ask gives at a key that is there or isn't, with the value that is present.
+pub(crate) fn tells(
+    alloc: Global,
+    ask: &Ask,
+    there: bool,
+    present: Option<&Value>,
+) -> Result<Told, Memory>
+    ensures { IfOk result (λ answer. answer ≡ told ask.now (at_key there (option_copied present.entry))) }
 {
     match (ask, present) {
-        (Ask::Get { .. }, _) | (Ask::PutIfAbsent { .. }, Some(_)) | (Ask::Replace { .. }, None) => {
+        (Ask::Get { .. }, _) | (Ask::PutIfAbsent { .. }, Some(_)) => {
             Ok(unchanged(reply_of(alloc, present)?))
         }
-        (Ask::Put { value, .. }, _)
-        | (Ask::PutIfAbsent { value, .. }, None)
-        | (Ask::Replace { value, .. }, Some(_)) => {
+        (Ask::Replace { .. }, None) if !there => Ok(unchanged(Reply::Null)),
+        (Ask::Put { value, .. } | Ask::Replace { value, .. }, _)
+        | (Ask::PutIfAbsent { value, .. }, None) => {
             Ok(changing(reply_of(alloc, present)?, put(alloc, value)?))
         }
         (Ask::ReplaceIf { old, new, .. }, Some(here)) if here.same(old) => {
@@ -63,7 +69,11 @@ pub(crate) fn tells(alloc: Global, ask: &Ask, present: Option<&Value>) -> Result
             Ok(changing(Reply::Yes, Kind::Remove))
         }
         (Ask::ReplaceIf { .. } | Ask::Remove { .. }, _) => Ok(unchanged(Reply::No)),
-        (Ask::Destroy { .. }, None) => Ok(unchanged(Reply::NotFound)),
-        (Ask::Destroy { .. }, Some(_)) => Ok(changing(Reply::Done, Kind::Remove)),
+        (Ask::Destroy { .. } | Ask::Invalidate { .. }, None) if !there => {
+            Ok(unchanged(Reply::NotFound))
+        }
+        (Ask::Destroy { .. }, _) => Ok(changing(Reply::Done, Kind::Remove)),
+        (Ask::Invalidate { .. }, None) => Ok(unchanged(Reply::Done)),
+        (Ask::Invalidate { .. }, Some(_)) => Ok(changing(Reply::Done, Kind::Invalid)),
     }
 }

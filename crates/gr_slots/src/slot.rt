@@ -1,12 +1,12 @@
-ghost use Rattle.std.specs.Prelude.{◌≡◌, option_copied};
-ghost use Rattle.gr_stamp.specs.Winner.{put_value};
+ghost use Rattle.std.specs.Prelude.{◌≡◌, not, option_copied};
+ghost use Rattle.gr_stamp.specs.Winner.{is_removal, put_value};
 
 use gr_stamp::{Kind, Stamp};
 use gr_value::{Copied, Memory, Value};
 use std::alloc::Global;
 
-/// What stands at a key: a put, or a removal as a tombstone, with its stamp and the shard's clock when
-/// it came in, in seconds.
+/// What stands at a key: a put, an invalidation, or a removal as a tombstone, with its stamp and the
+/// shard's clock when it came in, in seconds.
 #[derive(Drop)]
 pub struct Slot {
     pub kind: Kind,
@@ -21,7 +21,17 @@ impl Slot {
     {
         match &self.kind {
             Kind::Put(value) => Some(value),
-            Kind::Remove => None,
+            Kind::Invalid | Kind::Remove => None,
+        }
+    }
+
+    /// Whether the key is there, with a value or without.
+    pub fn is_there(&self) -> bool
+        ensures { result ≡ not (is_removal self.now.kind) }
+    {
+        match &self.kind {
+            Kind::Put(_) | Kind::Invalid => true,
+            Kind::Remove => false,
         }
     }
 }

@@ -4,7 +4,7 @@ use gr_value::{Key, Memory, Value};
 use std::alloc::Global;
 use std::test::Fail;
 
-// A key that turned from one text of a value, if any, to another.
+// A key that turned from one text of a value, if any, to another. It is there where there is one.
 fn turned(
     alloc: Global,
     key: &[u8],
@@ -15,6 +15,8 @@ fn turned(
         key: Key::read(alloc, key)?,
         old: value(alloc, old)?,
         new: value(alloc, new)?,
+        had: old.is_some(),
+        has: new.is_some(),
     })
 }
 
@@ -50,12 +52,22 @@ fn events_wait_until_they_are_taken(rt: HostRuntime) -> Result<(), Fail> {
         turned(alloc, b"a", None, Some(b"{\"x\":2}"))?,
         turned(alloc, b"b", None, Some(b"{\"x\":1}"))?,
         turned(alloc, b"c", Some(b"{\"x\":3}"), None)?,
+        Turned {
+            has: true,
+            ..turned(alloc, b"d", Some(b"{\"x\":3}"), None)?
+        },
+        Turned {
+            had: true,
+            ..turned(alloc, b"d", None, Some(b"{\"x\":3}"))?
+        },
     ];
     registry.note(alloc, &keys)?;
     let events = registry.take(alloc, 1, &name)?;
-    let wanted: [(QueryOp, BaseOp, &[u8]); 2] = [
+    let wanted: [(QueryOp, BaseOp, &[u8]); 4] = [
         (QueryOp::Create, BaseOp::Create, b"a{\"x\":2}"),
         (QueryOp::Destroy, BaseOp::Destroy, b"c"),
+        (QueryOp::Destroy, BaseOp::Invalidate, b"d"),
+        (QueryOp::Create, BaseOp::Update, b"d{\"x\":3}"),
     ];
     assert_eq!(rt; events.len(), wanted.len());
     for (event, (op, base, text)) in events.as_slice().iter().zip(wanted) {

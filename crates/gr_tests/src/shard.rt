@@ -37,6 +37,25 @@ fn destroy(alloc: Global, key: &Key) -> Result<Ask, Memory>
     })
 }
 
+fn invalidate(alloc: Global, key: &Key) -> Result<Ask, Memory>
+    ensures { IfOk result (λ ask. key_of ask ≡ key.now) }
+{
+    Ok(Ask::Invalidate {
+        key: key.copy(alloc)?,
+    })
+}
+
+// A shard at which a value was put, and taken away twice.
+fn invalidated(alloc: Global, key: &Key) -> Result<Shard, Fail>
+    requires { shard_of key.now 1 ≡ 0 }
+{
+    let mut shard = Shard::new(alloc, FIRST, 3)?;
+    shard.serve(alloc, 1, 1, put(alloc, key)?)?;
+    shard.serve(alloc, 1, 2, invalidate(alloc, key)?)?;
+    shard.serve(alloc, 1, 3, invalidate(alloc, key)?)?;
+    Ok(shard)
+}
+
 // A shard at which the second client removed an absent key, and the first put a value there.
 fn filled(alloc: Global, key: &Key) -> Result<Shard, Fail>
     requires { shard_of key.now 1 ≡ 0 }
@@ -107,6 +126,21 @@ fn a_shard_tells_what_stands(rt: HostRuntime) -> Result<(), Fail> {
         (1, 1, 0)
     );
     assert_eq!(rt; left(alloc, &shard)?, (2, 1, 0, 3));
+    Ok(())
+}
+
+// The put has the version 4, and the first invalidation the next; the second makes nothing. The key is a row of
+// the region.
+#[test]
+fn an_invalidated_key_is_known(rt: HostRuntime) -> Result<(), Fail> {
+    let alloc = rt.alloc();
+    let key = Key::read(alloc, b"a")?;
+    assert_eq!(rt; key.shard(1), 0);
+    let shard = invalidated(alloc, &key)?;
+    assert!(rt; shard.known(&key) && shard.present(&key).is_none());
+    assert!(rt; !shard.known(&Key::read(alloc, b"b")?));
+    assert!(rt; stands(&shard, &key) == (3, Some(5), true, true, 2));
+    assert_eq!(rt; left(alloc, &shard)?, (3, 1, 0, 3));
     Ok(())
 }
 

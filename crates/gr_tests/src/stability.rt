@@ -23,6 +23,7 @@ fn report(alloc: Global, member: u8, at: u64, own: u64, upto: [u64; 3]) -> Resul
         member,
         at,
         own,
+        to: 0,
         vector: SharedVector::new(alloc, known(alloc, upto)?)?,
     })
 }
@@ -52,8 +53,8 @@ fn a_part_of_the_rule_is_missing(rt: HostRuntime) -> Result<(), Fail> {
             heard.hear(alloc, &third)?;
         }
         let here = known(alloc, here)?;
-        assert!(rt; heard.stable(&tombstone, 1, 3, &here) == stable);
-        assert!(rt; heard.stable(&tombstone, 1, 1, &here));
+        assert!(rt; heard.stable(&tombstone, 1, 3, 0, &here) == stable);
+        assert!(rt; heard.stable(&tombstone, 1, 1, 0, &here));
     }
     Ok(())
 }
@@ -78,7 +79,41 @@ fn the_latest_report_counts(rt: HostRuntime) -> Result<(), Fail> {
         for other in [0, 9, 255] {
             heard.keep(report(alloc, other, 9, 0, [2, 0, 0])?);
         }
-        assert!(rt; heard.stable(&tombstone, 1, 2, &known(alloc, [2, 0, 0])?) == stable);
+        assert!(rt; heard.stable(&tombstone, 1, 2, 0, &known(alloc, [2, 0, 0])?) == stable);
+    }
+    Ok(())
+}
+
+// Of two founders the first made the tombstone, and the second reported that it knows it; the third member
+// reported nothing, and the fourth that it knows nothing. Each row has the members to which the second's
+// changes go, those that were given something here, and whether the tombstone is stable.
+#[test]
+fn only_members_that_count_are_asked(rt: HostRuntime) -> Result<(), Fail> {
+    let alloc = rt.alloc();
+    let tombstone = Stamp::new(5, 1, 2).expect(&rt, "a stamp");
+    let cases = [
+        (0, 0, true),
+        (1, 0, true),
+        (3, 3, true),
+        (4, 0, false),
+        (0, 4, false),
+        (8, 0, false),
+        (0, 8, false),
+        (128, 0, false),
+        (0, 128, false),
+    ];
+    let here = known(alloc, [2, 1, 0])?;
+    for (to, given, stable) in cases {
+        let mut heard = Heard::new(alloc)?;
+        heard.keep(Report {
+            to,
+            ..report(alloc, 2, 4, 1, [2, 0, 0])?
+        });
+        heard.keep(Report {
+            to: 4,
+            ..report(alloc, 4, 4, 0, [0, 0, 0])?
+        });
+        assert!(rt; heard.stable(&tombstone, 1, 2, given, &here) == stable);
     }
     Ok(())
 }

@@ -93,6 +93,7 @@ fn room_is_made_and_copies_are_taken(rt: HostRuntime) {
         member: 3,
         at: 2,
         own: vector.top(3),
+        to: 6,
         vector: SharedVector::new(rt.alloc(), copied).expect(&rt, "memory"),
     };
     let mut reports = ReportList::new(rt.alloc()).expect(&rt, "memory");
@@ -100,7 +101,7 @@ fn room_is_made_and_copies_are_taken(rt: HostRuntime) {
     reports.push(again).expect(&rt, "memory");
     let copies = reports.copy(rt.alloc()).expect(&rt, "memory");
     let copy = copies.get(0).expect(&rt, "a report");
-    assert!(rt; copy.own == 4);
+    assert!(rt; copy.own == 4 && copy.to == 6);
     assert!(rt; copy.vector.vector().holds(3, 2));
     assert!(rt; !copy.vector.vector().holds(3, 3));
     let with_room = Copied::copy(&vector, rt.alloc()).expect(&rt, "memory");

@@ -13,7 +13,7 @@ ghost use Rattle.gr_shard.specs.Calls.{call_with, given_with, served};
 ghost use Rattle.gr_shard.specs.View.{after_deed, with_spare};
 
 use super::Shard;
-use crate::entering::{value_of, ver_of};
+use crate::entering::{is_there, value_of, ver_of};
 use crate::making::{deed_of, note, nothing_made};
 use crate::served::Served;
 use crate::telling::come_in;
@@ -60,7 +60,7 @@ impl Shard {
         let held = self.find(ask.key());
         // The version may stand in another line of memory than the value: both are fetched at once.
         let ver = ver_of(held);
-        let Told { reply, change } = tells(alloc, &ask, value_of(held))?;
+        let Told { reply, change } = tells(alloc, &ask, is_there(held), value_of(held))?;
         let Some(kind) = change else {
             return self.add_reply(alloc, client, seq, ask, reply);
         };
@@ -147,7 +147,7 @@ impl Shard {
             return Ok(nothing_made(Reply::NotReady));
         }
         let held = self.find(ask.key());
-        let Told { reply, change } = tells(alloc, ask, value_of(held))?;
+        let Told { reply, change } = tells(alloc, ask, is_there(held), value_of(held))?;
         let Some(kind) = change else {
             return Ok(nothing_made(reply));
         };

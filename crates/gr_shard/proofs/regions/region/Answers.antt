@@ -11,7 +11,7 @@ pub loop-key-preserved : goal.loop-key-preserved
 loop-key-preserved c =
     let before = map deref_pair c.loop-key.yielded in
     let change = change_of c.in-Some.key.now c.in-Some.slot.now in
-    c.in_ok-push_put.ensures
+    c.in_ok-push_change.ensures
     ∙ ap (λ rows. rows ++ puts_of (change ∷ [])) c.loop-key.invariant
     ∙ sym (puts_of-push (changes_in before) change)
     ∙ ap puts_of (sym (changes_in-push before c.in-Some.key.now c.in-Some.slot.now))

@@ -13,7 +13,7 @@ invariant_of-self-2 c =
     let was = c.self.inside in
     let past = reverse was.history.deeds in
     let report = c.in_ok-report.report in
-    let is : IsReportOf was.id.member past report = rw (← c.self.view_is) at c.in_ok-report.ensures.report in
+    let is : IsReportOf was.id past report = rw (← c.self.view_is) at c.in_ok-report.ensures.report in
     let pushed : c.push.new.self.deeds ≡ was.history.deeds ++ Reported report ∷ [] =
     on_ok c.push.result (c.push.ensures.room c.in_ok-reserve.ensures.room) c.push.ensures.ok
     ∙ ap (λ deeds. deeds ++ Reported c.in_ok-noted.noted ∷ []) c.in_ok-reserve.ensures.deeds

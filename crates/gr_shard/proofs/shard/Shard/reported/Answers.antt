@@ -12,5 +12,6 @@ returns-clause-report c =
       member_is = refl;
       at_is = c.len.ensures ∙ sym (length-reverse was.history.deeds);
       own_is = c.top.ensures.top ∙ ap (top was.id.member) c.self.invariant.0.noted ∙ top_known was.id.member past;
+      to_is = c.self.invariant.0.aimed;
       vector_is = ap (λ v. v.ids) (c.in_ok-new.ensures ∙ c.in_ok-copy.ensures) ∙ c.self.invariant.0.noted;
     }
