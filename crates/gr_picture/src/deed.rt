@@ -173,7 +173,7 @@ fn verdict_of(verdict: &str, member: u64) -> Option<(Look, &'static str)> {
     }
 }
 
-// `take KEY put VALUE STAMP VERDICT` or `take KEY remove STAMP VERDICT`
+// `take KEY put VALUE STAMP VERDICT`, or `take KEY invalid STAMP VERDICT`, or the same of `remove`
 fn take(line: usize, text: &str) -> Option<Deed<'_>> {
     let (title, words) = last_words(text, 2)?;
     after_words(title, 3)?;

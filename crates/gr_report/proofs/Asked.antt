@@ -1,5 +1,5 @@
 -- What was asked, as the line of a script has it.
-use Rattle.std.proofs.Common.{◌≡◌, ℕ, List, [], ◌∷◌, ◌++◌, codes, decimal, refl, append_assoc, append-nil}
+use Rattle.std.proofs.Common.{◌≡◌, ℕ, ◌++◌, codes, decimal, refl, append_assoc, append-nil}
 use Rattle.gr_value.specs.ValueText.{value_text}
 use Rattle.gr_history.specs.declared.ask.Ask.{Ask}
 use Rattle.gr_history.specs.declared.ask.Ask.TheVariants as ask
@@ -21,6 +21,7 @@ call_line client seq (ask.Replace key value) = rw (append-nil (value_text value)
 call_line client seq (ask.ReplaceIf key old new) = rw (append-nil (value_text new), append_assoc, append_assoc, append_assoc) refl
 call_line client seq (ask.Destroy key) = rw (append-nil key, append_assoc, append_assoc, append_assoc) refl
 call_line client seq (ask.Remove key value) = rw (append-nil (value_text value), append_assoc, append_assoc, append_assoc) refl
+call_line client seq (ask.Invalidate key) = rw (append-nil key, append_assoc, append_assoc, append_assoc) refl
 
 pub query_line : (client seq : ℕ) (asked : QueryAsk)
     → line_text (Step client seq (Query asked)) ≡ decimal client ++ codes " " ++ query_ask_text asked ++ codes "\n"

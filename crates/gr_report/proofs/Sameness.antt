@@ -9,13 +9,14 @@ use Rattle.std.proofs.lemmas.Slice.Eq.{bytes_eq-Decides}
 use Rattle.gr_value.specs.Sameness.{value_eq_decides}
 use Rattle.gr_stamp.specs.declared.change.Change.{Change}
 use Rattle.gr_stamp.specs.declared.change.Kind.{Kind}
-use Rattle.gr_stamp.specs.declared.change.Kind.TheVariants.{Put, Remove}
+use Rattle.gr_stamp.specs.declared.change.Kind.TheVariants.{Put, Invalid, Remove}
 use Rattle.gr_stamp.specs.Version.{Version}
 use Rattle.gr_history.specs.declared.record.MemberRecord.{MemberRecord}
 use Rattle.gr_report.specs.Same.{kind_eq, stamp_eq, row_eq, rows_by_shard, member_eq}
 
 kind_eq-Decides : (one two : Kind) → Decides (kind_eq one two) (one ≡ two)
 kind_eq-Decides (Put a) (Put b) = Decides-like _ (λ (e : a ≡ b). ap Put e) (λ e. cc) (value_eq_decides a b)
+kind_eq-Decides Invalid Invalid = (λ _. refl, λ _. refl)
 kind_eq-Decides Remove Remove = (λ _. refl, λ _. refl)
 kind_eq-Decides _ _ = (λ e. cc, λ e. cc)
 

@@ -4,7 +4,7 @@ use Rattle.std.specs.Prelude.{if◌then◌else◌, Option, Some, None}
 use Rattle.gr_value.specs.ValueText.{value_text}
 use Rattle.gr_stamp.specs.declared.change.Change.{Change}
 use Rattle.gr_stamp.specs.declared.change.Kind.{Kind}
-use Rattle.gr_stamp.specs.declared.change.Kind.TheVariants.{Put, Remove}
+use Rattle.gr_stamp.specs.declared.change.Kind.TheVariants.{Put, Invalid, Remove}
 use Rattle.gr_vector.specs.declared.report.Report.{Report}
 use Rattle.gr_history.specs.declared.ask.Ask.{Ask}
 use Rattle.gr_history.specs.declared.ask.Ask.TheVariants as ask
@@ -30,6 +30,7 @@ ask_text (ask.Replace key value) = codes "replace" ++ spaced (key ∷ value_text
 ask_text (ask.ReplaceIf key old new) = codes "replaceIf" ++ spaced (key ∷ value_text old ∷ value_text new ∷ [])
 ask_text (ask.Destroy key) = codes "destroy" ++ spaced (key ∷ [])
 ask_text (ask.Remove key value) = codes "remove" ++ spaced (key ∷ value_text value ∷ [])
+ask_text (ask.Invalidate key) = codes "invalidate" ++ spaced (key ∷ [])
 
 abbrev pub has_bit : ℕ → ℕ → Bool
 has_bit to bit = to / bit % 2 == 1
@@ -61,6 +62,7 @@ made_text (Some change) to = codes " made " ++ stamp_text change.stamp ++ codes 
 
 abbrev pub kind_text : Kind → List ℕ
 kind_text (Put value) = codes " put " ++ value_text value ++ codes " "
+kind_text Invalid = codes " invalid "
 kind_text Remove = codes " remove "
 
 abbrev pub verdict_text : Verdict → List ℕ

@@ -9,7 +9,7 @@ use Rattle.gr_value.specs.declared.value.Field.{Field}
 use Rattle.gr_value.specs.Fields.{field_of}
 use Rattle.gr_stamp.specs.declared.change.Change.{Change}
 use Rattle.gr_stamp.specs.declared.change.Kind.{Kind}
-use Rattle.gr_stamp.specs.declared.change.Kind.TheVariants.{Put, Remove}
+use Rattle.gr_stamp.specs.declared.change.Kind.TheVariants.{Put, Invalid, Remove}
 use Rattle.gr_history.specs.declared.record.ShardRecord.{ShardRecord}
 use Rattle.gr_report.specs.Regions.{counted}
 
@@ -30,8 +30,10 @@ whole_number _ = pos 0
 abbrev pub number_in : List Field → ℤ
 number_in value = whole_number (field_of (codes "n") value)
 
+-- An entry without a value has no field, and so counts as nothing.
 abbrev pub kind_number : Kind → ℤ
 kind_number (Put value) = number_in value
+kind_number Invalid = pos 0
 kind_number Remove = pos 0
 
 abbrev pub row_number : Change → ℤ

@@ -70,6 +70,7 @@ abbrev pub base_text : BaseOp → List ℕ
 base_text base.Create = codes "create"
 base_text base.Update = codes "update"
 base_text base.Destroy = codes "destroy"
+base_text base.Invalidate = codes "invalidate"
 
 abbrev pub new_text : Option (List Field) → List ℕ
 new_text None = codes "-"

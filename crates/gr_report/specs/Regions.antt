@@ -3,7 +3,7 @@ use Rattle.std.specs.Prelude.{ℕ, List, [], ◌++◌, codes, decimal, flat_map}
 use Rattle.gr_value.specs.ValueText.{value_text}
 use Rattle.gr_stamp.specs.declared.change.Change.{Change}
 use Rattle.gr_stamp.specs.declared.change.Kind.{Kind}
-use Rattle.gr_stamp.specs.declared.change.Kind.TheVariants.{Put, Remove}
+use Rattle.gr_stamp.specs.declared.change.Kind.TheVariants.{Put, Invalid, Remove}
 use Rattle.gr_stamp.specs.Version.{Version}
 use Rattle.gr_history.specs.declared.record.MemberRecord.{MemberRecord}
 use Rattle.gr_report.specs.declared.counts.Counts.{Counts}
@@ -13,9 +13,10 @@ use Rattle.gr_report.specs.Rows.{rows_of}
 abbrev pub stamp_text : Version → List ℕ
 stamp_text stamp = decimal stamp.ver ++ codes "." ++ decimal stamp.member ++ codes "." ++ decimal stamp.rv
 
--- a row is a put, and has its value's text
+-- A row has its value's text, or - where its key is there without one. No row is a removal.
 abbrev pub put_text : Kind → List ℕ
 put_text (Put value) = value_text value
+put_text Invalid = codes "-"
 put_text Remove = []
 
 unfoldable pub row_line : Change → List ℕ

@@ -5,13 +5,14 @@ use Rattle.std.specs.Cmp.Lexicographic.{pointwise}
 use Rattle.gr_value.specs.Fields.{value_eq}
 use Rattle.gr_stamp.specs.declared.change.Change.{Change}
 use Rattle.gr_stamp.specs.declared.change.Kind.{Kind}
-use Rattle.gr_stamp.specs.declared.change.Kind.TheVariants.{Put, Remove}
+use Rattle.gr_stamp.specs.declared.change.Kind.TheVariants.{Put, Invalid, Remove}
 use Rattle.gr_stamp.specs.Version.{Version}
 use Rattle.gr_history.specs.declared.record.MemberRecord.{MemberRecord}
 use Rattle.gr_history.specs.declared.record.ShardRecord.{ShardRecord}
 
 abbrev pub kind_eq : Kind → Kind → Bool
 kind_eq (Put one) (Put two) = value_eq one two
+kind_eq Invalid Invalid = true
 kind_eq Remove Remove = true
 kind_eq _ _ = false
 

@@ -52,6 +52,7 @@ fn put_ask(alloc: Global, out: &mut Vec<u8>, ask: &Ask) -> Result<(), Memory>
         }
         Ask::Destroy { key } => put_word(out, "destroy", key),
         Ask::Remove { key, value } => put_with_value(alloc, out, "remove", key, value),
+        Ask::Invalidate { key } => put_word(out, "invalidate", key),
     }
 }
 
@@ -76,6 +77,7 @@ fn put_kind(alloc: Global, out: &mut Vec<u8>, kind: &Kind) -> Result<(), Memory>
             value.print_to(alloc, out)?;
             put_text(out, " ")
         }
+        Kind::Invalid => put_text(out, " invalid "),
         Kind::Remove => put_text(out, " remove "),
     }
 }

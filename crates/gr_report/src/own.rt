@@ -31,7 +31,7 @@ fn row_number(row: &Change) -> i64
 {
     match &row.kind {
         Kind::Put(value) => number_in(value),
-        Kind::Remove => 0,
+        Kind::Invalid | Kind::Remove => 0,
     }
 }
 

@@ -85,14 +85,14 @@ fn put_op(out: &mut Vec<u8>, op: QueryOp) -> Result<(), Memory>
     }
 }
 
-// The operation of a query that has the same word.
-fn same_word(base: BaseOp) -> QueryOp
-    ensures { op_text result ≡ base_text base }
+fn put_base(out: &mut Vec<u8>, base: BaseOp) -> Result<(), Memory>
+    ensures { OnOk result (out.new.items ≡ out.old.items ++ base_text base) }
 {
     match base {
-        BaseOp::Create => QueryOp::Create,
-        BaseOp::Update => QueryOp::Update,
-        BaseOp::Destroy => QueryOp::Destroy,
+        BaseOp::Create => put_text(out, "create"),
+        BaseOp::Update => put_text(out, "update"),
+        BaseOp::Destroy => put_text(out, "destroy"),
+        BaseOp::Invalidate => put_text(out, "invalidate"),
     }
 }
 
@@ -132,7 +132,7 @@ impl Written for Event {
         put_text(out, "\n ")?;
         put_op(out, self.op)?;
         put_text(out, " ")?;
-        put_op(out, same_word(self.base))?;
+        put_base(out, self.base)?;
         put_named(out, " ", &self.key)?;
         put_text(out, " ")?;
         put_new(alloc, out, self.value.as_ref())

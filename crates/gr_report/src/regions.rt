@@ -26,6 +26,7 @@ fn put_kind(alloc: Global, out: &mut Vec<u8>, kind: &Kind) -> Result<(), Memory>
 {
     match kind {
         Kind::Put(value) => value.print_to(alloc, out),
+        Kind::Invalid => put_text(out, "-"),
         Kind::Remove => Ok(()),
     }
 }

@@ -30,13 +30,13 @@ fn are_same<T: Same>(one: &[T], two: &[T]) -> bool
     true
 }
 
-// Whether both are removals, or put the same value.
+// Whether both put the same value, both are invalidations, or both are removals.
 fn is_same_kind(one: &Kind, two: &Kind) -> bool
     ensures { result ≡ kind_eq one.now two.now }
 {
     match (one, two) {
         (Kind::Put(one), Kind::Put(two)) => one.same(two),
-        (Kind::Remove, Kind::Remove) => true,
+        (Kind::Invalid, Kind::Invalid) | (Kind::Remove, Kind::Remove) => true,
         _ => false,
     }
 }

@@ -24,6 +24,7 @@ words =
     ∷ word kind.ReplaceIf
     ∷ word kind.Destroy
     ∷ word kind.Remove
+    ∷ word kind.Invalidate
     ∷ word kind.Peek
     ∷ word kind.Open
     ∷ word kind.Stop
@@ -51,6 +52,7 @@ word_at kind.Replace = refl
 word_at kind.ReplaceIf = refl
 word_at kind.Destroy = refl
 word_at kind.Remove = refl
+word_at kind.Invalidate = refl
 word_at kind.Peek = refl
 word_at kind.Open = refl
 word_at kind.Stop = refl
@@ -78,6 +80,7 @@ place_of kind.Replace = refl
 place_of kind.ReplaceIf = refl
 place_of kind.Destroy = refl
 place_of kind.Remove = refl
+place_of kind.Invalidate = refl
 place_of kind.Peek = refl
 place_of kind.Open = refl
 place_of kind.Stop = refl

@@ -69,6 +69,7 @@ module _ (past : List Saying) (whole : 4 ≤ stage past) where
   ask_accepts client (ask.Destroy key) c kept = accept (ask_saying client (ask.Destroy key)) refl (c, (tt, (kept, tt))) refl
   ask_accepts client (ask.Remove key value) c kept =
       accept (ask_saying client (ask.Remove key value)) refl (c, (tt, (kept.0, (kept.1, tt)))) refl
+  ask_accepts client (ask.Invalidate key) c kept = accept (ask_saying client (ask.Invalidate key)) refl (c, (tt, (kept, tt))) refl
 
   peek_accepts : (client : ℕ) (key : List ℕ) → IsClient (setting past) client → IsKey key → Accepts past (act_saying client (Peek key))
   peek_accepts client key c kept = accept (act_saying client (Peek key)) refl (c, (tt, (kept, tt))) refl

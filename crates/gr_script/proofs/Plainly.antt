@@ -107,6 +107,9 @@ module _ (key : List ℕ) (kept : IsKey key) where
   pub destroy_spelled : IsSpelled kind.Destroy key (Call (ask.Destroy key))
   destroy_spelled = record { text = alone kind.Destroy; is = λ client. refl; kept = kept; plain = tt }
 
+  pub invalidate_spelled : IsSpelled kind.Invalidate key (Call (ask.Invalidate key))
+  invalidate_spelled = record { text = alone kind.Invalidate; is = λ client. refl; kept = kept; plain = tt }
+
   pub peek_spelled : IsSpelled kind.Peek key (Peek key)
   peek_spelled = record { text = alone kind.Peek; is = λ client. refl; kept = kept; plain = tt }
 

@@ -99,6 +99,7 @@ word_plain kind.Replace = record { some = omega arith; each = refl }
 word_plain kind.ReplaceIf = record { some = omega arith; each = refl }
 word_plain kind.Destroy = record { some = omega arith; each = refl }
 word_plain kind.Remove = record { some = omega arith; each = refl }
+word_plain kind.Invalidate = record { some = omega arith; each = refl }
 word_plain kind.Peek = record { some = omega arith; each = refl }
 word_plain kind.Open = record { some = omega arith; each = refl }
 word_plain kind.Stop = record { some = omega arith; each = refl }

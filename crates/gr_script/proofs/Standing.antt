@@ -79,6 +79,7 @@ line_stands past kind.Replace c none rests all = (stated past c.0.0 c.0.1, numbe
 line_stands past kind.ReplaceIf c none rests all = (stated past c.0.0 c.0.1, numbered past c.0.0 all, tt)
 line_stands past kind.Destroy c none rests all = (stated past c.0.0 c.0.1, numbered past c.0.0 all, tt)
 line_stands past kind.Remove c none rests all = (stated past c.0.0 c.0.1, numbered past c.0.0 all, tt)
+line_stands past kind.Invalidate c none rests all = (stated past c.0.0 c.0.1, numbered past c.0.0 all, tt)
 line_stands past kind.Peek c none rests all = (stated past c.0.0 c.0.1, numbered past c.0.0 all, tt)
 line_stands past kind.Open c none rests all =
     let pass = passed (tests past kind.Open (held_items past kind.Open c)) none in

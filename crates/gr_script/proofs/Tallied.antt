@@ -104,6 +104,7 @@ same_marks n past set kind.Replace c = step_line n past c.0.0 (Call (ask.Replace
 same_marks n past set kind.ReplaceIf c = step_line n past c.0.0 (Call (ask.ReplaceIf c.1.1.0 c.1.1.1.0 c.1.1.1.1.0))
 same_marks n past set kind.Destroy c = step_line n past c.0.0 (Call (ask.Destroy c.1.1.0))
 same_marks n past set kind.Remove c = step_line n past c.0.0 (Call (ask.Remove c.1.1.0 c.1.1.1.0))
+same_marks n past set kind.Invalidate c = step_line n past c.0.0 (Call (ask.Invalidate c.1.1.0))
 same_marks n past set kind.Peek c = step_line n past c.0.0 (Peek c.1.1.0)
 same_marks n past set kind.Open c = step_line n past c.0.0 (Query (query.Enrol c.1.1.0 c.1.1.1.0.0))
 same_marks n past set kind.Stop c = step_line n past c.0.0 (Query (query.Stop c.1.1.0))

@@ -3,7 +3,7 @@ use Rattle.std.specs.Prelude.{ℕ, List, [], ◌∷◌, Bool, true, false, Optio
 use Rattle.std.specs.List.{find}
 use Rattle.gr_script.specs.declared.forms.LineKind.{LineKind}
 use Rattle.gr_script.specs.declared.forms.LineKind.TheVariants.{Georep, Region, Members, Shards, Inbox, Trouble, Floor, Client, Get, Put}
-use Rattle.gr_script.specs.declared.forms.LineKind.TheVariants.{PutIfAbsent, Replace, ReplaceIf, Destroy, Remove, Peek, Open, Stop, Close}
+use Rattle.gr_script.specs.declared.forms.LineKind.TheVariants.{PutIfAbsent, Replace, ReplaceIf, Destroy, Remove, Invalidate, Peek, Open, Stop, Close}
 use Rattle.gr_script.specs.declared.forms.LineKind.TheVariants.{Fetch, Deliver, Report, Hear, Sweep, Join}
 use Rattle.gr_script.specs.declared.forms.FieldKind.{FieldKind}
 use Rattle.gr_script.specs.declared.forms.FieldKind.TheVariants as field
@@ -26,6 +26,7 @@ word Replace = codes "replace"
 word ReplaceIf = codes "replaceIf"
 word Destroy = codes "destroy"
 word Remove = codes "remove"
+word Invalidate = codes "invalidate"
 word Peek = codes "peek"
 word Open = codes "open"
 word Stop = codes "stop"
@@ -54,6 +55,7 @@ fields Replace = field.Client ∷ field.Word ∷ field.Key ∷ field.Value ∷ [
 fields ReplaceIf = field.Client ∷ field.Word ∷ field.Key ∷ field.Value ∷ field.Value ∷ []
 fields Destroy = field.Client ∷ field.Word ∷ field.Key ∷ []
 fields Remove = field.Client ∷ field.Word ∷ field.Key ∷ field.Value ∷ []
+fields Invalidate = field.Client ∷ field.Word ∷ field.Key ∷ []
 fields Peek = field.Client ∷ field.Word ∷ field.Key ∷ []
 fields Open = field.Client ∷ field.Word ∷ field.Key ∷ field.Query ∷ []
 fields Stop = field.Client ∷ field.Word ∷ field.Key ∷ []
@@ -82,16 +84,17 @@ place Replace = 11
 place ReplaceIf = 12
 place Destroy = 13
 place Remove = 14
-place Peek = 15
-place Open = 16
-place Stop = 17
-place Close = 18
-place Fetch = 19
-place Deliver = 20
-place Report = 21
-place Hear = 22
-place Sweep = 23
-place Join = 24
+place Invalidate = 15
+place Peek = 16
+place Open = 17
+place Stop = 18
+place Close = 19
+place Fetch = 20
+place Deliver = 21
+place Report = 22
+place Hear = 23
+place Sweep = 24
+place Join = 25
 
 -- A line of a greater rank stands behind one of a lesser.
 abbrev pub rank : LineKind → ℕ
@@ -101,7 +104,7 @@ rank kind = min (place kind) 8
 abbrev pub step_kinds : List LineKind
 step_kinds =
     Get ∷ Put ∷ Destroy ∷ PutIfAbsent ∷ Replace ∷ ReplaceIf
-    ∷ Remove ∷ Peek ∷ Open ∷ Stop ∷ Close ∷ Fetch ∷ []
+    ∷ Remove ∷ Invalidate ∷ Peek ∷ Open ∷ Stop ∷ Close ∷ Fetch ∷ []
 
 abbrev pub other_kinds : List LineKind
 other_kinds =
@@ -121,6 +124,7 @@ is_step Replace = true
 is_step ReplaceIf = true
 is_step Destroy = true
 is_step Remove = true
+is_step Invalidate = true
 is_step Peek = true
 is_step Open = true
 is_step Stop = true

@@ -39,6 +39,7 @@ ask_saying client (ask.Replace key value) = step_saying kind.Replace client key 
 ask_saying client (ask.ReplaceIf key old new) = step_saying kind.ReplaceIf client key (item.Value old ∷ item.Value new ∷ [])
 ask_saying client (ask.Destroy key) = step_saying kind.Destroy client key []
 ask_saying client (ask.Remove key value) = step_saying kind.Remove client key (item.Value value ∷ [])
+ask_saying client (ask.Invalidate key) = step_saying kind.Invalidate client key []
 
 abbrev pub query_saying : ℕ → QueryAsk → Saying
 query_saying client (query.Enrol name query) = step_saying kind.Open client name (item.Query query ∷ [])
@@ -104,6 +105,7 @@ IsAskKept (ask.Replace key value) = IsKey key × IsValue value
 IsAskKept (ask.ReplaceIf key old new) = IsKey key × IsValue old × IsValue new
 IsAskKept (ask.Destroy key) = IsKey key
 IsAskKept (ask.Remove key value) = IsKey key × IsValue value
+IsAskKept (ask.Invalidate key) = IsKey key
 
 abbrev pub IsQueryKept : QueryAsk → Type 0
 IsQueryKept (query.Enrol name query) = IsKey name × Spells query.text query × IsUtf8 query.text

@@ -5,6 +5,7 @@ use Rattle.std.specs.List.{cons_option}
 use Rattle.std.specs.Option.{option_and_then}
 use Rattle.gr_history.specs.declared.ask.Ask.TheVariants as ask
 use Rattle.gr_history.specs.declared.query_ask.QueryAsk.TheVariants as query
+use Rattle.gr_oql.specs.Question.{Question}
 use Rattle.gr_script.specs.declared.ending.ScriptEnd.{ScriptEnd}
 use Rattle.gr_script.specs.declared.forms.LineKind.{LineKind}
 use Rattle.gr_script.specs.declared.forms.LineKind.TheVariants as kind
@@ -43,6 +44,14 @@ abbrev pub parts_of : List Item → Parts
 parts_of [] = no_parts
 parts_of (item ∷ items) = parts_with item (parts_of items)
 
+-- what a client asks of a query of this name at a line of this kind
+abbrev pub query_with : LineKind → List ℕ → Option Question → Option Act
+query_with kind.Open name found = option_map (λ asked. Query (query.Enrol name asked)) found
+query_with kind.Stop name found = Some (Query (query.Stop name))
+query_with kind.Close name found = Some (Query (query.Close name))
+query_with kind.Fetch name found = Some (Query (query.Fetch name))
+query_with _ name found = None
+
 -- what a client does at a line of this kind, with this key or name
 abbrev pub act_with : LineKind → List ℕ → Parts → Option Act
 act_with kind.Get key parts = Some (Call (ask.Get key))
@@ -53,12 +62,9 @@ act_with kind.ReplaceIf key parts =
     option_and_then (λ old. option_map (λ new. Call (ask.ReplaceIf key old new)) parts.other) parts.value
 act_with kind.Destroy key parts = Some (Call (ask.Destroy key))
 act_with kind.Remove key parts = option_map (λ value. Call (ask.Remove key value)) parts.value
+act_with kind.Invalidate key parts = Some (Call (ask.Invalidate key))
 act_with kind.Peek key parts = Some (Peek key)
-act_with kind.Open key parts = option_map (λ asked. Query (query.Enrol key asked)) parts.query
-act_with kind.Stop key parts = Some (Query (query.Stop key))
-act_with kind.Close key parts = Some (Query (query.Close key))
-act_with kind.Fetch key parts = Some (Query (query.Fetch key))
-act_with _ key parts = None
+act_with other key parts = query_with other key parts.query
 
 abbrev pub act_said : LineKind → Parts → Option Act
 act_said kind parts = option_and_then (λ key. act_with kind key parts) parts.key

@@ -19,6 +19,7 @@ pub(crate) enum LineKind {
     ReplaceIf,
     Destroy,
     Remove,
+    Invalidate,
     Peek,
     Open,
     Stop,
@@ -59,7 +60,7 @@ pub(crate) enum FieldKind {
 }
 
 /// The lines that begin with a client's number.
-const STEP_KINDS: [LineKind; 12] = [
+const STEP_KINDS: [LineKind; 13] = [
     LineKind::Get,
     LineKind::Put,
     LineKind::Destroy,
@@ -67,6 +68,7 @@ const STEP_KINDS: [LineKind; 12] = [
     LineKind::Replace,
     LineKind::ReplaceIf,
     LineKind::Remove,
+    LineKind::Invalidate,
     LineKind::Peek,
     LineKind::Open,
     LineKind::Stop,
@@ -111,6 +113,7 @@ impl LineKind {
             LineKind::ReplaceIf => b"replaceIf",
             LineKind::Destroy => b"destroy",
             LineKind::Remove => b"remove",
+            LineKind::Invalidate => b"invalidate",
             LineKind::Peek => b"peek",
             LineKind::Open => b"open",
             LineKind::Stop => b"stop",
@@ -197,6 +200,7 @@ impl LineKind {
                 FieldKind::Key,
                 FieldKind::Value,
             ],
+            LineKind::Invalidate => &[FieldKind::Client, FieldKind::Word, FieldKind::Key],
             LineKind::Peek => &[FieldKind::Client, FieldKind::Word, FieldKind::Key],
             LineKind::Open => &[
                 FieldKind::Client,
@@ -258,6 +262,7 @@ pub(crate) fn is_step(kind: LineKind) -> bool
             | LineKind::ReplaceIf
             | LineKind::Destroy
             | LineKind::Remove
+            | LineKind::Invalidate
             | LineKind::Peek
             | LineKind::Open
             | LineKind::Stop
@@ -286,16 +291,17 @@ fn place(kind: LineKind) -> u8
         LineKind::ReplaceIf => 12,
         LineKind::Destroy => 13,
         LineKind::Remove => 14,
-        LineKind::Peek => 15,
-        LineKind::Open => 16,
-        LineKind::Stop => 17,
-        LineKind::Close => 18,
-        LineKind::Fetch => 19,
-        LineKind::Deliver => 20,
-        LineKind::Report => 21,
-        LineKind::Hear => 22,
-        LineKind::Sweep => 23,
-        LineKind::Join => 24,
+        LineKind::Invalidate => 15,
+        LineKind::Peek => 16,
+        LineKind::Open => 17,
+        LineKind::Stop => 18,
+        LineKind::Close => 19,
+        LineKind::Fetch => 20,
+        LineKind::Deliver => 21,
+        LineKind::Report => 22,
+        LineKind::Hear => 23,
+        LineKind::Sweep => 24,
+        LineKind::Join => 25,
     }
 }
 

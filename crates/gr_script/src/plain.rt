@@ -107,6 +107,20 @@ fn kind_in(text: &[u8]) -> Option<(LineKind, &[u8])>
         [b'd', b'e', b's', b't', b'r', b'o', b'y', b' ', rest @ ..] => {
             Some((LineKind::Destroy, rest))
         }
+        [
+            b'i',
+            b'n',
+            b'v',
+            b'a',
+            b'l',
+            b'i',
+            b'd',
+            b'a',
+            b't',
+            b'e',
+            b' ',
+            rest @ ..,
+        ] => { Some((LineKind::Invalidate, rest)) }
         _ => joined_kind_in(text),
     }
 }
@@ -148,7 +162,7 @@ fn values_of(alloc: Global, bytes: &[u8]) -> Result<Option<(Value, Value)>, Memo
 }
 
 // What a client does at a line of this kind that has no more than a key.
-#[tactic(auto, using(crate::proofs::Plainly::get_spelled, crate::proofs::Plainly::destroy_spelled, crate::proofs::Plainly::peek_spelled))]
+#[tactic(auto, using(crate::proofs::Plainly::get_spelled, crate::proofs::Plainly::destroy_spelled, crate::proofs::Plainly::invalidate_spelled, crate::proofs::Plainly::peek_spelled))]
 fn keyed(kind: LineKind, key: Key) -> Option<Act>
     requires { IsKey key }
     ensures { IfSome result (IsSpelled kind key) }
@@ -156,6 +170,7 @@ fn keyed(kind: LineKind, key: Key) -> Option<Act>
     match kind {
         LineKind::Get => Some(Act::Call(Ask::Get { key })),
         LineKind::Destroy => Some(Act::Call(Ask::Destroy { key })),
+        LineKind::Invalidate => Some(Act::Call(Ask::Invalidate { key })),
         LineKind::Peek => Some(Act::Peek(key)),
         _ => None,
     }
@@ -224,7 +239,9 @@ fn act_in(alloc: Global, kind: LineKind, rest: &[u8]) -> Result<Option<Act>, Mem
     ensures { IfOk result (λ found. IfSome found (IsSpelled kind rest.now)) }
 {
     match kind {
-        LineKind::Get | LineKind::Destroy | LineKind::Peek => keyed_in(alloc, kind, rest),
+        LineKind::Get | LineKind::Destroy | LineKind::Invalidate | LineKind::Peek => {
+            keyed_in(alloc, kind, rest)
+        }
         LineKind::ReplaceIf => swapped_in(alloc, rest),
         _ => valued_in(alloc, kind, rest),
     }

@@ -157,6 +157,7 @@ fn put_ask(alloc: Global, client: u8, ask: &Ask, out: &mut Vec<u8>) -> Result<()
         )?,
         Ask::Destroy { key } => put_step(client, LineKind::Destroy, key, out)?,
         Ask::Remove { key, value } => put_change(alloc, client, LineKind::Remove, key, value, out)?,
+        Ask::Invalidate { key } => put_step(client, LineKind::Invalidate, key, out)?,
     }
     Ok(())
 }

@@ -3,7 +3,7 @@ ghost use Rattle.gr_script.specs.declared.saying.Saying.{Saying as ASaying};
 ghost use Rattle.gr_script.specs.Forms.{is_step as is_step_kind};
 ghost use Rattle.gr_script.specs.Narrow.{IsNarrowStep, IsNarrow};
 ghost use Rattle.gr_script.specs.Past.{number as number_in, steps as steps_in};
-ghost use Rattle.gr_script.specs.Said.{act_said, step_said, other_said, line_of};
+ghost use Rattle.gr_script.specs.Said.{query_with, act_said, step_said, other_said, line_of};
 
 use crate::forms::{LineKind, is_step};
 use crate::items::Item;
@@ -11,7 +11,24 @@ use crate::parts::{Parts, parts_of};
 use crate::saying::{Saying, number};
 use crate::{Act, Line};
 use gr_history::{Ask, QueryAsk};
-use gr_value::ItemList;
+use gr_oql::Query;
+use gr_value::{ItemList, Key};
+
+// What a client asks of a query of this name at a line of this kind.
+fn query_said(kind: LineKind, name: Key, query: Option<Query>) -> Option<Act>
+    ensures { result ≡ query_with kind name query }
+{
+    match kind {
+        LineKind::Open => Some(Act::Query(QueryAsk::Enrol {
+            name,
+            query: query?,
+        })),
+        LineKind::Stop => Some(Act::Query(QueryAsk::Stop { name })),
+        LineKind::Close => Some(Act::Query(QueryAsk::Close { name })),
+        LineKind::Fetch => Some(Act::Query(QueryAsk::Fetch { name })),
+        _ => None,
+    }
+}
 
 // What a client does at a line of this kind.
 fn act_said(kind: LineKind, parts: Parts) -> Option<Act>
@@ -42,15 +59,9 @@ fn act_said(kind: LineKind, parts: Parts) -> Option<Act>
             key,
             value: parts.value?,
         })),
+        LineKind::Invalidate => Some(Act::Call(Ask::Invalidate { key })),
         LineKind::Peek => Some(Act::Peek(key)),
-        LineKind::Open => Some(Act::Query(QueryAsk::Enrol {
-            name: key,
-            query: parts.query?,
-        })),
-        LineKind::Stop => Some(Act::Query(QueryAsk::Stop { name: key })),
-        LineKind::Close => Some(Act::Query(QueryAsk::Close { name: key })),
-        LineKind::Fetch => Some(Act::Query(QueryAsk::Fetch { name: key })),
-        _ => None,
+        _ => query_said(kind, key, parts.query),
     }
 }
 
