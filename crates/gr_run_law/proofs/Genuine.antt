@@ -384,6 +384,7 @@ module _ (heading : Heading) (lines : List Line) (histories : Histories) (served
   pub run_whole : (shard : ℕ) → shard < heading.shards → IsWhole (grid_from heading histories shard)
   run_whole shard within = record {
     sound = record {
+      few = head.heading.members.1;
       lawful = λ member. at_member member (IsLawful (identity (grid_from heading histories shard) member) heading.floor)
           (λ is. a.lawful member shard is within) tt;
       genuine = λ member. at_member member (IsGenuine (grid_from heading histories shard) member)

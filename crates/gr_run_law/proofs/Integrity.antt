@@ -18,13 +18,13 @@ use Rattle.gr_history.specs.declared.image.What.{What}
 use Rattle.gr_history.specs.declared.image.What.TheVariants as what
 use Rattle.gr_history.specs.declared.deed.Deed.{Deed}
 use Rattle.gr_history.specs.declared.deed.Deed.TheVariants.{Call, Asked, Taken, Gave, Imaged, Reported, Heard, Swept}
-use Rattle.gr_history.specs.Asks.{key_of, told}
+use Rattle.gr_history.specs.Asks.{at_key, key_of, told}
 use Rattle.gr_history.specs.Calls.{call_gives, given, nothing_made, made_change, reach, last_rv}
 use Rattle.gr_history.specs.Gifts.{own_changes}
 use Rattle.gr_history.specs.Lawful.{IsLawfulDeed}
 use Rattle.gr_history.specs.Made.{made, made_at}
 use Rattle.gr_history.specs.Recipients.{recipients, is_ready}
-use Rattle.gr_history.specs.Standing.{present}
+use Rattle.gr_history.specs.Standing.{there, present}
 use Rattle.gr_law.specs.Grids.{Among, Older}
 use Rattle.gr_law.proofs.Images.{filter_map_has}
 use Rattle.gr_law.proofs.Lists.{among_either, among_left, among_right, among_filter, among_reverse}
@@ -64,7 +64,7 @@ gives_key : (id : Identity) (opening : ℕ) (past : List Deed) (ask : Ask) (chan
 gives_key id opening past ask change h = at_test (is_ready id past) h
   where
     answer : Told
-    answer = told ask (present (key_of ask) past)
+    answer = told ask (at_key (there (key_of ask) past) (present (key_of ask) past))
 
     at_test : (b : Bool) → (if b then given id opening past (key_of ask) answer.reply answer.change else nothing_made NotReady).made
         ≡ Some change → change.key ≡ key_of ask

@@ -13,11 +13,11 @@ use Rattle.gr_history.specs.declared.reply.Reply.TheVariants.{Limit, NotReady}
 use Rattle.gr_history.specs.declared.reply.Told.{Told}
 use Rattle.gr_history.specs.declared.deed.Deed.{Deed}
 use Rattle.gr_history.specs.declared.deed.Deed.TheVariants.{Call}
-use Rattle.gr_history.specs.Asks.{key_of, told}
+use Rattle.gr_history.specs.Asks.{at_key, key_of, told}
 use Rattle.gr_history.specs.Calls.{call_gives, given, nothing_made, made_change, reach, last_rv}
 use Rattle.gr_history.specs.Lawful.{IsLawfulDeed}
 use Rattle.gr_history.specs.Recipients.{recipients, is_ready, is_recipient, member_bits}
-use Rattle.gr_history.specs.Standing.{present}
+use Rattle.gr_history.specs.Standing.{there, present}
 use Rattle.gr_post.specs.Plan.{is_named}
 use Rattle.gr_run_law.proofs.Lists.{none_isnt_some}
 
@@ -134,7 +134,7 @@ gives_to_all : (id : Identity) (opening : ℕ) (past : List Deed) (ask : Ask) (c
 gives_to_all id opening past ask change h = at_test (is_ready id past) h
   where
     answer : Told
-    answer = told ask (present (key_of ask) past)
+    answer = told ask (at_key (there (key_of ask) past) (present (key_of ask) past))
 
     at_test : (b : Bool) → (if b then given id opening past (key_of ask) answer.reply answer.change else nothing_made NotReady).made
         ≡ Some change

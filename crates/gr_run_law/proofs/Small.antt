@@ -221,11 +221,11 @@ first_lawful_1 = tt & tt & refl & refl & refl & tt
 
 second_lawful_0 : LawfulAt 2 0
 unfolding recipients
-second_lawful_0 = tt & record { member_is = refl; at_is = refl; own_is = refl; vector_is = refl } & tt
+second_lawful_0 = tt & record { member_is = refl; at_is = refl; own_is = refl; to_is = refl; vector_is = refl } & tt
 
 second_lawful_1 : LawfulAt 2 1
 unfolding recipients
-second_lawful_1 = refl & tt & record { member_is = refl; at_is = refl; own_is = refl; vector_is = refl } & refl & tt
+second_lawful_1 = refl & tt & record { member_is = refl; at_is = refl; own_is = refl; to_is = refl; vector_is = refl } & refl & tt
 
 third_lawful_0 : LawfulAt 3 0
 unfolding recipients

@@ -58,10 +58,10 @@ abbrev get : Deed
 get = Call 2 0 1 (ask.Get one_key) (reply.Value []) None
 
 abbrev pub report_0 : Report
-report_0 = record { member = 2; at = 0; own = 0; vector = record { ids = []; spare = 0 } }
+report_0 = record { member = 2; at = 0; own = 0; to = 1; vector = record { ids = []; spare = 0 } }
 
 abbrev pub report_1 : Report
-report_1 = record { member = 2; at = 1; own = 0; vector = record { ids = id 1 1 ∷ []; spare = 0 } }
+report_1 = record { member = 2; at = 1; own = 0; to = 1; vector = record { ids = id 1 1 ∷ []; spare = 0 } }
 
 abbrev pub image_0 : Image
 image_0 = record { from = 2; at = 1; rows = []; vector = record { ids = []; spare = 0 }; floor = 0 }

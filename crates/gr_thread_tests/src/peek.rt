@@ -41,10 +41,13 @@ fn turned(alloc: Global, letter: u8, number: Option<u64>) -> Result<Turned, Memo
     let Ok(key) = key_of(alloc, letter) else {
         return Err(Memory);
     };
+    let has = new.is_some();
     Ok(Turned {
         key,
         old: None,
         new,
+        had: false,
+        has,
     })
 }
 

@@ -20,6 +20,7 @@ fn mail(alloc: Global, at: u64) -> Option<Mail> {
             member: 1,
             at,
             own: 0,
+            to: 0,
             vector: SharedVector::new(alloc, vector).ok()?,
         },
     })

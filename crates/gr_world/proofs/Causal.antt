@@ -52,12 +52,12 @@ line_causal heading (line.Report member) past is stands h =
 line_causal heading (Hear member of number) past is stands h =
     each_keeps (λ n mid. IsCausal heading mid) heading.shards
     (λ shard mid. hears heading member shard (numbered number (reports (history of shard mid))) mid) (course heading past) h
-    (λ shard mid less k. hears_causal heading member of number shard mid stands.0 k)
+    (λ shard mid less k. hears_causal heading member of number shard mid is.members.1 stands.0 k)
 line_causal heading (Sweep member moment) past is stands h =
     each_keeps (λ n mid. IsCausal heading mid) heading.shards (λ shard. does heading member shard (Sweeps moment)) (course heading past) h
     (λ shard mid less k. does_causal heading member shard (Sweeps moment) mid stands.0 tt k)
 line_causal heading (Join joiner provider) past is stands h =
-    joins_ready heading joiner provider (course heading past) (omega (arith, stands.0), stands.1) stands.0 stands.2.1
+    joins_ready heading joiner provider (course heading past) is.members.1 (omega (arith, stands.0), stands.1) stands.0 stands.2.1
     (record { causal = h; none = λ shard from. course_unmerged heading joiner past stands.3 shard })
 
 -- Each event is one that may come after those before it.

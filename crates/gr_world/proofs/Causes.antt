@@ -1,5 +1,5 @@
 -- What is done is lawful, and what is taken in and heard was made before.
-use Rattle.std.proofs.Common.{zero, suc, ◌≡◌, ℕ, ◌<◌, List, [], ◌∷◌, Bool, true, false, ◌&&◌, ◌==◌, refl, sym, ap, ◌∙◌, subst, inl, inr}
+use Rattle.std.proofs.Common.{zero, suc, ◌≡◌, ℕ, ◌≤◌, ◌<◌, List, [], ◌∷◌, Bool, true, false, ◌&&◌, ◌==◌, refl, sym, ap, ◌∙◌, subst, inl, inr}
 use Rattle.std.proofs.Common.{arith, length, if◌then◌else◌}
 use Rattle.std.specs.Prelude.{Option, Some, None, map}
 use Rattle.gr_value.specs.Shard.{shard_of}
@@ -56,7 +56,7 @@ does_causal heading m s doing before member may h = (next doing may, h)
         from = member.0;
         to = member.1;
         lawful =
-            record { member_is = refl; at_is = refl; own_is = refl; vector_is = refl };
+            record { member_is = refl; at_is = refl; own_is = refl; to_is = refl; vector_is = refl };
         genuine = tt;
         once = tt;
         heard = tt;
@@ -163,16 +163,16 @@ reported_by id opening (deed ∷ past) report law (inl is) =
     (subst (λ d. IsLawfulDeed id opening d past) (sym is) law.0).member_is
 reported_by id opening (deed ∷ past) report law (inr a) = reported_by id opening past report law.1 a
 
-pub hears_causal : (heading : Heading) (member of number shard : ℕ) (now : List Event) → IsMember heading member → IsCausal heading now
+pub hears_causal : (heading : Heading) (member of number shard : ℕ) (now : List Event) → heading.members ≤ 8 → IsMember heading member → IsCausal heading now
     → IsCausal heading (hears heading member shard (numbered number (reports (history of shard now))) now)
-hears_causal heading member of number shard now is h = at_report (numbered number (reports (history of shard now))) refl
+hears_causal heading member of number shard now few is h = at_report (numbered number (reports (history of shard now))) refl
   where
     at_report : (o : Option Report) → numbered number (reports (history of shard now)) ≡ o
         → IsCausal heading (hears heading member shard o now)
     at_report None e = h
     at_report (Some report) e =
         let made_is : Among (Reported report) (history of shard now) = reports_made report _ (numbered_among number _ report e) in
-        let whole : IsWhole (grid_at heading shard now) = whole_course heading now h shard in
+        let whole : IsWhole (grid_at heading shard now) = whole_course heading now few h shard in
         let who : report.member ≡ of =
         reported_by (identity (grid_at heading shard now) of) heading.floor _ report (whole.sound.lawful of) made_is in
         does_causal heading member shard (Hears report) now is

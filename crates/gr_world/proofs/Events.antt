@@ -15,7 +15,7 @@ use Rattle.gr_history.specs.declared.reply.Told.{Told}
 use Rattle.gr_history.specs.declared.identity.Identity.{Identity}
 use Rattle.gr_history.specs.declared.deed.Deed.{Deed}
 use Rattle.gr_history.specs.declared.deed.Deed.TheVariants.{Call, Asked, Taken, Gave, Imaged, Reported, Heard, Swept}
-use Rattle.gr_history.specs.Asks.{key_of, told as table}
+use Rattle.gr_history.specs.Asks.{at_key, key_of, told as table}
 use Rattle.gr_history.specs.Calls.{call_gives, given, nothing_made, made_change, reach, last_rv}
 use Rattle.gr_history.specs.Recipients.{recipients, is_ready}
 use Rattle.gr_history.specs.Ids.{ids, known}
@@ -23,7 +23,7 @@ use Rattle.gr_history.specs.Made.{made, made_at}
 use Rattle.gr_history.specs.Gifts.{IsReportOf, report_of}
 use Rattle.gr_history.specs.Lawful.{IsLawfulDeed}
 use Rattle.gr_history.specs.Room.{IsSameDeed, IsSameReport, bare}
-use Rattle.gr_history.specs.Standing.{present}
+use Rattle.gr_history.specs.Standing.{there, present}
 use Rattle.gr_law.specs.Grids.{Among}
 use Rattle.gr_law.specs.Integrity.{HasNoImage}
 use Rattle.gr_law.proofs.Lists.{among_right}
@@ -131,7 +131,7 @@ pub gives_key : (id : Identity) (opening : ℕ) (past : List Deed) (ask : Ask) (
 gives_key id opening past ask change h = at_test (is_ready id past) h
   where
     answered : Told
-    answered = table ask (present (key_of ask) past)
+    answered = table ask (at_key (there (key_of ask) past) (present (key_of ask) past))
 
     at_test : (b : Bool)
         → (if b then given id opening past (key_of ask) answered.reply answered.change else nothing_made NotReady).made ≡ Some change
@@ -142,16 +142,16 @@ gives_key id opening past ask change h = at_test (is_ready id past) h
         no : None ≡ Some change → ⊥
         no e = cc
 
-report_is : (me : ℕ) (past : List Deed) (report : Report) → IsReportOf me past report → IsSameReport report (report_of me past)
-report_is me past report is =
-    named report.member me report.at (length past) report.own (top me (ids past)) report.vector.ids (known past)
-    is.member_is is.at_is is.own_is is.vector_is
+report_is : (id : Identity) (past : List Deed) (report : Report) → IsReportOf id past report → IsSameReport report (report_of id past)
+report_is id past report is =
+    named report.member id.member report.at (length past) report.own (top id.member (ids past)) report.to (recipients id past)
+    report.vector.ids (known past) is.member_is is.at_is is.own_is is.to_is is.vector_is
   where
-    told_with : ℕ → ℕ → ℕ → List Id → Report
-    told_with a b c v = record { member = a; at = b; own = c; vector = record { ids = v; spare = 0 } }
+    told_with : ℕ → ℕ → ℕ → ℕ → List Id → Report
+    told_with a b c d v = record { member = a; at = b; own = c; to = d; vector = record { ids = v; spare = 0 } }
 
-    named : (a b c d e f : ℕ) (v w : List Id) → a ≡ b → c ≡ d → e ≡ f → v ≡ w → told_with a c e v ≡ told_with b d f w
-    named a b c d e f v w h i j k = cc
+    named : (a b c d e f g h : ℕ) (v w : List Id) → a ≡ b → c ≡ d → e ≡ f → g ≡ h → v ≡ w → told_with a c e g v ≡ told_with b d f h w
+    named a b c d e f g h v w i j k l m = cc
 
 -- deeds that are the same say the same
 same_deed : (one two : Deed) → one ≡ two → IsSameDeed one two
@@ -175,7 +175,7 @@ one_deed id opening past (Imaged image) doing says law =
     subst (λ d. IsSameDeed (Imaged image) (deed_of id opening past d)) (sym says) refl
 one_deed id opening past (Reported report) doing says law =
     subst (λ d. IsSameDeed (Reported report) (deed_of id opening past d)) (sym says)
-    (ap Reported (report_is id.member past report law))
+    (ap Reported (report_is id past report law))
 one_deed id opening past (Heard report) doing says law =
     subst (λ d. IsSameDeed (Heard report) (deed_of id opening past d)) (sym says) refl
 one_deed id opening past (Swept moment keys) doing says law =

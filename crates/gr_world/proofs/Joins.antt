@@ -66,13 +66,13 @@ takes_joining heading joiner provider shard given (change ∷ rest) now is made_
     })
 
 -- the own changes of a member were made
-own_made : (heading : Heading) (giver shard : ℕ) (now : List Event) → IsCausal heading now → (change : Change)
+own_made : (heading : Heading) (giver shard : ℕ) (now : List Event) → heading.members ≤ 8 → IsCausal heading now → (change : Change)
     → Among change (own_changes (history giver shard now))
     → IsMade (grid_at heading shard now) change
-own_made heading giver shard now h change a =
+own_made heading giver shard now few h change a =
     let made_is : Among change (made (history giver shard now)) = among_reverse change _ a in
     let who : change.stamp.member ≡ giver =
-    member_of_made _ _ (history giver shard now) ((whole_course heading now h shard).sound.lawful giver) made_is in
+    member_of_made _ _ (history giver shard now) ((whole_course heading now few h shard).sound.lawful giver) made_is in
     subst (λ i. Among change (made (history i shard now))) (sym who) made_is
   where
     member_of_made : (id : _) (opening : ℕ) (past : List Deed) → IsLawful id opening past → Among change (made past)
@@ -115,12 +115,12 @@ just_given heading joiner shard giver now founder = record {
         (image_of giver heading.floor (history giver shard now)) ≡ history giver shard now
     there = ap (at_place (length (history giver shard now))) here ∙ before_end (Gave joiner what.Image) (history giver shard now)
 
-gives_joining : (heading : Heading) (joiner provider shard n : ℕ) (now : List Event) → IsMember heading joiner → heading.founders < joiner
+gives_joining : (heading : Heading) (joiner provider shard n : ℕ) (now : List Event) → heading.members ≤ 8 → IsMember heading joiner → heading.founders < joiner
     → provider ≤ heading.founders
     → suc n ≤ heading.members → IsJoining heading joiner provider shard n now
     → IsJoining heading joiner provider shard (suc n)
     (gives_unless (suc n == joiner) heading joiner shard (suc n) (what_from (suc n == provider)) now)
-gives_joining heading joiner provider shard n now is joins founder within h = at_joiner (suc n == joiner) (suc n == provider) refl
+gives_joining heading joiner provider shard n now few is joins founder within h = at_joiner (suc n == joiner) (suc n == provider) refl
   where
     giver : IsMember heading (suc n)
     giver = (omega arith, within)
@@ -142,7 +142,7 @@ gives_joining heading joiner provider shard n now is joins founder within h = at
         (takes_joining heading joiner provider shard n (own_changes (history (suc n) shard now))
         (does heading (suc n) shard (Gives joiner what.Own) now) is
         (λ change a. more_made change.stamp.member shard change (Did (suc n) shard (Gave joiner what.Own)) now
-        (own_made heading (suc n) shard now h.causal change a))
+        (own_made heading (suc n) shard now few h.causal change a))
         (given what.Own))
     at_joiner false true e =
         let now_given : List Event = does heading (suc n) shard (Gives joiner what.Image) now in
@@ -160,10 +160,10 @@ gives_joining heading joiner provider shard n now is joins founder within h = at
               ((given what.Image).later t less);
         }
 
-pub joins_ready : (heading : Heading) (joiner provider : ℕ) (before : List Event) → IsMember heading joiner → heading.founders < joiner
+pub joins_ready : (heading : Heading) (joiner provider : ℕ) (before : List Event) → heading.members ≤ 8 → IsMember heading joiner → heading.founders < joiner
     → provider ≤ heading.founders
     → IsReady heading joiner 0 before → IsCausal heading (after heading (Join joiner provider) before)
-joins_ready heading joiner provider before is joins founder ready =
+joins_ready heading joiner provider before few is joins founder ready =
     (each_keeps (IsReady heading joiner) heading.shards _ before ready
     (λ shard now within h.
     let first : IsJoining heading joiner provider shard 0 now = record {
@@ -173,7 +173,7 @@ joins_ready heading joiner provider before is joins founder ready =
     } in
     let last = each_keeps (IsJoining heading joiner provider shard) heading.members
     (λ n. gives_unless (suc n == joiner) heading joiner shard (suc n) (what_from (suc n == provider))) now first
-    (λ n mid less joining. gives_joining heading joiner provider shard n mid is joins founder (omega (arith, less)) joining) in
+    (λ n mid less joining. gives_joining heading joiner provider shard n mid few is joins founder (omega (arith, less)) joining) in
     record { causal = last.causal; none = λ t from. last.later t (omega (arith, from)) })).causal
 
 -- A member that hasn't joined has no image.

@@ -64,9 +64,9 @@ history_outside heading course shard from (suc n) member far =
     further (inl h) = inl (omega (arith, h))
     further (inr h) = inr (omega (arith, h))
 
-pub one_grid : (heading : Heading) (course : List Event) → IsCausal heading course → (shard : ℕ) → shard < heading.shards
+pub one_grid : (heading : Heading) (course : List Event) → heading.members ≤ 8 → IsCausal heading course → (shard : ℕ) → shard < heading.shards
     → grid_at heading shard course ≡ grid_of heading shard (members_left heading course)
-one_grid heading course h shard within =
+one_grid heading course few h shard within =
     same_grid (grid_at heading shard course) (history_at shard (members_left heading course))
     (λ member. sym (at_member member (cases member heading.members)))
   where
@@ -85,14 +85,14 @@ one_grid heading course h shard within =
     at_member member (inl is) = history_from heading course shard 1 heading.members member within is.0 is.1
     at_member member (inr far) =
         history_outside heading course shard 1 heading.members member far
-        ∙ sym (none member far ((whole_course heading course h shard).sound.outside member))
+        ∙ sym (none member far ((whole_course heading course few h shard).sound.outside member))
 
 -- What is left of a script keeps the laws.
 pub left_abiding : (heading : Heading) (lines : List Line) → IsScript heading lines → (left : Record) → IsReplayed heading lines left
     → KeepsLaws heading left
 left_abiding heading lines is left replayed shard within =
     let events = course heading (reverse lines) in
-    subst IsLawAbiding (one_grid heading events (script_causal heading lines is) shard within
+    subst IsLawAbiding (one_grid heading events is.heading.members.1 (script_causal heading lines is) shard within
     ∙ ap (grid_of heading shard) (sym replayed.members)) (script_abiding heading lines is shard)
 
 -- Its histories are those of the course.
@@ -101,7 +101,7 @@ left_histories : (heading : Heading) (lines : List Line) → IsScript heading li
     → histories_at (course heading (reverse lines)) member shard ≡ histories_in left member shard
 left_histories heading lines is left replayed member shard within =
     let events = course heading (reverse lines) in
-    ap (λ (grid : Grid). grid.history member) (one_grid heading events (script_causal heading lines is) shard within)
+    ap (λ (grid : Grid). grid.history member) (one_grid heading events is.heading.members.1 (script_causal heading lines is) shard within)
     ∙ ap (λ all. history_at shard all member) (sym replayed.members)
 
 -- So its clients were served, in the order of the lines.

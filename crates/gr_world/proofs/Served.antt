@@ -59,7 +59,7 @@ whole_abiding grid whole = record {
 pub script_abiding : (heading : Heading) (lines : List Line) → IsScript heading lines → (shard : ℕ)
     → IsLawAbiding (grid_at heading shard (course heading (reverse lines)))
 script_abiding heading lines is shard =
-    whole_abiding _ (whole_course heading (course heading (reverse lines)) (script_causal heading lines is) shard)
+    whole_abiding _ (whole_course heading (course heading (reverse lines)) is.heading.members.1 (script_causal heading lines is) shard)
 
 -- ---- clients
 

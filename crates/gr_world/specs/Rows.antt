@@ -1,5 +1,5 @@
 -- Three scripts, and what their lines do. Lines, events and deeds are listed the newest one first.
-use Rattle.std.specs.Prelude.{ℕ, List, [], ◌∷◌, Some, codes}
+use Rattle.std.specs.Prelude.{ℕ, List, [], ◌∷◌, Some, None, codes}
 use Rattle.gr_stamp.specs.declared.change.Change.{Change}
 use Rattle.gr_stamp.specs.declared.change.Kind.{Kind}
 use Rattle.gr_stamp.specs.declared.change.Kind.TheVariants.{Put, Remove}
@@ -78,10 +78,10 @@ abbrev pub id : ℕ → ℕ → Id
 id member rv = record { member = member; rv = rv }
 
 abbrev pub report_1 : Report
-report_1 = record { member = 1; at = 2; own = 1; vector = record { ids = id 1 1 ∷ id 2 1 ∷ []; spare = 0 } }
+report_1 = record { member = 1; at = 2; own = 1; to = 2; vector = record { ids = id 1 1 ∷ id 2 1 ∷ []; spare = 0 } }
 
 abbrev pub report_3 : Report
-report_3 = record { member = 3; at = 1; own = 0; vector = record { ids = id 2 1 ∷ []; spare = 0 } }
+report_3 = record { member = 3; at = 1; own = 0; to = 3; vector = record { ids = id 2 1 ∷ []; spare = 0 } }
 
 abbrev pub image : Image
 image = record { from = 2; at = 5; rows = []; vector = record { ids = id 1 1 ∷ id 2 1 ∷ []; spare = 0 }; floor = 2 }
@@ -95,3 +95,36 @@ abbrev pub joiner_history : List Deed
 joiner_history =
     deed.Call 3 3 1 (ask.Put one_key []) reply.Null (Some (put 3 3 1)) ∷ deed.Imaged image
     ∷ deed.Taken (put 1 1 1) verdict.Discarded ∷ deed.Reported report_3 ∷ deed.Taken removal verdict.Applied ∷ []
+
+-- ---- A member that never joined holds no tombstone back. Its image drops what it had, and its put passes the floor.
+
+abbrev pub unjoined : List Line
+unjoined =
+    puts 3 2 ∷ line.Step 3 1 (act.Call (ask.Get one_key)) ∷ line.Join 3 2 ∷ line.Sweep 2 600 ∷ line.Hear 2 1 1 ∷ line.Report 1
+    ∷ line.Deliver 1 2 1 ∷ destroys 2 1 ∷ line.Deliver 3 1 1 ∷ line.Deliver 2 1 1 ∷ puts 1 1 ∷ []
+
+abbrev later_image : Image
+later_image = record image { at = 4 }
+
+abbrev pub unjoined_giver : List Deed
+unjoined_giver =
+    deed.Gave 3 what.Image ∷ deed.Swept 600 (one_key ∷ []) ∷ deed.Heard report_1
+    ∷ deed.Call 2 1 1 (ask.Destroy one_key) reply.Done (Some removal) ∷ deed.Taken (put 1 1 1) verdict.Applied ∷ []
+
+abbrev pub late_joiner : List Deed
+late_joiner =
+    deed.Call 3 3 2 (ask.Put one_key []) reply.Null (Some (put 3 3 1)) ∷ deed.Call 3 0 1 (ask.Get one_key) reply.Null None
+    ∷ deed.Imaged later_image ∷ deed.Taken (put 1 1 1) verdict.Repeat ∷ deed.Taken (put 1 1 1) verdict.Applied ∷ []
+
+-- ---- A member that was given something holds it back, until its report is heard.
+
+abbrev pub given : List Line
+given =
+    line.Sweep 1 601 ∷ line.Hear 1 3 1 ∷ line.Report 3 ∷ line.Deliver 3 1 2 ∷ line.Sweep 1 600 ∷ line.Hear 1 2 1 ∷ line.Report 2
+    ∷ line.Deliver 2 1 2 ∷ destroys 1 2 ∷ line.Join 3 1 ∷ line.Deliver 2 1 1 ∷ puts 1 1 ∷ []
+
+-- what its sweeps let expire
+abbrev pub swept : List Deed → List (List (List ℕ))
+swept [] = []
+swept (deed.Swept moment expired ∷ past) = expired ∷ swept past
+swept (_ ∷ past) = swept past

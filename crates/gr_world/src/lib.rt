@@ -23,4 +23,7 @@ mod world;
 pub use laws::laws_of_courses;
 pub use playing::play_text;
 pub use replaying::replay;
-pub use rows::{a_repeat_is_told, an_image_drops_a_tombstone, concurrent_puts_meet};
+pub use rows::{
+    a_joiner_that_never_joined_is_not_waited_for, a_joiner_that_was_given_to_is_waited_for,
+    a_repeat_is_told, an_image_drops_a_tombstone, concurrent_puts_meet,
+};
