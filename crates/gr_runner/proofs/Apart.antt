@@ -1,11 +1,10 @@
 -- News while they are told apart.
-use Rattle.std.proofs.Common.{◌≡◌, ℕ, List, [], ◌∷◌, ◌++◌, length, map, Option, Some, None, refl, sym, ap, ◌∙◌, subst, reverse, append-nil, append_assoc}
+use Rattle.std.proofs.Common.{◌≡◌, List, [], ◌∷◌, ◌++◌, length, map, Option, Some, None, refl, sym, ap, ◌∙◌, reverse, append-nil, append_assoc}
 use Rattle.std.specs.List.{cons_option, filter_map}
 use Rattle.std.specs.Option.{option_to_list}
 use Rattle.std.proofs.lemmas.List.{map-append, reverse-append}
 use Rattle.std.proofs.lemmas.List.Elements.{filter_map-append}
-use Rattle.gr_history.specs.declared.record.ClientRecord.{ClientRecord}
-use Rattle.gr_post.specs.Passes.{Sending, Taking}
+use Rattle.gr_post.specs.Passes.{Sending}
 use Rattle.gr_member.proofs.Leaving.{empty_of}
 use Rattle.gr_runner.specs.declared.gathering.News.{News}
 use Rattle.gr_runner.specs.declared.sorting.Sorted.{Sorted}

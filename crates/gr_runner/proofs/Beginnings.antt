@@ -1,13 +1,12 @@
 -- A run whose members were made and whose passes were dealt is ready, and what it leaves is lawful.
-use Rattle.std.proofs.Common.{◌≡◌, ℕ, suc, ◌+◌, ◌-◌, ◌<◌, List, length, Option, Some, None, refl, sym, ap, ◌∙◌, subst, arith, get_or}
+use Rattle.std.proofs.Common.{◌≡◌, ℕ, suc, ◌-◌, ◌<◌, List, length, Option, Some, None, sym, ap, ◌∙◌, subst, arith, get_or}
 use Rattle.std.specs.Prelude.{Err, IfOk, IfSome, Ok, Result}
 use Rattle.std.specs.List.{AllByRecursion}
 use Rattle.gr_history.specs.declared.record.ClientRecord.{ClientRecord}
-use Rattle.gr_history.specs.declared.record.MemberRecord.{MemberRecord}
 use Rattle.gr_history.specs.declared.record.Record.{Record}
 use Rattle.gr_post.specs.Passes.{Ring}
 use Rattle.gr_script.specs.declared.line.Line.{Line}
-use Rattle.gr_script.specs.Rules.{Heading, IsScript, home_of}
+use Rattle.gr_script.specs.Rules.{Heading, IsScript}
 use Rattle.std.proofs.lemmas.Option.{slice_get-get_or}
 use Rattle.gr_run_law.specs.Threads.{IsLeftByThreads}
 use Rattle.gr_run_law.proofs.Lists.{none_isnt_some, same_in_some}
@@ -15,7 +14,6 @@ use Rattle.gr_member.specs.Passes.{HaveAll, House}
 use Rattle.gr_member.specs.Seats.{Place}
 use Rattle.gr_runner.specs.declared.dealing.Dealt.{Dealt}
 use Rattle.gr_runner.specs.declared.kits.Kits.{Kits}
-use Rattle.gr_runner.specs.declared.slots.ClientKit.{ClientKit}
 use Rattle.gr_runner.specs.Dealing.{AreAtHome, AreDealt, IsDealt}
 use Rattle.gr_runner.specs.Ending.{AreEnded}
 use Rattle.gr_runner.specs.Going.{HasGoneBy, IsReady}

@@ -18,7 +18,6 @@ use Rattle.gr_member.specs.Passes.{House, IsPassOf}
 use Rattle.gr_member.specs.Seats.{Place}
 use Rattle.gr_member.proofs.Leaving.{empty_of}
 use Rattle.gr_member.proofs.Passing.{pass_stays}
-use Rattle.gr_host.specs.Houses.{ArePassesOf}
 use Rattle.gr_runner.specs.declared.dealing.Dealt.{Dealt}
 use Rattle.gr_runner.specs.declared.gathering.Left.{Left}
 use Rattle.gr_runner.specs.declared.gathering.News.{News}

@@ -1,18 +1,13 @@
 -- The record of a run is what is left of its threads.
-use Rattle.std.proofs.Common.{◌≡◌, ◌≢◌, ◌⊎◌, ℕ, zero, suc, ◌+◌, ◌-◌, ◌<◌, ◌≤◌, ◌==◌, Bool, true, false, List, [], ◌∷◌, ◌++◌, length, map, Option, Some, None}
-use Rattle.std.proofs.Common.{refl, sym, ap, ◌∙◌, subst, arith, inl, inr, reverse, flat_map, get_or, if◌then◌else◌, eqb-true, eq-eqb, ne_eqb, leb, length-append, ⊎_elim}
-use native.Mathlib.Decide.{ℕ_discrete}
-use mathlib.Core.Logic.{dite}
+use Rattle.std.proofs.Common.{◌≡◌, ◌≢◌, ◌⊎◌, ℕ, zero, suc, ◌+◌, ◌-◌, ◌<◌, ◌≤◌, ◌==◌, Bool, true, false, List, [], ◌∷◌, length, map, Option, Some, None}
+use Rattle.std.proofs.Common.{refl, sym, ap, ◌∙◌, subst, arith, inl, inr, flat_map, get_or, if◌then◌else◌, eqb-true, eq-eqb, leb, length-append, ⊎_elim}
 use Rattle.std.specs.Prelude.{cond, slice_get}
 use Rattle.std.specs.List.{AllByRecursion, cons_option, filter_map}
 use Rattle.std.specs.Option.{option_to_list}
 use Rattle.std.proofs.lemmas.Bool.Decides.{leb_tells}
-use Rattle.std.proofs.lemmas.List.{reverse-reverse}
 use Rattle.std.proofs.lemmas.Option.{get_or_from_slice_get, slice_get-get_or, slice_get_within}
-use Rattle.gr_turn.specs.Views.{HasAll, times}
-use Rattle.gr_history.specs.declared.record.ClientRecord.{ClientRecord}
+use Rattle.gr_turn.specs.Views.{times}
 use Rattle.gr_history.specs.declared.record.MemberRecord.{MemberRecord}
-use Rattle.gr_history.specs.declared.record.Record.{Record}
 use Rattle.gr_law.specs.Grids.{Among}
 use Rattle.gr_law.proofs.Lists.{among_either, among_left, among_reverse, among_right}
 use Rattle.gr_post.specs.declared.mail.Posted.{Posted}
@@ -27,7 +22,7 @@ use Rattle.gr_run_law.specs.Threads.{IsLeftByThreads, client_place, member_place
 use Rattle.gr_run_law.proofs.Clients.{home_is_member}
 use Rattle.gr_run_law.proofs.Delivering.{among_map, map_among}
 use Rattle.gr_run_law.proofs.Integrity.{among_flat, flat_among}
-use Rattle.gr_run_law.proofs.Lists.{among_get, get_some, none_isnt_some, same_in_some, same_number}
+use Rattle.gr_run_law.proofs.Lists.{among_get, get_some, same_in_some, same_number}
 use Rattle.gr_value.specs.Lists.{StartsWith}
 use Rattle.gr_member.specs.Fresh.{IsFresh, IsFreshSeat}
 use Rattle.gr_member.specs.Left.{AreLeftBy}

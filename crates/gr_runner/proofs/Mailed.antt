@@ -1,27 +1,23 @@
 -- What couriers send in the end has one `End`, and all of it is taken.
-use Rattle.std.proofs.Common.{◌≡◌, ℕ, zero, suc, ◌-◌, ◌<◌, ◌≤◌, Bool, true, false, ◌||◌, List, [], ◌∷◌, ◌++◌, length, map, Option, Some, None}
-use Rattle.std.proofs.Common.{refl, sym, ap, ◌∙◌, subst, arith, reverse, filter, flat_map, get_or, if◌then◌else◌}
+use Rattle.std.proofs.Common.{◌≡◌, ℕ, zero, suc, ◌-◌, ◌<◌, Bool, true, false, ◌||◌, List, [], ◌∷◌, length, map, Some, None}
+use Rattle.std.proofs.Common.{refl, sym, ap, ◌∙◌, subst, arith, reverse, flat_map, get_or, if◌then◌else◌}
 use Rattle.std.specs.List.{AllByRecursion}
 use Rattle.std.proofs.lemmas.Grind.{reverse_onto}
-use Rattle.gr_stamp.specs.declared.change.Change.{Change}
 use Rattle.gr_vector.specs.declared.report.Report.{Report}
-use Rattle.gr_post.specs.declared.mail.Mail.{Mail}
-use Rattle.gr_post.specs.declared.mail.Posted.{Posted}
 use Rattle.gr_post.specs.declared.mail.Posting.{Posting}
-use Rattle.gr_post.specs.Couriers.{Carrying, Line, begun, passes_of, tables_of}
+use Rattle.gr_post.specs.Couriers.{Carrying, begun, passes_of, tables_of}
 use Rattle.gr_post.specs.Mails.{IsClosed, has_end, is_end, of}
-use Rattle.gr_post.specs.Passes.{Ring, Sending, Taking, sender_of}
+use Rattle.gr_post.specs.Passes.{Ring, Sending, Taking}
 use Rattle.gr_value.specs.Drawing.{drawn}
-use Rattle.gr_post.specs.Plan.{Draw, delivered, draws, is_named, number_after, number_before}
+use Rattle.gr_post.specs.Plan.{Draw, draws, is_named, number_after, number_before}
 use Rattle.gr_post.proofs.Counting.{ends_once}
 use Rattle.gr_world.specs.Served.{Called, Looked, Queried, Served}
 use Rattle.gr_run_law.specs.Plans.{changes_posted, posted_by, posted_from}
 use Rattle.gr_run_law.proofs.Lists.{all_append, all_flat}
 use Rattle.gr_session.specs.Mailing.{HasSent, numbers_of}
 use Rattle.gr_runner.specs.Kits.{IsCourierOf}
-use Rattle.gr_runner.specs.Mailing.{AreSendersOf}
-use Rattle.gr_runner.specs.Receipts.{AreTaken, IsTaken, ring_tables, send_tables}
-use Rattle.gr_runner.proofs.Told.{same_at, same_many}
+use Rattle.gr_runner.specs.Receipts.{AreTaken, ring_tables, send_tables}
+use Rattle.gr_runner.proofs.Told.{same_at}
 
 -- ---- no End is posted
 

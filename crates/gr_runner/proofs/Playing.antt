@@ -1,14 +1,10 @@
 -- What threads leave of what they were given is what the law asks of them.
-use Rattle.std.proofs.Common.{◌≡◌, ◌≢◌, ℕ, zero, suc, ◌+◌, ◌-◌, ◌<◌, ◌≤◌, ◌==◌, ◌&&◌, Bool, true, false, not, List, [], ◌∷◌, length, map, Option, Some, None}
+use Rattle.std.proofs.Common.{◌≡◌, ◌≢◌, ℕ, zero, suc, ◌+◌, ◌-◌, ◌<◌, ◌==◌, ◌&&◌, Bool, true, false, not, List, [], ◌∷◌, length, map, Option, Some, None}
 use Rattle.std.proofs.Common.{refl, sym, ap, ◌∙◌, subst, arith, reverse, filter, flat_map, if◌then◌else◌, get_or, ne_eqb}
 use Rattle.std.specs.List.{AllByRecursion, cons_option, filter_map}
 use Rattle.gr_value.specs.Shard.{shard_of}
-use Rattle.gr_history.specs.declared.image.Gift.{Gift}
-use Rattle.gr_history.specs.declared.image.Gift.TheVariants as gift_
-use Rattle.gr_history.specs.declared.image.Image.{Image}
 use Rattle.gr_history.specs.declared.image.What.{What}
 use Rattle.gr_history.specs.declared.record.ClientRecord.{ClientRecord}
-use Rattle.gr_law.specs.Grids.{Among}
 use Rattle.gr_post.specs.declared.mail.Posted.{Posted}
 use Rattle.gr_post.specs.declared.mail.Posting.{Posting}
 use Rattle.gr_post.specs.Couriers.{Carrying}
@@ -19,11 +15,11 @@ use Rattle.gr_script.specs.declared.line.Line.TheVariants as line
 use Rattle.gr_script.specs.Rules.{Heading, IsMember, home_of}
 use Rattle.gr_script.specs.Steps.{joins_of, steps_of}
 use Rattle.gr_world.specs.Courses.{what_from}
-use Rattle.gr_world.specs.Served.{HasReplies, Served, answer_of}
+use Rattle.gr_world.specs.Served.{HasReplies, answer_of}
 use Rattle.gr_run_law.specs.Duties.{Duty, Joins, Reports, Sweeps, duty_of, gift_due}
-use Rattle.gr_run_law.specs.Plans.{changes_posted, courier_of, draws_for, posted_from, reports_posted}
+use Rattle.gr_run_law.specs.Plans.{changes_posted, courier_of, draws_for, posted_from}
 use Rattle.gr_run_law.specs.Shares.{Stands}
-use Rattle.gr_run_law.specs.Threads.{FitsShards, GotFrom, HeardOf, IsFromMember, IsSenderOf, Merged, ReportedAll, SweptAll, TookIn, Work, duty_at}
+use Rattle.gr_run_law.specs.Threads.{FitsShards, GotFrom, HeardOf, IsFromMember, Merged, ReportedAll, SweptAll, TookIn, Work}
 use Rattle.gr_run_law.specs.Threads.{got_from, is_for, mail_of, round_of, work_at}
 use Rattle.gr_run_law.proofs.Lists.{true_false}
 use Rattle.gr_member.specs.declared.plan.Plan.{Plan}
@@ -37,10 +33,10 @@ use Rattle.gr_session.specs.Waiting.{HasMadeNothing, IsReadyFirst}
 use Rattle.gr_host.specs.declared.host.Host.{Host}
 use Rattle.gr_host.specs.Hosts.{IsHosted}
 use Rattle.gr_host.specs.Houses.{IsOther, of_member}
-use Rattle.gr_host.specs.Joins.{IsGivenBy, changes_in, what_of}
+use Rattle.gr_host.specs.Joins.{IsGivenBy}
 use Rattle.gr_host.specs.Mails.{others_of}
 use Rattle.gr_host.specs.Works.{HasGiven, duty_is, gift_for}
-use Rattle.gr_runner.specs.Left.{ClientLeft, HostLeft, IsGiver, LeavesClient, LeavesHost, at_shard, visit_at}
+use Rattle.gr_runner.specs.Left.{ClientLeft, HostLeft, IsGiver, LeavesClient, LeavesHost, at_shard}
 use Rattle.gr_runner.specs.Makings.{plan_of}
 use Rattle.gr_runner.proofs.Lists.{all_weaker}
 

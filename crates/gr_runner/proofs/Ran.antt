@@ -1,15 +1,14 @@
 -- What each thread of a run left, and what it was given.
-use Rattle.std.proofs.Common.{◌≡◌, ◌≢◌, ◌⊎◌, ℕ, zero, suc, ◌+◌, ◌-◌, ◌<◌, ◌≤◌, ◌==◌, Bool, true, false, List, [], ◌∷◌, ◌++◌, length, map, Option, Some, None}
+use Rattle.std.proofs.Common.{◌≡◌, ◌≢◌, ◌⊎◌, ℕ, suc, ◌+◌, ◌-◌, ◌<◌, ◌==◌, Bool, true, false, List, [], ◌∷◌, ◌++◌, length, map, Option, Some}
 use Rattle.std.proofs.Common.{refl, sym, ap, ◌∙◌, subst, arith, inl, inr, reverse, flat_map, get_or, if◌then◌else◌}
 use Rattle.std.specs.Prelude.{nat_le, slice_get}
-use Rattle.std.specs.List.{filter_map}
 use Rattle.std.specs.Option.{option_to_list}
 use Rattle.std.proofs.lemmas.Bool.Decides.{nat_tests}
 use Rattle.std.proofs.lemmas.List.{reverse-reverse}
 use Rattle.std.proofs.lemmas.Option.{get_or_from_slice_get, slice_get_within}
 use Rattle.gr_history.specs.declared.record.ClientRecord.{ClientRecord}
 use Rattle.gr_law.specs.Grids.{Among}
-use Rattle.gr_law.proofs.Lists.{among_left, among_reverse, among_right}
+use Rattle.gr_law.proofs.Lists.{among_reverse}
 use Rattle.gr_post.specs.Passes.{Ring, Sending, Taking}
 use Rattle.gr_post.specs.Plan.{first_number}
 use Rattle.gr_script.specs.declared.line.Line.{Line}
@@ -17,9 +16,8 @@ use Rattle.gr_script.specs.Rules.{Heading, IsScript, home_of}
 use Rattle.gr_script.specs.Steps.{joins_of}
 use Rattle.gr_run_law.specs.Plans.{courier_of}
 use Rattle.gr_run_law.specs.Threads.{client_place, member_place}
-use Rattle.gr_run_law.proofs.Clients.{home_is_member}
 use Rattle.gr_run_law.proofs.Integrity.{flat_among}
-use Rattle.gr_run_law.proofs.Lists.{among_get, get_front, get_some, same_number}
+use Rattle.gr_run_law.proofs.Lists.{among_get, get_front, get_some}
 use Rattle.gr_member.specs.Fresh.{IsFresh}
 use Rattle.gr_member.specs.Passes.{House}
 use Rattle.gr_member.specs.Seats.{Place}

@@ -1,5 +1,5 @@
 -- Threads to which all was dealt are ready to run.
-use Rattle.std.proofs.Common.{◌≡◌, ◌≢◌, ◌⊎◌, ℕ, zero, suc, ◌+◌, ◌-◌, ◌<◌, ◌≤◌, ◌==◌, Bool, true, false, List, [], ◌∷◌, ◌++◌, length, map, Option, Some, None}
+use Rattle.std.proofs.Common.{◌≡◌, ◌⊎◌, ℕ, suc, ◌+◌, ◌-◌, ◌<◌, ◌≤◌, ◌==◌, Bool, true, false, List, [], ◌∷◌, ◌++◌, length, map, Option, Some, None}
 use Rattle.std.proofs.Common.{refl, sym, ap, ◌∙◌, subst, arith, inl, inr, get_or, if◌then◌else◌, leb, eqb-true, length-append}
 use Rattle.std.specs.Prelude.{All, nat_le, slice_get}
 use Rattle.std.specs.List.{AllByRecursion, filter_map}
@@ -7,13 +7,13 @@ use Rattle.std.proofs.lemmas.Bool.Decides.{leb_tells, nat_tests}
 use Rattle.std.proofs.lemmas.Option.{get_or_from_slice_get, slice_get-get_or, slice_get_within}
 use Rattle.gr_law.specs.Grids.{Among}
 use Rattle.gr_law.proofs.Images.{among_filter_map}
-use Rattle.gr_post.specs.Couriers.{AreOf, Carrying, passes_of}
-use Rattle.gr_post.specs.Passes.{Ring, Sending, Taking}
+use Rattle.gr_post.specs.Couriers.{Carrying}
+use Rattle.gr_post.specs.Passes.{Ring, Taking}
 use Rattle.gr_post.specs.Plan.{first_number}
 use Rattle.gr_script.specs.declared.line.Line.{Line}
 use Rattle.gr_script.specs.declared.line.Line.TheVariants as line
 use Rattle.gr_script.specs.Rules.{Heading, IsMember, IsScript, home_of}
-use Rattle.gr_run_law.specs.Duties.{Duty, Joins, Reports, Sweeps, duty_of}
+use Rattle.gr_run_law.specs.Duties.{Joins, Reports, Sweeps, duty_of}
 use Rattle.gr_run_law.specs.Plans.{courier_of}
 use Rattle.gr_run_law.specs.Threads.{client_place, member_place}
 use Rattle.gr_run_law.proofs.Clients.{home_is_member}
@@ -25,16 +25,14 @@ use Rattle.gr_member.specs.Passes.{House, IsPassOf}
 use Rattle.gr_member.specs.Plans.{IsPlan}
 use Rattle.gr_member.specs.Seats.{Place}
 use Rattle.gr_session.specs.declared.client.Client.{Client}
-use Rattle.gr_session.specs.Mailing.{CanPost}
-use Rattle.gr_session.specs.Sessions.{HasServed, IsSessionAt}
 use Rattle.gr_session.specs.Waiting.{HasMadeNothing}
 use Rattle.gr_session.proofs.Growing.{served_none}
 use Rattle.gr_host.specs.declared.duties.Duty.{Duty as Chore}
 use Rattle.gr_host.specs.declared.duties.Duty.TheVariants as chore
 use Rattle.gr_host.specs.Ends.{AreEnds}
 use Rattle.gr_host.specs.declared.host.Host.{Host}
-use Rattle.gr_host.specs.Hosts.{CanBeDone, HasBegun, HasMailAt, IsHostAt}
-use Rattle.gr_host.specs.Houses.{AreMembers, ArePassesOf, IsOther}
+use Rattle.gr_host.specs.Hosts.{CanBeDone}
+use Rattle.gr_host.specs.Houses.{AreMembers, IsOther}
 use Rattle.gr_host.specs.Works.{duty_is}
 use Rattle.gr_runner.specs.declared.slots.ClientKit.{ClientKit}
 use Rattle.gr_runner.specs.declared.slots.MemberKit.{MemberKit}
@@ -49,8 +47,7 @@ use Rattle.gr_runner.specs.Kits.{IsClientKit, IsCourierOf, IsMemberKit}
 use Rattle.gr_runner.specs.Makings.{passes_at, plan_of}
 use Rattle.gr_runner.specs.Slots.{IsClientAt, IsSlotAt, IsThreadAt, IsWorkerAt}
 use Rattle.gr_runner.proofs.Found.{behind}
-use Rattle.gr_runner.proofs.Joiners.{IsJoiner, line_joins}
-use Rattle.gr_runner.proofs.Lists.{all_among, all_places}
+use Rattle.gr_runner.proofs.Joiners.{line_joins}
 use Rattle.gr_runner.proofs.Mailed.{courier_tables, passes_many}
 
 plan_right : (h : Heading) (lines : List Line) (member : ℕ) → IsScript h lines → IsMember h member → IsPlan (plan_of h member)

@@ -1,71 +1,51 @@
 -- What is left of a run's threads and members.
-use Rattle.std.proofs.Common.{◌≡◌, ◌≢◌, ◌⊎◌, ℕ, zero, suc, ◌+◌, ◌-◌, ◌<◌, ◌≤◌, ◌==◌, Bool, true, false, List, [], ◌∷◌, ◌++◌, length, map, Option, Some, None}
-use Rattle.std.proofs.Common.{refl, sym, ap, ◌∙◌, subst, arith, inl, inr, reverse, flat_map, get_or, if◌then◌else◌, eqb-true}
+use Rattle.std.proofs.Common.{◌≡◌, ◌≢◌, ◌⊎◌, ℕ, suc, ◌+◌, ◌-◌, ◌<◌, ◌≤◌, ◌==◌, Bool, true, List, [], ◌∷◌, ◌++◌, length, map, Option, Some}
+use Rattle.std.proofs.Common.{refl, sym, ap, ◌∙◌, subst, arith, inl, inr, get_or, if◌then◌else◌}
 use native.Mathlib.Decide.{ℕ_discrete}
 use mathlib.Core.Logic.{dite}
 use Rattle.std.specs.Prelude.{slice_get}
-use Rattle.std.specs.List.{AllByRecursion, cons_option, filter_map}
+use Rattle.std.specs.List.{filter_map}
 use Rattle.std.specs.Option.{option_to_list}
-use Rattle.std.proofs.lemmas.List.{reverse-reverse}
-use Rattle.std.proofs.lemmas.Option.{get_or_from_slice_get, slice_get-get_or, slice_get_within}
-use Rattle.gr_turn.specs.Views.{HasAll, times}
+use Rattle.std.proofs.lemmas.Option.{get_or_from_slice_get}
 use Rattle.gr_history.specs.declared.deed.Deed.{Deed}
 use Rattle.gr_history.specs.declared.image.Gift.{Gift}
-use Rattle.gr_history.specs.declared.record.ClientRecord.{ClientRecord}
-use Rattle.gr_history.specs.declared.record.MemberRecord.{MemberRecord}
 use Rattle.gr_law.specs.Grids.{Among}
-use Rattle.gr_law.proofs.Lists.{among_either, among_left, among_reverse, among_right}
-use Rattle.gr_post.specs.declared.mail.Posted.{Posted}
+use Rattle.gr_law.proofs.Lists.{among_right}
 use Rattle.gr_post.specs.Mails.{has_end, of}
 use Rattle.gr_post.specs.Passes.{Ring, Sending, Taking}
 use Rattle.gr_post.specs.Plan.{first_number}
 use Rattle.gr_script.specs.declared.line.Line.{Line}
-use Rattle.gr_script.specs.Rules.{Heading, IsMember, IsScript, IsStated, home_of}
+use Rattle.gr_script.specs.Rules.{Heading, IsScript, home_of}
 use Rattle.gr_script.specs.Steps.{joins_of}
-use Rattle.gr_world.specs.Numbered.{numbers_from}
-use Rattle.gr_run_law.specs.Duties.{gift_due}
 use Rattle.gr_run_law.specs.Plans.{courier_of}
-use Rattle.gr_run_law.specs.Shares.{Client, Giver, Owner, Stands, Thread}
-use Rattle.gr_run_law.specs.Threads.{IsLeftByThreads, client_place, member_place, round_of}
+use Rattle.gr_run_law.specs.Shares.{Client, Stands}
+use Rattle.gr_run_law.specs.Threads.{client_place, member_place, round_of}
 use Rattle.gr_run_law.proofs.Clients.{home_is_member}
-use Rattle.gr_run_law.proofs.Delivering.{among_map, map_among}
-use Rattle.gr_run_law.proofs.Integrity.{among_flat, flat_among}
-use Rattle.gr_run_law.proofs.Lists.{among_get, get_some, none_isnt_some, same_in_some, same_number}
-use Rattle.gr_value.specs.Lists.{StartsWith}
-use Rattle.gr_member.specs.Fresh.{IsFresh}
+use Rattle.gr_run_law.proofs.Delivering.{map_among}
+use Rattle.gr_run_law.proofs.Lists.{get_some, same_number}
 use Rattle.gr_member.proofs.Leaving.{empty_of}
-use Rattle.gr_member.specs.Left.{AreLeftBy}
-use Rattle.gr_member.specs.Passes.{HaveAll, House, StaysAll}
+use Rattle.gr_member.specs.Passes.{House}
 use Rattle.gr_member.specs.Seats.{Place, nowhere}
-use Rattle.gr_host.specs.declared.host.Host.{Host}
-use Rattle.gr_host.specs.Hosts.{IsHosted}
-use Rattle.gr_host.specs.Houses.{IsOther, StayAt, of_member}
+use Rattle.gr_host.specs.Houses.{IsOther}
 use Rattle.gr_host.specs.Joins.{what_of}
 use Rattle.gr_host.specs.Mails.{others_of}
 use Rattle.gr_host.specs.Works.{duty_is, gift_deed, gift_for}
 use Rattle.gr_runner.specs.declared.gathering.Left.{Left}
 use Rattle.gr_runner.specs.declared.gathering.News.{News}
 use Rattle.gr_runner.specs.declared.gathering.News.TheVariants as news_of
-use Rattle.gr_runner.specs.declared.slots.Slot.{Slot}
 use Rattle.gr_runner.specs.declared.slots.Worker.{Worker}
-use Rattle.gr_runner.specs.declared.slots.Worker.TheVariants as worker
-use Rattle.gr_runner.specs.Dealing.{dealt_at, worker_at}
-use Rattle.gr_runner.specs.Ending.{AreEnded}
-use Rattle.gr_runner.specs.Gathering.{Knows, KnowsAll, left_at, seats_at}
+use Rattle.gr_runner.specs.Dealing.{worker_at}
 use Rattle.gr_runner.specs.Gone.{HasGone}
-use Rattle.gr_runner.specs.Left.{AreLeft, ClientLeft, HasMet, HostLeft, IsEnded, LeavesClient, LeavesHost, at_shard, places_left, visit_at}
+use Rattle.gr_runner.specs.Left.{ClientLeft, HostLeft, LeavesClient, LeavesHost, at_shard, visit_at}
 use Rattle.gr_runner.specs.Makings.{passes_at, plan_of}
 use Rattle.gr_runner.specs.Receipts.{AreTaken}
-use Rattle.gr_runner.specs.Slots.{LeavesOf, LeavesOfClient, LeavesOfMember}
-use Rattle.gr_runner.specs.Sorting.{sends_in, take_in, told_in}
-use Rattle.gr_runner.proofs.Found.{choose, filter_first, get_among, same_there}
-use Rattle.gr_runner.proofs.Joiners.{joiner_is, none_due}
-use Rattle.gr_runner.proofs.Leaving.{lawful_record}
+use Rattle.gr_runner.specs.Sorting.{sends_in}
+use Rattle.gr_runner.proofs.Found.{choose, get_among}
+use Rattle.gr_runner.proofs.Joiners.{none_due}
 use Rattle.gr_runner.proofs.Lists.{all_among}
-use Rattle.gr_runner.proofs.Mailed.{NoneEnds, all_of_sender, changes_end_nothing, reports_end_nothing}
+use Rattle.gr_runner.proofs.Mailed.{all_of_sender, changes_end_nothing, reports_end_nothing}
 use Rattle.gr_runner.proofs.Playing.{client_left, gifts_due, host_left, leaves_client, leaves_host, nothing_at}
-use Rattle.gr_runner.proofs.Ran.{ClientRan, MemberRan, SlotRan, client_ran, dealt_among, dealt_passes, fresh_at, fresh_nothing, member_ran, slot_ran, slots}
-use Rattle.gr_runner.proofs.Told.{same_at}
+use Rattle.gr_runner.proofs.Ran.{ClientRan, MemberRan, client_ran, dealt_among, dealt_passes, fresh_at, fresh_nothing, member_ran}
 
 module _ (h : Heading) (lines : List Line) (script : IsScript h lines) (houses : List House) (rings : List Ring)
     (desks : List (List Place)) (news : List News) (g : HasGone h lines houses rings desks news) where

@@ -1,5 +1,5 @@
 -- A run before and after its threads.
-use Rattle.std.specs.Prelude.{◌≡◌, ℕ, List, length, map}
+use Rattle.std.specs.Prelude.{◌≡◌, List, length, map}
 use Rattle.std.specs.List.{AllByRecursion, filter_map}
 use Rattle.gr_history.specs.declared.record.ClientRecord.{ClientRecord}
 use Rattle.gr_post.specs.Passes.{Ring, Taking}

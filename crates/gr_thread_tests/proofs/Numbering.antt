@@ -9,7 +9,7 @@ use native.Mathlib.Decide.{ℕ_discrete}
 use Rattle.gr_turn.specs.Views.{times}
 use Rattle.gr_turn.proofs.Counts.{times-append}
 use Rattle.gr_member.specs.Seats.{Place}
-use Rattle.gr_member.specs.Passes.{House, IsPassOf, StaysAll, MeetsAll, HaveAll}
+use Rattle.gr_member.specs.Passes.{House, StaysAll, MeetsAll, HaveAll}
 use Rattle.gr_member.specs.Fresh.{IsFresh, AreFresh}
 use Rattle.gr_member.proofs.Passing.{pass_stays, pass_meets, stays_same}
 use Rattle.gr_thread_tests.specs.Numbers.{HasNumbers, IsOfSlot}

@@ -1,5 +1,5 @@
 -- Passes by their numbers.
-use Rattle.std.specs.Prelude.{◌≡◌, ℕ, ◌+◌, ◌-◌, ◌<◌, ◌≤◌, List, length, slice_index_or}
+use Rattle.std.specs.Prelude.{◌≡◌, ℕ, ◌-◌, ◌<◌, ◌≤◌, List, length, slice_index_or}
 use Rattle.gr_turn.specs.Views.{times}
 use Rattle.gr_member.specs.Seats.{Place}
 use Rattle.gr_member.specs.Passes.{House, IsPassOf}

@@ -9,7 +9,7 @@ use Rattle.gr_history.specs.declared.record.Record.{Record}
 use Rattle.gr_top.specs.declared.words.Mode.TheVariants.{Check, Replay}
 use Rattle.gr_top.specs.declared.words.Request.{Request}
 use Rattle.gr_top.specs.declared.words.Request.TheVariants.{Alone, Run, Drill}
-use Rattle.gr_top.specs.Outcomes.{Reads, Keeps, Prints, IsWritten, Explains, IsWhole, IsWithin, most_bytes}
+use Rattle.gr_top.specs.Outcomes.{Reads, Keeps, Prints, IsWritten, Explains, IsWhole, IsWithinMost, most_bytes}
 use Rattle.gr_io.specs.Ends.{TakesAtMost}
 use Rattle.gr_io.specs.Streams.{Stream, IsUntouched}
 
@@ -49,10 +49,10 @@ takes_none None = ([], tt, omega arith)
 takes_none (Some bytes) = ([], refl, omega arith)
 
 -- Of a source that wasn't read no more was taken than a script may have.
-pub within_untouched : (source : Stream) → IsUntouched source → IsWithin source
+pub within_untouched : (source : Stream) → IsUntouched source → IsWithinMost source
 within_untouched source untouched =
     subst (λ (after : Option (List ℕ)). TakesAtMost most_bytes source.bytes_before after) (sym untouched.bytes)
     (takes_none source.bytes_before)
 
-pub within : (source : Stream) (text : List ℕ) → IsWhole source text → IsWithin source
+pub within : (source : Stream) (text : List ℕ) → IsWhole source text → IsWithinMost source
 within source text whole = (text, whole.taken, whole.fits)

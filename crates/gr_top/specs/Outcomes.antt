@@ -95,8 +95,8 @@ pub record HasTooManyLines (runs : Bool) (source : Stream) (bytes lines : ℕ) :
   pub many : script_of runs text ≡ Err (end.TooManyLines lines)
 
 -- No more was taken of the source than a script may have.
-abbrev pub IsWithin : Stream → Type 0
-IsWithin source = TookAtMost most_bytes source
+abbrev pub IsWithinMost : Stream → Type 0
+IsWithinMost source = TookAtMost most_bytes source
 
 -- the record that is kept, if one is: none by a check. A drill reads nothing.
 abbrev pub Keeps : Request → Stream → Option Record → Type 0
@@ -126,7 +126,7 @@ Prints (Drill start steps) source kept text =
 
 -- The record may be kept, and its text printed.
 pub record Leaves (request : Request) (source : Stream) (histories : Bool) (record_of : Record) : Type 0 where
-  pub within : IsWithin source
+  pub within : IsWithinMost source
   pub keeps : Keeps request source (Some record_of)
   pub prints : Prints request source (Some record_of) (record_text histories record_of)
 
@@ -135,7 +135,7 @@ abbrev pub Explains : Request → Stream → Stream → Option Record → Cause 
 Explains request source sink kept Finished =
     (text : List ℕ) × Prints request source kept text × Appends sink.bytes_before sink.bytes_after text
 Explains request source sink kept (Usage place) = ⊥
-Explains request source sink kept ReadFault = Reads request × (kept ≡ None) × Counted source × IsWithin source × IsUntouched sink
+Explains request source sink kept ReadFault = Reads request × (kept ≡ None) × Counted source × IsWithinMost source × IsUntouched sink
 Explains request source sink kept (TooLarge bytes lines) =
     Reads request × (kept ≡ None) × (HasTooManyBytes source bytes lines ⊎ HasTooManyLines (runs request) source bytes lines)
     × IsUntouched sink
@@ -143,7 +143,7 @@ Explains request source sink kept (Script fault) =
     Reads request × (kept ≡ None) × IsRefused (runs request) source fault × IsUntouched sink
 Explains request source sink kept WriteFault =
     (text : List ℕ) × Prints request source kept text × AppendsPart sink.bytes_before sink.bytes_after text × Counted sink
-Explains request source sink kept Memory = Keeps request source kept × IsWithin source × IsUntouched sink
+Explains request source sink kept Memory = Keeps request source kept × IsWithinMost source × IsUntouched sink
 
 -- The same by the words. Where they aren't understood nothing happens.
 abbrev pub Answers : Result Request ℕ → Stream → Stream → Option Record → Cause → Type 0

@@ -33,7 +33,7 @@ fn check<S: Source, K: Sink>(alloc: Global, source: &mut S, sink: &mut K) -> Cau
 }
 
 // The record of the script that the source has, and the memory of its text.
-fn record_from<S: Source>(alloc: Global, source: &mut S) -> Result<Played, Cause>
+fn replay_record<S: Source>(alloc: Global, source: &mut S) -> Result<Played, Cause>
     ensures { (histories : Bool) → MatchResult result
         (λ played. Leaves (request.Alone (mode.Replay histories)) (stream (S.left source.old) (S.left source.new) (S.faults source.old) (S.faults source.new)) histories played.record_of)
         (Stops (request.Alone (mode.Replay histories)) (stream (S.left source.old) (S.left source.new) (S.faults source.old) (S.faults source.new))) }
@@ -61,7 +61,7 @@ fn replay_answer<S: Source, K: Sink>(
         (stream (S.left source.old) (S.left source.new) (S.faults source.old) (S.faults source.new))
         (stream (K.held sink.old) (K.held sink.new) (K.faults sink.old) (K.faults sink.new)) result.kept result.cause }
 {
-    let played = record_from(alloc, source);
+    let played = replay_record(alloc, source);
     report_outcome(alloc, histories, played, sink)
 }
 

@@ -1,7 +1,7 @@
 ghost use Rattle.std.specs.Prelude.{◌≡◌, Some, MatchResult};
 ghost use Rattle.gr_report.specs.Summary.{summary_of};
 ghost use Rattle.gr_top.specs.Causes.{status_of};
-ghost use Rattle.gr_top.specs.Outcomes.{Explains, IsWithin, IsWritten, Keeps, Leaves, Prints, Stops};
+ghost use Rattle.gr_top.specs.Outcomes.{Explains, IsWithinMost, IsWritten, Keeps, Leaves, Prints, Stops};
 ghost use Rattle.gr_top.specs.declared.words.Request.{Request as TheRequest};
 ghost use Rattle.gr_io.specs.Streams.{stream, Stream};
 
@@ -81,7 +81,7 @@ pub(crate) fn hand_out_summary<K: Sink>(
     record_of: &Record,
     sink: &mut K,
 ) -> Cause
-    ensures { (request : TheRequest) (source : Stream) → Keeps request source (Some record_of.now) → IsWithin source
+    ensures { (request : TheRequest) (source : Stream) → Keeps request source (Some record_of.now) → IsWithinMost source
         → Prints request source (Some record_of.now) (summary_of start steps script.now record_of.now)
         → Explains request source
         (stream (K.held sink.old) (K.held sink.new) (K.faults sink.old) (K.faults sink.new)) (Some record_of.now) result }

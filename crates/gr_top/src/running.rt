@@ -21,7 +21,7 @@ use std::sync::Wait;
 use std::thread::Threads;
 
 // What threads leave of the script that the source has.
-fn record_from<R: Threads + Wait + Sync, S: Source, G: Gate>(
+fn run_record<R: Threads + Wait + Sync, S: Source, G: Gate>(
     rt: &R,
     alloc: Global,
     source: &mut S,
@@ -58,7 +58,7 @@ fn run_answer<R: Threads + Wait + Sync, S: Source, K: Sink, G: Gate>(
         (stream (S.left source.old) (S.left source.new) (S.faults source.old) (S.faults source.new))
         (stream (K.held sink.old) (K.held sink.new) (K.faults sink.old) (K.faults sink.new)) result.kept result.cause }
 {
-    let played = record_from(rt, alloc, source, gate);
+    let played = run_record(rt, alloc, source, gate);
     report_outcome(alloc, histories, played, sink)
 }
 

@@ -1,5 +1,4 @@
-use Rattle.std.proofs.Common.{◌≡◌, ◌∙◌, length, arith, reverse, Option, sym}
-use Rattle.std.specs.Prelude.{vec_len}
+use Rattle.std.proofs.Common.{arith, reverse}
 use Rattle.gr_runner.proofs.Conducts.{all_left, has_played, lefts_many, lefts_right, sends_of_rings, some_weaker, takes_of_rings}
 use Rattle.gr_runner.proofs.Readying.{slots_empty, slots_ready}
 use Rattle.gr_runner.proofs.conducting.conduct.Goals as goal

@@ -1,4 +1,4 @@
-use Rattle.std.proofs.Common.{◌≡◌, ◌∙◌, ◌++◌, ℕ, List, length, map, Option, Some, ap, arith, reverse, take, drop}
+use Rattle.std.proofs.Common.{◌≡◌, ◌∙◌, length, map, Some, ap, arith, reverse}
 use Rattle.std.specs.Prelude.{vec_len}
 use Rattle.std.proofs.lemmas.List.{length-reverse}
 use Rattle.gr_runner.specs.declared.gathering.Left.{Left}

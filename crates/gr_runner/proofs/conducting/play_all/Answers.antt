@@ -1,4 +1,4 @@
-use Rattle.std.proofs.Common.{◌≡◌, ◌∙◌, ◌<◌, ℕ, List, length, get_or, take, drop, ap, sym, subst, arith}
+use Rattle.std.proofs.Common.{◌≡◌, ◌∙◌, ◌<◌, List, length, get_or, ap, sym, subst, arith}
 use Rattle.std.specs.Prelude.{All, None}
 use Rattle.gr_runner.specs.declared.slots.Slot.{Slot}
 use Rattle.gr_runner.specs.Slots.{HasRun}

@@ -1,5 +1,4 @@
 use Rattle.gr_runner.proofs.Lawful.{run_lawful}
-use Rattle.gr_runner.proofs.Conducts.{sends_of_rings}
 use Rattle.gr_runner.proofs.laws.runs_are_lawful.Goals as goal
 
 pub returns : goal.returns

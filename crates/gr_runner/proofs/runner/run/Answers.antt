@@ -1,4 +1,4 @@
-use Rattle.std.proofs.Common.{◌≡◌, List, Option, Some, subst, sym}
+use Rattle.std.proofs.Common.{◌≡◌, List, Some, subst, sym}
 use Rattle.gr_history.specs.declared.record.Record.{Record}
 use Rattle.gr_script.specs.Scripts.{heading_of}
 use Rattle.gr_run_law.specs.Records.{IsRecordOfRun}

@@ -1,4 +1,4 @@
-use Rattle.std.proofs.Common.{refl, subst}
+use Rattle.std.proofs.Common.{refl}
 use Rattle.gr_top.proofs.handing.report_outcome.Goals as goal
 
 pub returns-in-Err-clause-explained : goal.returns-in-Err-clause-explained

@@ -1,4 +1,4 @@
-use Rattle.std.proofs.Common.{◌≡◌, ◌+◌, ◌-◌, ◌<◌, length, ap, ◌∙◌, sym, subst, arith, length-append, [], ◌∷◌, ℕ}
+use Rattle.std.proofs.Common.{◌≡◌, ◌+◌, ◌-◌, length, ap, ◌∙◌, subst, arith, length-append, [], ◌∷◌, ℕ}
 use Rattle.gr_thread_tests.specs.Numbers.{HasNumbers}
 use Rattle.gr_thread_tests.proofs.Numbering.{own_last, slots_more}
 use Rattle.gr_thread_tests.proofs.member.crowd.slots_of.Goals as goal

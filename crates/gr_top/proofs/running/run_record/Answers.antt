@@ -2,7 +2,7 @@ use Rattle.std.proofs.Common.{refl}
 use Rattle.gr_top.specs.declared.words.Request.TheVariants as request
 use Rattle.gr_top.specs.Outcomes.{IsRunOf}
 use Rattle.gr_top.proofs.Endings.{within}
-use Rattle.gr_top.proofs.running.record_from.Goals as goal
+use Rattle.gr_top.proofs.running.run_record.Goals as goal
 
 pub returns-in-Err : goal.returns-in-Err
 returns-in-Err g c histories = c.in-Err.ensures (request.Run histories) tt refl

@@ -3,7 +3,7 @@ use Rattle.gr_top.specs.declared.words.Mode.TheVariants as mode
 use Rattle.gr_top.specs.declared.words.Request.TheVariants as request
 use Rattle.gr_top.specs.Outcomes.{IsReplayOf, IsWhole}
 use Rattle.gr_top.proofs.Endings.{within}
-use Rattle.gr_top.proofs.answering.record_from.Goals as goal
+use Rattle.gr_top.proofs.answering.replay_record.Goals as goal
 
 pub returns-in-Ok : goal.returns-in-Ok
 returns-in-Ok g c histories =
