@@ -15,7 +15,7 @@ use crate::cursor::TokenCursor;
 use crate::halt::{Halt, Wrong};
 use crate::keyword::Keyword;
 use gr_lex::Symbol;
-use gr_value::{Key, KeyFault, Memory, Text};
+use gr_value::{Key, Memory, Text};
 use std::alloc::Global;
 
 /// The most bytes of a region's name, which is a key behind a slash.
@@ -37,11 +37,7 @@ fn region_key(alloc: Global, name: &str) -> Result<Key, Memory>
     let mut bytes = Vec::with_capacity(alloc, name.len() + 1)?;
     bytes.push(b'/')?;
     bytes.extend_from_slice(name.as_bytes())?;
-    match Key::read(alloc, &bytes) {
-        Ok(key) => Ok(key),
-        Err(KeyFault::Memory) => Err(Memory),
-        Err(_) => unreachable!(),
-    }
+    Ok(Key::of_bytes(alloc, &bytes)?)
 }
 
 fn owned(alloc: Global, alias: Option<&str>) -> Result<Option<Text>, Memory>

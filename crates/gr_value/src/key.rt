@@ -107,7 +107,8 @@ impl Key {
         Ok(Key::of_bytes(alloc, bytes)?)
     }
 
-    fn of_bytes(alloc: Global, bytes: &[u8]) -> Result<Key, Memory>
+    /// The key of bytes that are known to be a key's.
+    pub fn of_bytes(alloc: Global, bytes: &[u8]) -> Result<Key, Memory>
         requires { IsKey bytes.now }
         ensures { IfOk result (λ key. key ≡ bytes.now) }
     {

@@ -97,13 +97,6 @@ impl<T> ItemList<T> {
         self.entries.reverse();
     }
 
-    /// Gives back the memory of items that were taken out, where that is possible.
-    pub fn shrink(&mut self)
-        ensures { self.new ≡ self.old }
-    {
-        self.entries.shrink_to_fit();
-    }
-
     /// Takes the last item out.
     pub fn pop(&mut self) -> Option<T>
         ensures item { self.old ≡ self.new ++ option_to_list result }
