@@ -29,10 +29,7 @@ impl Slot {
     pub fn is_there(&self) -> bool
         ensures { result ≡ not (is_removal self.now.kind) }
     {
-        match &self.kind {
-            Kind::Put(_) | Kind::Invalid => true,
-            Kind::Remove => false,
-        }
+        self.kind.keeps_key()
     }
 }
 

@@ -1,4 +1,5 @@
-ghost use Rattle.std.specs.Prelude.{◌≡◌};
+ghost use Rattle.std.specs.Prelude.{◌≡◌, not};
+ghost use Rattle.gr_stamp.specs.Winner.{is_removal};
 
 use crate::Stamp;
 use gr_value::{Copied, ItemList, Key, Memory, Value};
@@ -11,6 +12,18 @@ pub enum Kind {
     /// The key stays, without a value.
     Invalid,
     Remove,
+}
+
+impl Kind {
+    /// Whether the key is there where this stands, with a value or without.
+    pub fn keeps_key(&self) -> bool
+        ensures { result ≡ not (is_removal self.now) }
+    {
+        match self {
+            Kind::Put(_) | Kind::Invalid => true,
+            Kind::Remove => false,
+        }
+    }
 }
 
 impl Copied for Kind {
