@@ -180,25 +180,20 @@ module _ (places : BTreeMap (List ℕ) ℕ) (cells : List Cell) (tied : AreTied 
     abbrev grown : List Cell
     grown = cells ++ entered_cell ∷ []
 
-    key_grown : (p : ℕ) → key_in grown p ≡ cond (p == length cells) (Some key) (key_in cells p)
-    key_grown p =
-        ap (option_map (λ (cell : Cell). cell.key)) (get-push cells entered_cell p) ∙ at_test (p == length cells)
+    read_grown : {X : Type 0} (f : Cell → X) (p : ℕ)
+        → option_map f (slice_get grown p) ≡ cond (p == length cells) (Some (f entered_cell)) (option_map f (slice_get cells p))
+    read_grown f p = ap (option_map f) (get-push cells entered_cell p) ∙ at_test (p == length cells)
       where
-        at_test : (t : Bool)
-            → option_map (λ (cell : Cell). cell.key) (cond t (Some entered_cell) (slice_get cells p))
-            ≡ cond t (Some key) (key_in cells p)
+        at_test : (t : Bool) → option_map f (cond t (Some entered_cell) (slice_get cells p))
+            ≡ cond t (Some (f entered_cell)) (option_map f (slice_get cells p))
         at_test true = refl
         at_test false = refl
 
+    key_grown : (p : ℕ) → key_in grown p ≡ cond (p == length cells) (Some key) (key_in cells p)
+    key_grown = read_grown (λ cell. cell.key)
+
     slot_grown : (p : ℕ) → slot_in grown p ≡ cond (p == length cells) (Some slot) (slot_in cells p)
-    slot_grown p =
-        ap (option_map (λ (cell : Cell). cell.slot)) (get-push cells entered_cell p) ∙ at_test (p == length cells)
-      where
-        at_test : (t : Bool)
-            → option_map (λ (cell : Cell). cell.slot) (cond t (Some entered_cell) (slice_get cells p))
-            ≡ cond t (Some slot) (slot_in cells p)
-        at_test true = refl
-        at_test false = refl
+    slot_grown = read_grown (λ cell. cell.slot)
 
     old_place : (q : List ℕ) (p : ℕ) → get (slice_cmp nat_cmp) places q ≡ Some p → (p == length cells) ≡ false
     old_place q p e = not_same p (length cells) (λ same. let less : p < length cells = within q p e in omega arith)
@@ -404,7 +399,7 @@ module _ (places : BTreeMap (List ℕ) ℕ) (cells : List Cell) (tied : AreTied 
           cc)
       place_of_left q p false a false t e false f false g = tied.has_place q p e
 
-      pub leave_tied : AreTied after next
+      leave_tied : AreTied after next
       leave_tied = record {
         ordered = ordered;
         has_key = λ q p e. key_of_left q p (is_key key q) refl (is_key moved.key q) refl (sym (placed q) ∙ e);
@@ -432,7 +427,7 @@ module _ (places : BTreeMap (List ℕ) ℕ) (cells : List Cell) (tied : AreTied 
           ∙ ap (λ a. cond a None (cond (p == place) (Some moved.slot) (slot_in cells p))) tests.0
           ∙ ap (λ b. cond b (Some moved.slot) (slot_in cells p)) tests.1
 
-      pub leave_rows : rows_in next after.entries ≡ without key (rows_in cells places.entries)
+      leave_rows : rows_in next after.entries ≡ without key (rows_in cells places.entries)
       leave_rows =
           let old = rows_in cells places.entries in
           one_order (slice_cmp nat_cmp) key_order exact_bytes _ _ (rows_ordered after next leave_tied)
@@ -441,3 +436,7 @@ module _ (places : BTreeMap (List ℕ) ℕ) (cells : List Cell) (tied : AreTied 
           ∙ at_left q (is_key key q) refl (is_key moved.key q) refl (get (slice_cmp nat_cmp) places q) refl
           ∙ ap (cond (is_key key q) None) (sym (found q cells places.entries tied.ordered))
           ∙ sym (at-without q key old (rows_ordered places cells tied)))
+
+      -- the cells are tied as before, and their rows are those of the other keys
+      pub left_over : AreTied after next × (rows_in next after.entries ≡ without key (rows_in cells places.entries))
+      left_over = (leave_tied, leave_rows)

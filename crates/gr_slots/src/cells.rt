@@ -106,9 +106,9 @@ impl Cells {
         ensures ok { OnOk result.1 (self.new ≡ with_slot key.now slot self.old) }
         ensures err { OnErr result.1 (self.new ≡ self.old) }
     {
-        match place_of(&self.places, self.cells.as_slice(), &self.seats, key) {
-            Some(place) => (put_in(&mut self.cells, place, slot), Ok(())),
-            None => (None, self.enter(alloc, key, slot)),
+        match self.put(key, slot) {
+            Ok(before) => (before, Ok(())),
+            Err(slot) => (None, self.enter(alloc, key, slot)),
         }
     }
 

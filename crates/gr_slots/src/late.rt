@@ -112,6 +112,7 @@ fn unlist(unlisted: &mut Option<Key>, is_removal: bool, key: Key)
 }
 
 // Lists the removal that isn't listed yet.
+#[inline(never)]
 fn list_unlisted(
     alloc: Global,
     cells: &Cells,
@@ -154,6 +155,7 @@ pub fn set_listed(
 }
 
 // Enters the late row among the others, and lists it where it is a removal.
+#[inline(never)]
 fn enter_late(
     alloc: Global,
     cells: &mut Cells,
@@ -198,56 +200,6 @@ pub fn settle(
     if late.is_none() && unlisted.is_none() {
         return Ok(());
     }
-    Ok(settle_both(alloc, cells, removals, late, unlisted)?)
-}
-
-/// The same, where one removal more can be counted.
-#[inline(always)]
-pub fn make_ready(
-    alloc: Global,
-    cells: &mut Cells,
-    removals: &mut BTreeMap<u64, Vec<Key>>,
-    late: &mut Option<(Key, Slot)>,
-    unlisted: &mut Option<Key>,
-    count: u64,
-) -> Result<(), Memory>
-    requires indexed { AreIndexed unlisted.old cells.old removals.old }
-    requires apart { IsApart late.old cells.old }
-    ensures indexed { AreIndexed unlisted.new cells.new removals.new }
-    ensures apart { IsApart late.new cells.new }
-    ensures rows { with_late late.new cells.new ≡ with_late late.old cells.old }
-    ensures late { OnOk result (late.new ≡ None) }
-    ensures listed { OnOk result (unlisted.new ≡ None) }
-    ensures counted { OnOk result (count + 1 < 2 ^ 64) }
-    ensures none_late { late.old ≡ None → late.new ≡ None }
-    ensures none_unlisted { unlisted.old ≡ None → unlisted.new ≡ None }
-{
-    // One more could not be counted. There is never memory for so many.
-    if count == u64::MAX {
-        return Err(Memory);
-    }
-    Ok(settle(alloc, cells, removals, late, unlisted)?)
-}
-
-// The same where something is.
-#[inline(never)]
-fn settle_both(
-    alloc: Global,
-    cells: &mut Cells,
-    removals: &mut BTreeMap<u64, Vec<Key>>,
-    late: &mut Option<(Key, Slot)>,
-    unlisted: &mut Option<Key>,
-) -> Result<(), Memory>
-    requires indexed { AreIndexed unlisted.old cells.old removals.old }
-    requires apart { IsApart late.old cells.old }
-    ensures indexed { AreIndexed unlisted.new cells.new removals.new }
-    ensures apart { IsApart late.new cells.new }
-    ensures rows { with_late late.new cells.new ≡ with_late late.old cells.old }
-    ensures late { OnOk result (late.new ≡ None) }
-    ensures listed { OnOk result (unlisted.new ≡ None) }
-    ensures none_late { late.old ≡ None → late.new ≡ None }
-    ensures none_unlisted { unlisted.old ≡ None → unlisted.new ≡ None }
-{
     list_unlisted(alloc, cells, removals, unlisted)?;
     Ok(enter_late(alloc, cells, removals, late)?)
 }

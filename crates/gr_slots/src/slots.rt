@@ -8,7 +8,7 @@ ghost use Rattle.gr_slots.specs.Slots.{slot_at, with_slot, without, timed_out, t
 
 use crate::Slot;
 use crate::cells::Cells;
-use crate::late::{find_either, leave_either, make_ready, put_or_wait, set_listed, settle};
+use crate::late::{find_either, leave_either, put_or_wait, set_listed, settle};
 use crate::merging::merge;
 use crate::removals::{late_moments, listed, removed_at};
 use crate::sifting::sift_all;
@@ -51,6 +51,17 @@ fn counted(count: u64, gone: bool, more: bool) -> u64
         (false, true) => count + 1,
         (true, false) => count.saturating_sub(1),
         _ => count,
+    }
+}
+
+// Refuses where one removal more could not be counted. There is never memory for so many.
+fn countable(count: u64) -> Result<(), Memory>
+    ensures { OnOk result (count + 1 < 2 ^ 64) }
+{
+    if count == u64::MAX {
+        Err(Memory)
+    } else {
+        Ok(())
     }
 }
 
@@ -101,13 +112,13 @@ impl Slots {
         ensures entries { self.new.entries ≡ self.old.entries }
         ensures ok { OnOk result (self.new.room ≡ Some taken_at) }
     {
-        make_ready(
+        countable(self.count)?;
+        settle(
             self.alloc,
             &mut self.cells,
             &mut self.removals,
             &mut self.late,
             &mut self.unlisted,
-            self.count,
         )?;
         self.room = Some(taken_at);
         Ok(())
@@ -131,20 +142,20 @@ impl Slots {
     }
 
     /// Sets what stands at the key. Where memory is refused, all slots are as before.
-    pub fn set(&mut self, key: Key, slot: Slot) -> Result<(), Memory>
-        ensures ok { OnOk result (self.new ≡ record { entries = with_slot key slot self.old.entries; room = None }) }
+    pub fn set(&mut self, key: &Key, slot: Slot) -> Result<(), Memory>
+        ensures ok { OnOk result (self.new ≡ record { entries = with_slot key.now slot self.old.entries; room = None }) }
         ensures err { OnErr result (self.new.entries ≡ self.old.entries) }
     {
-        make_ready(
+        countable(self.count)?;
+        settle(
             self.alloc,
             &mut self.cells,
             &mut self.removals,
             &mut self.late,
             &mut self.unlisted,
-            self.count,
         )?;
         let after = removed_at(Some(&slot));
-        let before = set_listed(self.alloc, &mut self.cells, &mut self.removals, &key, slot)?;
+        let before = set_listed(self.alloc, &mut self.cells, &mut self.removals, key, slot)?;
         self.count = counted(self.count, before.is_some(), after.is_some());
         self.room = None;
         Ok(())

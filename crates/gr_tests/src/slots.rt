@@ -44,11 +44,11 @@ fn removals_time_out_in_order_of_keys(rt: HostRuntime) -> Result<(), Fail> {
     ];
     for (key, removal, taken_at) in taken {
         slots.set(
-            Key::read(alloc, key)?,
+            &Key::read(alloc, key)?,
             slot(alloc, stamp, removal, taken_at)?,
         )?;
     }
-    slots.set(Key::read(alloc, b"d")?, slot(alloc, stamp, true, 2)?)?;
+    slots.set(&Key::read(alloc, b"d")?, slot(alloc, stamp, true, 2)?)?;
     assert_eq!(rt; slots.tombstones(), 3);
     let cases: [(u64, &[u8]); 7] = [
         (0, b""),

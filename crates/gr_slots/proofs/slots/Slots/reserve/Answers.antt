@@ -8,9 +8,9 @@ pub invariant_of-self : goal.invariant_of-self
 invariant_of-self c =
     let was = c.self.inside in
     record {
-      indexed = c.make_ready.ensures.indexed;
-      apart = c.make_ready.ensures.apart;
-      counted = c.self.invariant.counted ∙ ap tombstones (sym c.make_ready.ensures.rows);
-      ready = still_ready was.room was.late c.make_ready.new.late was.unlisted c.make_ready.new.unlisted was.count c.make_ready.ensures.none_late
-          c.make_ready.ensures.none_unlisted c.self.invariant.ready;
+      indexed = c.settle.ensures.indexed;
+      apart = c.settle.ensures.apart;
+      counted = c.self.invariant.counted ∙ ap tombstones (sym c.settle.ensures.rows);
+      ready = still_ready was.room was.late c.settle.new.late was.unlisted c.settle.new.unlisted was.count c.settle.ensures.none_late
+          c.settle.ensures.none_unlisted c.self.invariant.ready;
     }
