@@ -1,5 +1,6 @@
 -- Bit m - 1 of members as bits is member m's.
-use Rattle.std.proofs.Common.{zero, suc, ◌+◌, ◌-◌, ◌*◌, ◌^◌, ◌≡◌, ◌⊎◌, ℕ, ◌≤◌, ◌<◌, Bool, true, false, refl, ◌∙◌, subst, inl, inr, arith, if◌then◌else◌}
+use Rattle.std.proofs.Common.{zero, suc, ◌+◌, ◌-◌, ◌*◌, ◌^◌, ◌≡◌, ◌⊎◌, ℕ, ◌≤◌, ◌<◌, Bool, true, false, refl}
+use Rattle.std.proofs.Common.{◌∙◌, subst, inl, inr, arith, if◌then◌else◌}
 use Rattle.std.specs.Int.{bit_at}
 use Rattle.std.proofs.lemmas.Nat.Bits.{bit_at_cat_low, bit_at_cat_high}
 use Rattle.gr_history.specs.Recipients.{member_bits}
@@ -32,8 +33,11 @@ bits_at test (suc n) i h = at_place (cases_le n i) (λ lt. bits_at test n i lt)
 
     at_place : (i < n) ⊎ (n ≤ i) → (i < n → bit_at (member_bits test n) i ≡ (if test (suc i) then 1 else 0))
         → bit_at (member_bits test (suc n)) i ≡ (if test (suc i) then 1 else 0)
-    at_place (inl lt) next = rw (as_cat (test (suc n))) (bit_at_cat_low (if test (suc n) then 1 else 0) n (member_bits test n) i lt ∙ next lt)
+    at_place (inl lt) next = rw (as_cat (test (suc n))) (
+        bit_at_cat_low (if test (suc n) then 1 else 0) n (member_bits test n) i lt ∙ next lt)
     at_place (inr le) next =
         let e : n ≡ i = omega (arith, h, le) in
         subst (λ k. bit_at (member_bits test (suc n)) k ≡ (if test (suc k) then 1 else 0)) e
-        (rw (as_cat (test (suc n))) (bit_at_cat_high (if test (suc n) then 1 else 0) n (member_bits test n) n (bits_below test n) (omega arith) ∙ at_top (test (suc n))))
+        (rw (as_cat (test (suc n)))
+        (bit_at_cat_high (if test (suc n) then 1 else 0) n (member_bits test n) n (bits_below test n) (omega arith)
+        ∙ at_top (test (suc n))))

@@ -1,6 +1,6 @@
 -- What a tombstone was that expired, and what of its key was made behind.
-use Rattle.std.proofs.Common.{◌+◌, zero, suc, ◌-◌, ◌≡◌, ◌⊎◌, ℕ, ◌≤◌, ◌<◌, List, [], ◌∷◌, Bool, true, false, ◌&&◌, ◌||◌, not, ◌==◌, refl, sym}
-use Rattle.std.proofs.Common.{ap, ◌∙◌, subst, inl, inr, ⊎_elim, arith, max, if◌then◌else◌}
+use Rattle.std.proofs.Common.{◌+◌, zero, suc, ◌-◌, ◌≡◌, ◌⊎◌, ℕ, ◌≤◌, ◌<◌, List, [], ◌∷◌, Bool, true, false, ◌&&◌, ◌||◌, not, ◌==◌, refl}
+use Rattle.std.proofs.Common.{sym, ap, ◌∙◌, subst, inl, inr, ⊎_elim, arith, max, if◌then◌else◌}
 use Rattle.std.specs.Prelude.{Option, Some, None, map, nat_le}
 use Rattle.std.specs.List.{filter_map}
 use Rattle.std.proofs.lemmas.Bool.Decides.{nat_tests}
@@ -20,16 +20,16 @@ use Rattle.gr_history.specs.Floor.{removal_of, expired_at, expired}
 use Rattle.gr_history.specs.Stable.{last_heard, is_later, is_covered, is_counting, is_stable_upto, is_stable, is_due_from}
 use Rattle.gr_history.specs.Clock.{since, clock}
 use Rattle.gr_law.specs.Grids.{identity, Among, Older, Grid}
-use Rattle.gr_law.specs.Integrity.{IsMade, IsGenuine, IsSound, IsWhole, IsHeardDeed, AreHeard}
+use Rattle.gr_law.specs.Integrity.{IsMade, IsSound, IsClosed, IsHeardOrClosed, AreHeardOrClosed}
 use Rattle.gr_history.specs.Lawful.{IsLawful, IsLawfulDeed}
 use Rattle.gr_history.specs.Gifts.{IsReportOf}
 use Rattle.gr_history.specs.Room.{IsSameReport, bare}
-use Rattle.gr_law.proofs.Lists.{and_left, and_right, cases_le, known_ids, among_either, covers-has, either}
-use Rattle.gr_law.proofs.Winners.{ver-beats, bytes_eq-itself}
-use Rattle.gr_law.proofs.Made.{older_past, older_trans, older_itself, older_lawful, older_genuine, older_ids, made_stamped, made_known}
+use Rattle.gr_law.proofs.Lists.{and_left, and_right, cases_le, known_ids, among_either, covers-has}
+use Rattle.gr_law.proofs.Winners.{bytes_eq-itself}
+use Rattle.gr_law.proofs.Made.{older_past, older_itself, older_lawful, older_ids, made_stamped, made_known}
 use Rattle.gr_law.proofs.Made.{made_member, made_below}
-use Rattle.gr_law.proofs.Steps.{true_isnt_false, came_sound, came_fresh, standing_sound, standing_best, named_due, IsDue}
-use Rattle.gr_law.proofs.Reached.{law_0-holds, all_carried}
+use Rattle.gr_law.proofs.Steps.{true_isnt_false, standing_best, named_due, IsDue}
+use Rattle.gr_law.proofs.Reached.{law_0-holds}
 use Rattle.gr_stamp.specs.Expiry.{timeout}
 
 -- What was made behind a place at which a change of its key was known has a greater version.
@@ -192,16 +192,23 @@ last_among i (Heard one ∷ past) report h =
     at_test false c e h next = let s = next h in (inr s.0, s.1)
 last_among i (Swept moment named ∷ past) report h = let s = last_among i past report h in (inr s.0, s.1)
 
-pub heard_made : (grid : Grid) (h : List Deed) → AreHeard grid h → (report : Report) → Among (Heard report) h
-    → Among (bare (Reported report)) (map bare (grid.history report.member))
-heard_made grid [] all report a = absurd a
-heard_made grid (deed ∷ past) all report (inl is) = subst (IsHeardDeed grid) (sym is) all.0
-heard_made grid (deed ∷ past) all report (inr a) = heard_made grid past all.1 report a
+-- A member is closed at an earlier place.
+abbrev pub IsClosedBefore : Grid → ℕ → ℕ → List Deed → Type 0
+IsClosedBefore grid me gone past = (place : List Deed) × Older place past × IsClosed grid me gone place
 
-pub older_heard : (grid : Grid) (q h : List Deed) → Older q h → AreHeard grid h → AreHeard grid q
-older_heard grid q [] o h = rw o h
-older_heard grid q (first ∷ past) (inl is) h = rw is h
-older_heard grid q (first ∷ past) (inr o) h = older_heard grid q past o h.1
+pub heard_made : (grid : Grid) (me : ℕ) (h : List Deed) → AreHeardOrClosed grid me h → (report : Report) → Among (Heard report) h
+    → Among (bare (Reported report)) (map bare (grid.history report.member)) ⊎ IsClosedBefore grid me report.member h
+heard_made grid me [] all report a = absurd a
+heard_made grid me (deed ∷ past) all report (inl is) =
+    ⊎_elim (λ made. inl made) (λ closed. inr (past, inr (older_itself past), closed))
+    (subst (λ d. IsHeardOrClosed grid me d past) (sym is) all.0)
+heard_made grid me (deed ∷ past) all report (inr a) =
+    ⊎_elim (λ made. inl made) (λ closed. inr (closed.0, inr closed.1, closed.2)) (heard_made grid me past all.1 report a)
+
+pub older_heard : (grid : Grid) (me : ℕ) (q h : List Deed) → Older q h → AreHeardOrClosed grid me h → AreHeardOrClosed grid me q
+older_heard grid me q [] o h = rw o h
+older_heard grid me q (first ∷ past) (inl is) h = rw is h
+older_heard grid me q (first ∷ past) (inr o) h = older_heard grid me q past o h.1
 
 -- A report that says the same as one that is lawful tells of that place too.
 same_report : (id : Identity) (past : List Deed) (made report : Report) → IsReportOf id past made → IsSameReport report made
@@ -242,15 +249,12 @@ pub record IsSeen (grid : Grid) (past : List Deed) (i : ℕ) (id : Id) : Type 0 
   pub known : has_id id (ids place) ≡ true
   pub covered : (rv : ℕ) → 1 ≤ rv → rv ≤ top i (ids place) → has_id (record { member = i; rv = rv }) (ids past) ≡ true
 
--- A heard report is such a place.
-pub seen_at : (grid : Grid) → IsWhole grid → (past : List Deed) → AreHeard grid past → (i : ℕ) (id : Id)
-    → (o : Option Report) → last_heard i past ≡ o → is_covered i id o (ids past) ≡ true → IsSeen grid past i id
-seen_at grid whole past heard i id None e h = absurd (true_isnt_false (sym h))
-seen_at grid whole past heard i id (Some report) e h =
-    let l = last_among i past report e in
-    let a : Among (bare (Reported report)) (map bare (grid.history i)) =
-    subst (λ k. Among (bare (Reported report)) (map bare (grid.history k))) l.1 (heard_made grid past heard report l.0) in
-    let r = reported_at (identity grid i) (grid.opening i) (grid.history i) (whole.sound.lawful i) report a in
+-- A report that was made is such a place.
+made_seen : (grid : Grid) → IsSound grid → (past : List Deed) (i : ℕ) (id : Id) (report : Report)
+    → Among (bare (Reported report)) (map bare (grid.history i)) → is_covered i id (Some report) (ids past) ≡ true
+    → IsSeen grid past i id
+made_seen grid sound past i id report a h =
+    let r = reported_at (identity grid i) (grid.opening i) (grid.history i) (sound.lawful i) report a in
     let is : IsReportOf (identity grid i) r.0 report = r.2 in
     record {
       place = r.0;
@@ -258,6 +262,19 @@ seen_at grid whole past heard i id (Some report) e h =
       known = sym (known_ids report.vector.ids r.0 is.vector_is id) ∙ and_left _ _ h;
       covered = λ rv from to. covers-has i report.own (ids past) (and_right _ _ h) rv from (rw is.own_is to);
     }
+
+-- The report that counts of a member is such a place, or the member is closed.
+pub seen_at : (grid : Grid) → IsSound grid → (me : ℕ) (past : List Deed) → AreHeardOrClosed grid me past → (i : ℕ) (id : Id)
+    → (o : Option Report) → last_heard i past ≡ o → is_covered i id o (ids past) ≡ true
+    → IsSeen grid past i id ⊎ IsClosedBefore grid me i past
+seen_at grid sound me past heard i id None e h = absurd (true_isnt_false (sym h))
+seen_at grid sound me past heard i id (Some report) e h =
+    let l = last_among i past report e in
+    ⊎_elim
+    (λ made. inl (made_seen grid sound past i id report
+    (subst (λ k. Among (bare (Reported report)) (map bare (grid.history k))) l.1 made) h))
+    (λ closed. inr (subst (λ k. IsClosedBefore grid me k past) l.1 closed))
+    (heard_made grid me past heard report l.0)
 
 -- A change of another member, whose maker was seen, is greater than what it had seen.
 pub seen_greater : (grid : Grid) → IsSound grid → (past : List Deed) → (tombstone change : Change) → IsMade grid tombstone

@@ -1,7 +1,7 @@
 -- Laws 3 to 5.
 use Rattle.std.proofs.Common.{bytes_eq, ◌≡◌, ◌⊎◌, ℕ, ◌≤◌, List, [], ◌∷◌, ◌++◌, Bool, true, false, not, refl, sym, ap, ◌∙◌, subst, inl, inr}
 use Rattle.std.proofs.Common.{⊎_elim, arith}
-use Rattle.std.specs.Prelude.{Option, Some, None, option_and_then}
+use Rattle.std.specs.Prelude.{Option, Some, None}
 use Rattle.gr_history.specs.declared.identity.Identity.{Identity}
 use Rattle.gr_stamp.specs.declared.change.Change.{Change}
 use Rattle.gr_stamp.specs.declared.change.Kind.{Kind}
@@ -15,21 +15,22 @@ use Rattle.gr_history.specs.declared.deed.Deed.{Deed}
 use Rattle.gr_history.specs.declared.deed.Deed.TheVariants.{Call, Asked, Taken, Gave, Imaged, Reported, Heard, Swept}
 use Rattle.gr_history.specs.Ids.{id_of, ids_at, ids}
 use Rattle.gr_vector.specs.Ids.{has_id}
-use Rattle.gr_history.specs.Standing.{came, standing, present, changes}
+use Rattle.gr_history.specs.Standing.{came, standing, changes}
 use Rattle.gr_history.specs.Floor.{expired_at, expired}
 use Rattle.gr_law.specs.Grids.{identity, Among, Older, Grid}
-use Rattle.gr_law.specs.Integrity.{IsMade, IsGenuine, IsGenuineDeed, IsSound, IsWhole, IsGift, giver_of}
+use Rattle.gr_law.specs.Integrity.{IsMade, IsGenuine, IsGenuineDeed, IsSound, IsWhole, IsGift, giver_of, IsParted}
 use Rattle.gr_history.specs.Lawful.{IsLawful}
-use Rattle.gr_law.specs.Laws.{AreAlso, same_value, same_entry, taken_at, taken, took, IsLate, IsHeld, law_3, law_4, IsGiverLate, AreGiversLate}
-use Rattle.gr_law.specs.Laws.{IsApart, AreApart, law_5}
+use Rattle.gr_law.specs.Laws.{AreAlso, same_value, same_entry, taken_at, taken, took, IsLate, IsHeld, law_3, law_4}
+use Rattle.gr_law.specs.Laws.{IsGiverLate, AreGiversLate, IsApart, AreApart, law_5}
 use Rattle.gr_law.proofs.Lists.{known_ids, one_name, among_either, among_left, among_right, has_left, has_right, either}
 use Rattle.gr_law.proofs.Winners.{winner-best, Best, IsBest, HasNone, unbeaten-same, bytes_eq-itself, ver-beats}
-use Rattle.gr_law.proofs.Made.{older_past, older_lawful, older_genuine, made_unique}
+use Rattle.gr_law.proofs.Made.{older_past, older_ids, older_lawful, older_genuine, made_unique}
 use Rattle.gr_law.proofs.Images.{row_stands, stands_row, lasting_came}
 use Rattle.gr_law.proofs.Steps.{true_isnt_false, came_sound, came_fresh, lasting_sound, repeat_known}
 use Rattle.gr_law.proofs.Reached.{all_carried}
 use Rattle.gr_law.proofs.Took.{giver_older, giver_lawful, giver_genuine, took_sound}
-use Rattle.gr_law.proofs.Late.{late_greater, law_2-holds}
+use Rattle.gr_law.proofs.Late.{late_greater, law_2-parted}
+use Rattle.gr_law.proofs.Parted.{whole_parted}
 use Rattle.gr_law.proofs.Settled.{known_taken, known_took, gone_at, gone, IsSettled, IsAfter, more_settled, again_settled, swept_settled}
 use Rattle.gr_law.proofs.Imaged.{imaged_settled}
 
@@ -297,15 +298,15 @@ pub law_5-holds : (grid : Grid) → IsSound grid → law_5 grid
 law_5-holds grid sound me past o late givers apart key =
     held_from grid sound key past (took_made grid sound me past o) (settled_from grid sound me past o late givers apart key)
 
--- In a whole record these facts hold of each history.
+-- In a whole record, and in one that members left, these facts hold of each history.
 older_late : (q h : List Deed) → Older q h → IsLate h → IsLate q
 older_late q [] o h = rw o h
 older_late q (first ∷ past) (inl is) h = rw is h
 older_late q (first ∷ past) (inr o) h = older_late q past o h.1
 
-givers_late : (grid : Grid) → IsWhole grid → (me : ℕ) (past : List Deed) → AreGiversLate grid past
-givers_late grid whole me [] = tt
-givers_late grid whole me (deed ∷ past) = (at_deed deed, givers_late grid whole me past)
+givers_late : (grid : Grid) → IsParted grid → (me : ℕ) (past : List Deed) → AreGiversLate grid past
+givers_late grid parted me [] = tt
+givers_late grid parted me (deed ∷ past) = (at_deed deed, givers_late grid parted me past)
   where
     at_deed : (d : Deed) → IsGiverLate grid d
     at_deed (Call client to seq ask reply one) = tt
@@ -313,24 +314,30 @@ givers_late grid whole me (deed ∷ past) = (at_deed deed, givers_late grid whol
     at_deed (Taken c how) = tt
     at_deed (Gave to what) = tt
     at_deed (Imaged image) = older_late (giver_of grid image) (grid.history image.from) (giver_older grid image)
-        (law_2-holds grid whole image.from)
+        (law_2-parted grid parted image.from)
     at_deed (Reported report) = tt
     at_deed (Heard report) = tt
     at_deed (Swept moment named) = tt
 
-all_apart : (grid : Grid) → IsWhole grid → (me : ℕ) (all : List Change) → ((change : Change) → Among change all → IsMade grid change)
-    → (past : List Deed) → IsGenuine grid me past → AreApart grid all past
-all_apart grid whole me all made_ [] own = tt
-all_apart grid whole me all made_ (deed ∷ past) own = (at_deed deed own.0, all_apart grid whole me all made_ past own.1)
+all_apart : (grid : Grid) → IsParted grid → (me : ℕ) (all : List Change) → ((change : Change) → Among change all → IsMade grid change)
+    → ((change : Change) → Among change all → has_id (id_of change) (ids (grid.history me)) ≡ true)
+    → (past : List Deed) → Older past (grid.history me) → IsGenuine grid me past → AreApart grid all past
+all_apart grid parted me all made_ known [] o own = tt
+all_apart grid parted me all made_ known (deed ∷ past) o own =
+    (at_deed deed o own.0, all_apart grid parted me all made_ known past (older_past deed past (grid.history me) o) own.1)
   where
-    at_deed : (d : Deed) → IsGenuineDeed grid me d → IsApart grid all d
-    at_deed d own = apart_at grid all d (λ image is. at_image image (subst (IsGenuineDeed grid me) is own))
+    at_deed : (d : Deed) → Older (d ∷ past) (grid.history me) → IsGenuineDeed grid me d → IsApart grid all d
+    at_deed d o own =
+        apart_at grid all d (λ image is. at_image image (subst (λ e. Older (e ∷ past) (grid.history me)) is o)
+        (subst (IsGenuineDeed grid me) is own))
       where
-        at_image : (image : Image) → IsGenuineDeed grid me (Imaged image) → IsApart grid all (Imaged image)
-        at_image image own change tombstone a unknown t same =
+        at_image : (image : Image) → Older (Imaged image ∷ past) (grid.history me) → IsGenuineDeed grid me (Imaged image)
+            → IsApart grid all (Imaged image)
+        at_image image merged own change tombstone a unknown t same =
             ver-beats change.stamp tombstone.stamp
-            (late_greater grid whole image.from (giver_of grid image) (giver_older grid image) tombstone change t (made_ change a)
-            (sym (known_ids image.vector.ids (giver_of grid image) own.1.is_image.vector_is (id_of change)) ∙ unknown) (sym same))
+            (late_greater grid parted image.from (giver_of grid image) (giver_older grid image) tombstone change t (made_ change a)
+            (sym (known_ids image.vector.ids (giver_of grid image) own.1.is_image.vector_is (id_of change)) ∙ unknown) (sym same)
+            (λ place older closed. closed.joiners me image past merged refl older (id_of change) refl (known change a)))
 
 changes_made : (grid : Grid) → IsSound grid → (me : ℕ) (past : List Deed) → Older past (grid.history me)
     → IsLawful (identity grid me) (grid.opening me) past → IsGenuine grid me past → (change : Change) → Among change (changes past)
@@ -341,24 +348,37 @@ changes_made grid sound me (deed ∷ past) o law own change a = ⊎_elim
     (λ there. changes_made grid sound me past (older_past deed past (grid.history me) o) law.1 own.1 change there)
     (among_either change (came deed past) (changes past) a)
 
-whole_settled : (grid : Grid) → IsWhole grid → (me : ℕ) (past : List Deed) → Older past (grid.history me)
+-- what came in is known
+changes_known : (grid : Grid) → IsSound grid → (me : ℕ) (past : List Deed) → Older past (grid.history me)
+    → IsLawful (identity grid me) (grid.opening me) past → IsGenuine grid me past → (change : Change) → Among change (changes past)
+    → has_id (id_of change) (ids (grid.history me)) ≡ true
+changes_known grid sound me [] o law own change a = absurd a
+changes_known grid sound me (deed ∷ past) o law own change a = ⊎_elim
+    (λ here. older_ids (id_of change) (deed ∷ past) (grid.history me) o
+    (has_left (id_of change) (ids_at deed) (ids past)
+    (came_sound grid sound me deed past o law.0 own.0 (all_carried grid sound me (deed ∷ past) own).0 change here).1))
+    (λ there. changes_known grid sound me past (older_past deed past (grid.history me) o) law.1 own.1 change there)
+    (among_either change (came deed past) (changes past) a)
+
+parted_settled : (grid : Grid) → IsParted grid → (me : ℕ) (past : List Deed) → Older past (grid.history me)
     → (key : List ℕ) → IsSettled key (took grid past) (gone grid past) (standing key past)
-whole_settled grid whole me past o key =
-    let sound = whole.sound in
+parted_settled grid parted me past o key =
+    let sound = parted.sound in
     let law = older_lawful (identity grid me) (grid.opening me) past (grid.history me) o (sound.lawful me) in
     let own = older_genuine grid me past (grid.history me) o (sound.genuine me) in
-    settled_from grid sound me past o (older_late past (grid.history me) o (law_2-holds grid whole me)) (givers_late grid whole me past)
-    (all_apart grid whole me (changes past) (changes_made grid sound me past o law own) past own) key
+    settled_from grid sound me past o (older_late past (grid.history me) o (law_2-parted grid parted me)) (givers_late grid parted me past)
+    (all_apart grid parted me (changes past) (changes_made grid sound me past o law own) (changes_known grid sound me past o law own)
+    past o own) key
 
-pub law_3-holds : (grid : Grid) → IsWhole grid → law_3 grid
-law_3-holds grid whole me past o key =
-    held_from grid whole.sound key past (took_made grid whole.sound me past o) (whole_settled grid whole me past o key)
+pub law_3-parted : (grid : Grid) → IsParted grid → law_3 grid
+law_3-parted grid parted me past o key =
+    held_from grid parted.sound key past (took_made grid parted.sound me past o) (parted_settled grid parted me past o key)
 
-pub law_4-holds : (grid : Grid) → IsWhole grid → law_4 grid
-law_4-holds grid whole me past o tombstone held a removes stands puts =
+pub law_4-parted : (grid : Grid) → IsParted grid → law_4 grid
+law_4-parted grid parted me past o tombstone held a removes stands puts =
     let key = tombstone.key in
     let b : Best key (took grid past) held =
-    subst (IsSettled key (took grid past) (gone grid past)) stands (whole_settled grid whole me past o key) in
+    subst (IsSettled key (took grid past) (gone grid past)) stands (parted_settled grid parted me past o key) in
     at_test b (either (beats held.stamp tombstone.stamp))
   where
     at_test : Best tombstone.key (took grid past) held → (beats held.stamp tombstone.stamp ≡ true)
@@ -366,8 +386,8 @@ law_4-holds grid whole me past o tombstone held a removes stands puts =
     at_test b (inl is) = is
     at_test b (inr isnt) =
         let s = unbeaten-same held.stamp tombstone.stamp isnt (b.unbeaten tombstone a (bytes_eq-itself tombstone.key)) in
-        let e = made_unique grid whole.sound held tombstone (took_made grid whole.sound me past o held b.among)
-        (took_made grid whole.sound me past o tombstone a)
+        let e = made_unique grid parted.sound held tombstone (took_made grid parted.sound me past o held b.among)
+        (took_made grid parted.sound me past o tombstone a)
         (one_name held tombstone s.1 s.2) in
         absurd (true_isnt_false (sym removes ∙ sym (ap (λ c. is_removal c.kind) e) ∙ puts))
 
@@ -388,14 +408,14 @@ one_winner grid sound key all more made_ made_more into back = at_winner (winner
       unbeaten = λ change a same. b.unbeaten change (into change a (of_key change same)) same;
     })
 
-pub same_value-holds : (grid : Grid) → IsWhole grid → same_value grid
-same_value-holds grid whole i j one two o p key into back =
-    let w = one_winner grid whole.sound key (took grid one) (took grid two) (took_made grid whole.sound i one o)
-    (took_made grid whole.sound j two p) into back in
+pub same_value-parted : (grid : Grid) → IsParted grid → same_value grid
+same_value-parted grid parted i j one two o p key into back =
+    let w = one_winner grid parted.sound key (took grid one) (took grid two) (took_made grid parted.sound i one o)
+    (took_made grid parted.sound j two p) into back in
     let e : holds key (took grid one) ≡ holds key (took grid two) = rw w refl in
     let l : leaves key (took grid one) ≡ leaves key (took grid two) = ap is_there w in (
-      (law_3-holds grid whole i one o key).present_is ∙ e ∙ sym (law_3-holds grid whole j two p key).present_is,
-      (law_3-holds grid whole i one o key).there_is ∙ l ∙ sym (law_3-holds grid whole j two p key).there_is,
+      (law_3-parted grid parted i one o key).present_is ∙ e ∙ sym (law_3-parted grid parted j two p key).present_is,
+      (law_3-parted grid parted i one o key).there_is ∙ l ∙ sym (law_3-parted grid parted j two p key).there_is,
     )
 
 -- a put or an invalidation that stands has won
@@ -415,9 +435,23 @@ standing_won grid key past law held is puts = at_winner (winner key (took grid p
     at_winner None none = absurd (true_isnt_false (sym left ∙ ap is_there none))
     at_winner (Some best) won = sym (law.stands best won (stays best.kind (sym (ap is_there won) ∙ left))) ∙ is
 
+pub same_entry-parted : (grid : Grid) → IsParted grid → same_entry grid
+same_entry-parted grid parted i j one two o p key into back held is puts =
+    let w = one_winner grid parted.sound key (took grid one) (took grid two) (took_made grid parted.sound i one o)
+    (took_made grid parted.sound j two p) into back in
+    (law_3-parted grid parted j two p key).stands held
+    (sym w ∙ standing_won grid key one (law_3-parted grid parted i one o key) held is puts) puts
+
+-- ---- whole records
+
+pub law_3-holds : (grid : Grid) → IsWhole grid → law_3 grid
+law_3-holds grid whole = law_3-parted grid (whole_parted grid whole)
+
+pub law_4-holds : (grid : Grid) → IsWhole grid → law_4 grid
+law_4-holds grid whole = law_4-parted grid (whole_parted grid whole)
+
+pub same_value-holds : (grid : Grid) → IsWhole grid → same_value grid
+same_value-holds grid whole = same_value-parted grid (whole_parted grid whole)
+
 pub same_entry-holds : (grid : Grid) → IsWhole grid → same_entry grid
-same_entry-holds grid whole i j one two o p key into back held is puts =
-    let w = one_winner grid whole.sound key (took grid one) (took grid two) (took_made grid whole.sound i one o)
-    (took_made grid whole.sound j two p) into back in
-    (law_3-holds grid whole j two p key).stands held
-    (sym w ∙ standing_won grid key one (law_3-holds grid whole i one o key) held is puts) puts
+same_entry-holds grid whole = same_entry-parted grid (whole_parted grid whole)

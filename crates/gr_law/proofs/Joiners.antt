@@ -7,7 +7,6 @@ use Rattle.std.proofs.lemmas.Bool.Decides.{nat_tests}
 use Rattle.gr_stamp.specs.declared.change.Change.{Change}
 use Rattle.gr_vector.specs.Ids.{Id, has_id}
 use Rattle.gr_vector.specs.declared.report.Report.{Report}
-use Rattle.gr_history.specs.declared.identity.Identity.{Identity}
 use Rattle.gr_history.specs.declared.image.Image.{Image}
 use Rattle.gr_history.specs.declared.image.What.TheVariants as what
 use Rattle.gr_history.specs.declared.deed.Deed.{Deed}
@@ -20,9 +19,9 @@ use Rattle.gr_history.specs.Gifts.{IsReportOf}
 use Rattle.gr_history.specs.Room.{bare}
 use Rattle.gr_history.specs.Lawful.{IsLawful, IsLawfulDeed}
 use Rattle.gr_law.specs.Grids.{identity, Among, Older, Grid}
-use Rattle.gr_law.specs.Integrity.{giver_of, IsGift, IsWhole}
+use Rattle.gr_law.specs.Integrity.{giver_of, IsGift, IsParted}
 use Rattle.gr_law.proofs.Lists.{and_left, cases_le, among_either, either, known_ids}
-use Rattle.gr_law.proofs.Made.{IsStamped, older_itself, older_ids, made_stamped, gives_ready}
+use Rattle.gr_law.proofs.Made.{IsStamped, older_itself, older_ids, made_stamped, gives_made}
 use Rattle.gr_law.proofs.Steps.{true_isnt_false}
 use Rattle.gr_law.proofs.Bits.{bits_at}
 use Rattle.gr_law.proofs.Expired.{stable_of, last_among, heard_made, older_heard, reported_at}
@@ -45,7 +44,7 @@ made_place grid i (deed ∷ past) law change a = ⊎_elim
     ready : (d : Deed) → IsLawfulDeed (identity grid i) (grid.opening i) d past → Among change (made_at d)
         → is_ready (identity grid i) past ≡ true
     ready (Call client to seq ask reply (Some own)) law a =
-        gives_ready (identity grid i) (grid.opening i) past ask own (sym (ap (λ d. d.made) law))
+        (gives_made (identity grid i) (grid.opening i) past ask own (sym (ap (λ d. d.made) law))).0
     ready d law a = absurd a
 
 -- the image in a history that has one
@@ -188,13 +187,13 @@ ready_image grid i past lt h = at_test (nat_le i grid.founders) refl h
     at_test false e h = h
 
 -- A joiner that doesn't count got its image from a founder that knew what was stable.
-pub image_has : (grid : Grid) → IsWhole grid → (me : ℕ) (past : List Deed) → Older past (grid.history me)
+pub image_has : (grid : Grid) → IsParted grid → (me : ℕ) (past : List Deed) → Older past (grid.history me)
     → (id : Id) → has_id id (ids past) ≡ true → is_stable (identity grid me) id past ≡ true
     → (i : ℕ) → i ≤ 8 → IsUncounted grid.founders i past → (image : Image) → IsGift grid i image
-    → has_id id image.vector.ids ≡ true
-image_has grid whole me past o id known stable i eight un image gift =
+    → (before : List Deed) → Older (Imaged image ∷ before) (grid.history i) → has_id id image.vector.ids ≡ true
+image_has grid parted me past o id known stable i eight un image gift before merged =
     known_ids image.vector.ids (giver_of grid image) gift.is_image.vector_is id
-    ∙ at_giver (either (image.from == me)) (whole.sound.outside image.from)
+    ∙ at_giver (either (image.from == me)) (parted.sound.outside image.from)
   where
     same : (image.from == me) ≡ true → image.from ≡ me
     same h = grind (arith, nat_tests)
@@ -208,22 +207,28 @@ image_has grid whole me past o id known stable i eight un image gift =
     none : (deed : Deed) (q h : List Deed) → h ≡ [] → Older (deed ∷ q) h → ⊥
     none deed q h e o = older_among deed q [] (subst (Older (deed ∷ q)) e o)
 
+    from_made : (report : Report) → Among (bare (Reported report)) (map bare (grid.history image.from))
+        → is_covered image.from id (Some report) (ids past) ≡ true → is_in_bits i report.to ≡ false
+        → has_id id (ids (giver_of grid image)) ≡ true
+    from_made report a c n =
+        let r = reported_at (identity grid image.from) (grid.opening image.from) (grid.history image.from)
+        (parted.sound.lawful image.from) report a in
+        let is : IsReportOf (identity grid image.from) r.0 report = r.2 in
+        older_ids id r.0 (giver_of grid image)
+        (older_before (Gave i what.Image) r.0 (giver_of grid image) (grid.history image.from) r.1 gift.gave
+        (not_given i r.0 (unnamed_report grid image.from i r.0 report is gift.from_founder un.joins eight n)))
+        (sym (known_ids report.vector.ids r.0 is.vector_is id) ∙ and_left _ _ c)
+
     from_report : (r : Option Report) → last_heard image.from past ≡ r → is_covered image.from id r (ids past) ≡ true
         → is_named i r ≡ false
         → has_id id (ids (giver_of grid image)) ≡ true
     from_report None e c n = absurd (true_isnt_false (sym c))
     from_report (Some report) e c n =
         let l = last_among image.from past report e in
-        let a : Among (bare (Reported report)) (map bare (grid.history image.from)) =
-        subst (λ k. Among (bare (Reported report)) (map bare (grid.history k))) l.1
-        (heard_made grid past (older_heard grid past (grid.history me) o (whole.heard me)) report l.0) in
-        let r = reported_at (identity grid image.from) (grid.opening image.from) (grid.history image.from)
-        (whole.sound.lawful image.from) report a in
-        let is : IsReportOf (identity grid image.from) r.0 report = r.2 in
-        older_ids id r.0 (giver_of grid image)
-        (older_before (Gave i what.Image) r.0 (giver_of grid image) (grid.history image.from) r.1 gift.gave
-        (not_given i r.0 (unnamed_report grid image.from i r.0 report is gift.from_founder un.joins eight n)))
-        (sym (known_ids report.vector.ids r.0 is.vector_is id) ∙ and_left _ _ c)
+        ⊎_elim
+        (λ made. from_made report (subst (λ k. Among (bare (Reported report)) (map bare (grid.history k))) l.1 made) c n)
+        (λ closed. absurd (closed.2.gave_none i image before merged (sym l.1)))
+        (heard_made grid me past (older_heard grid me past (grid.history me) o (parted.heard me)) report l.0)
 
     at_giver : ((image.from == me) ≡ true) ⊎ ((image.from == me) ≡ false)
         → (1 ≤ image.from) × (image.from ≤ grid.members) ⊎ (grid.history image.from ≡ [])
@@ -236,7 +241,7 @@ image_has grid whole me past o id known stable i eight un image gift =
         (not_given i past un.not_given_to))
         known
     at_giver (inr isnt) (inl within) =
-        let few = whole.sound.few in
+        let few = parted.sound.few in
         let eight : image.from ≤ 8 = omega (arith, few, within.1) in
         ⊎_elim (λ e. absurd (other isnt e))
         (λ rest. ⊎_elim (λ no. absurd (counts no))

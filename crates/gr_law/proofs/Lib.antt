@@ -8,6 +8,7 @@ pub mod Took
 pub mod Bits
 pub mod Expired
 pub mod Joiners
+pub mod Parted
 pub mod Late
 pub mod Settled
 pub mod Imaged

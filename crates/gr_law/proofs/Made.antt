@@ -15,6 +15,7 @@ use Rattle.gr_history.specs.Calls.{call_gives, given, nothing_made, made_change,
 use Rattle.gr_history.specs.Recipients.{recipients, is_ready}
 use Rattle.gr_vector.specs.Ids.{Id, has_id, is_same_id, top}
 use Rattle.gr_history.specs.declared.deed.Deed.{Deed}
+use Rattle.gr_history.specs.declared.done.Done.{Done}
 use Rattle.gr_history.specs.declared.deed.Deed.TheVariants.{Call}
 use Rattle.gr_history.specs.Ids.{id_of, ids_at, ids}
 use Rattle.gr_history.specs.Made.{made_at, made}
@@ -97,64 +98,53 @@ pub record IsStamped (me opening : ℕ) (past : List Deed) (change : Change) : T
   pub ver_is : change.stamp.ver ≡ 1 + (reach opening change.key past)
   pub rv_is : change.stamp.rv ≡ 1 + top me (ids past)
 
-given_stamped : (id : Identity) (opening : ℕ) (past : List Deed) (key : List ℕ) (reply : Reply) (kind : Option Kind) (change : Change)
-    → (given id opening past key reply kind).made ≡ Some change → IsStamped id.member opening past change
-given_stamped id opening past key reply None change h = absurd (no h)
-  where
-    no : None ≡ Some change → ⊥
-    no e = cc
-given_stamped id opening past key reply (Some kind) change h = at_test (nat_le LIMIT (max (reach opening key past) (last_rv id past))) h
+none_made : (change : Change) → None ≡ Some change → ⊥
+none_made change e = cc
+
+given_made : (id : Identity) (opening : ℕ) (past : List Deed) (key : List ℕ) (reply : Reply) (kind : Option Kind) (change : Change)
+    → (given id opening past key reply kind).made ≡ Some change
+    → IsStamped id.member opening past change × ((given id opening past key reply kind).to ≡ recipients id past)
+given_made id opening past key reply None change h = absurd (none_made change h)
+given_made id opening past key reply (Some kind) change h = at_test (nat_le LIMIT (max (reach opening key past) (last_rv id past))) h
   where
     same : (one : Change) → Some one ≡ Some change → one ≡ change
     same one e = cc
 
-    at_test : (b : Bool) → (if b then nothing_made Limit
-        else record { reply = reply; made = Some (made_change id opening past key kind); to = recipients id past }).made ≡ Some change
-        → IsStamped id.member opening past change
-    at_test true h = absurd (no h)
-      where
-        no : None ≡ Some change → ⊥
-        no e = cc
-    at_test false h = subst (IsStamped id.member opening past) (same (made_change id opening past key kind) h)
-        (record { member_is = refl; ver_is = refl; rv_is = refl })
+    gave : Bool → Done
+    gave b = if b then nothing_made Limit
+        else record { reply = reply; made = Some (made_change id opening past key kind); to = recipients id past }
 
-gives_stamped : (id : Identity) (opening : ℕ) (past : List Deed) (ask : Ask) (change : Change)
-    → (call_gives id opening past ask).made ≡ Some change → IsStamped id.member opening past change
-gives_stamped id opening past ask change h = at_test (is_ready id past) h
+    at_test : (b : Bool) → (gave b).made ≡ Some change
+        → IsStamped id.member opening past change × ((gave b).to ≡ recipients id past)
+    at_test true h = absurd (none_made change h)
+    at_test false h = (
+      subst (IsStamped id.member opening past) (same (made_change id opening past key kind) h)
+          (record { member_is = refl; ver_is = refl; rv_is = refl }),
+      refl,
+    )
+
+-- Who makes a change is ready; the change has its stamp from what was before, and goes to the recipients.
+pub gives_made : (id : Identity) (opening : ℕ) (past : List Deed) (ask : Ask) (change : Change)
+    → (call_gives id opening past ask).made ≡ Some change
+    → (is_ready id past ≡ true)
+    × (IsStamped id.member opening past change × ((call_gives id opening past ask).to ≡ recipients id past))
+gives_made id opening past ask change h = at_test (is_ready id past) h
   where
     answer : Told
     answer = told ask (at_key (there (key_of ask) past) (present (key_of ask) past))
 
-    at_test : (b : Bool) → (if b then given id opening past (key_of ask) answer.reply answer.change else nothing_made NotReady).made
-        ≡ Some change
-        → IsStamped id.member opening past change
-    at_test true h = given_stamped id opening past (key_of ask) answer.reply answer.change change h
-    at_test false h = absurd (no h)
-      where
-        no : None ≡ Some change → ⊥
-        no e = cc
+    gave : Bool → Done
+    gave b = if b then given id opening past (key_of ask) answer.reply answer.change else nothing_made NotReady
 
--- who makes a change is ready
-pub gives_ready : (id : Identity) (opening : ℕ) (past : List Deed) (ask : Ask) (change : Change)
-    → (call_gives id opening past ask).made ≡ Some change → is_ready id past ≡ true
-gives_ready id opening past ask change h = at_test (is_ready id past) h
-  where
-    answer : Told
-    answer = told ask (at_key (there (key_of ask) past) (present (key_of ask) past))
-
-    at_test : (b : Bool) → (if b then given id opening past (key_of ask) answer.reply answer.change else nothing_made NotReady).made
-        ≡ Some change
-        → b ≡ true
-    at_test true h = refl
-    at_test false h = absurd (no h)
-      where
-        no : None ≡ Some change → ⊥
-        no e = cc
+    at_test : (b : Bool) → (gave b).made ≡ Some change
+        → (b ≡ true) × (IsStamped id.member opening past change × ((gave b).to ≡ recipients id past))
+    at_test true h = (refl, given_made id opening past (key_of ask) answer.reply answer.change change h)
+    at_test false h = absurd (none_made change h)
 
 pub made_stamped : (id : Identity) (opening : ℕ) (change : Change) (deed : Deed) (past : List Deed) → IsLawfulDeed id opening deed past
     → Among change (made_at deed) → IsStamped id.member opening past change
 made_stamped id opening change (Call client to seq ask reply (Some own)) past law (inl is) =
-    gives_stamped id opening past ask change (sym (ap (λ d. d.made) law) ∙ ap Some (sym is))
+    (gives_made id opening past ask change (sym (ap (λ d. d.made) law) ∙ ap Some (sym is))).1.0
 made_stamped id opening change (Call client to seq ask reply (Some own)) past law (inr a) = absurd a
 made_stamped id opening change deed past law a = absurd a
 

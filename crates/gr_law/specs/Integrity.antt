@@ -1,9 +1,11 @@
 -- Integrity: what was taken in was made, what was merged was given, and what was heard was reported.
-use Rattle.std.specs.Prelude.{◌≡◌, ◌⊎◌, ◌≤◌, ◌<◌, ◌∷◌, [], ℕ, List, map}
+use Rattle.std.specs.Prelude.{◌≡◌, ◌⊎◌, ◌≤◌, ◌<◌, ◌∷◌, [], ℕ, List, map, true}
 use Rattle.gr_stamp.specs.declared.change.Change.{Change}
 use Rattle.gr_history.specs.declared.image.Image.{Image}
 use Rattle.gr_history.specs.declared.deed.Deed.{Deed}
 use Rattle.gr_history.specs.declared.deed.Deed.TheVariants.{Taken, Gave, Imaged, Reported, Heard}
+use Rattle.gr_vector.specs.Ids.{Id, has_id}
+use Rattle.gr_history.specs.Ids.{ids}
 use Rattle.gr_history.specs.Made.{made}
 use Rattle.gr_history.specs.Gifts.{IsImageOf}
 use Rattle.gr_history.specs.Lawful.{IsLawful}
@@ -67,3 +69,28 @@ pub record IsSound (grid : Grid) : Type 0 where
 pub record IsWhole (grid : Grid) : Type 0 where
   pub sound : IsSound grid
   pub heard : (member : ℕ) → AreHeard grid (grid.history member)
+
+-- A member is closed to another one at a place of its history, as one that has left for good: of its changes this one knows
+-- at the end what it knew there, and so does each joiner that is given an image here later. And it gave no image.
+pub record IsClosed (grid : Grid) (me gone : ℕ) (place : List Deed) : Type 0 where
+  pub here : (id : Id) → id.member ≡ gone → has_id id (ids (grid.history me)) ≡ true → has_id id (ids place) ≡ true
+  pub joiners : (joiner : ℕ) (image : Image) (past : List Deed) → Older (Imaged image ∷ past) (grid.history joiner)
+      → image.from ≡ me → Older place (giver_of grid image)
+      → (id : Id) → id.member ≡ gone → has_id id (ids (grid.history joiner)) ≡ true → has_id id (ids place) ≡ true
+  pub gave_none : (joiner : ℕ) (image : Image) (past : List Deed) → Older (Imaged image ∷ past) (grid.history joiner)
+      → image.from ≡ gone → ⊥
+
+-- A report that was heard was made, or it is a closing report: one that is heard in the name of a member that is closed there,
+-- so that removals needn't wait for it to report.
+abbrev pub IsHeardOrClosed : Grid → ℕ → Deed → List Deed → Type 0
+IsHeardOrClosed grid me (Heard report) past = IsHeardDeed grid (Heard report) ⊎ IsClosed grid me report.member past
+IsHeardOrClosed grid me _ past = Unit {0}
+
+abbrev pub AreHeardOrClosed : Grid → ℕ → List Deed → Type 0
+AreHeardOrClosed grid me [] = Unit {0}
+AreHeardOrClosed grid me (deed ∷ past) = IsHeardOrClosed grid me deed past × AreHeardOrClosed grid me past
+
+-- Records that members may have left: integrity on reports, but for those of members that are closed.
+pub record IsParted (grid : Grid) : Type 0 where
+  pub sound : IsSound grid
+  pub heard : (member : ℕ) → AreHeardOrClosed grid member (grid.history member)

@@ -1,4 +1,4 @@
-ghost use Rattle.gr_law.specs.Integrity.{IsSound, IsWhole};
+ghost use Rattle.gr_law.specs.Integrity.{IsParted, IsSound, IsWhole};
 ghost use Rattle.std.specs.Prelude.{◌≡◌, ℕ, List, Some, None};
 ghost use Rattle.gr_history.specs.declared.deed.Deed.{Deed};
 ghost use Rattle.gr_history.specs.Standing.{standing};
@@ -38,6 +38,17 @@ pub fn laws_of_whole_records()
     ensures same_value { (grid : Grid) → IsWhole grid → same_value grid }
     ensures same_entry { (grid : Grid) → IsWhole grid → same_entry grid }
     ensures law_4 { (grid : Grid) → IsWhole grid → law_4 grid }
+{}
+
+/// The same where members may have left for good: each report that was heard was made, or it is a closing
+/// report, which is heard in the name of a member that left. Of that member's changes the others know at the
+/// end what they knew there.
+pub fn laws_of_parted_records()
+    ensures law_2 { (grid : Grid) → IsParted grid → law_2 grid }
+    ensures law_3 { (grid : Grid) → IsParted grid → law_3 grid }
+    ensures same_value { (grid : Grid) → IsParted grid → same_value grid }
+    ensures same_entry { (grid : Grid) → IsParted grid → same_entry grid }
+    ensures law_4 { (grid : Grid) → IsParted grid → law_4 grid }
 {}
 
 /// There are whole records with removals, reports, sweeps and images, so the laws aren't empty: in this
