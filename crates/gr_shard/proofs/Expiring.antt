@@ -1,6 +1,6 @@
 -- A sweep that is prepared can be committed.
 use Rattle.std.proofs.Common.{◌≡◌, ◌≤◌, ◌∙◌, ap, sym, refl, subst, ℕ, List, [], ◌∷◌}
-use Rattle.std.proofs.Common.{reverse, true, false, max, None, Some, map}
+use Rattle.std.proofs.Common.{reverse, true, false, max, Some, map}
 use Rattle.std.proofs.Common.{bytes_eq, ◌||◌, Bool}
 use Rattle.std.proofs.lemmas.Slice.Eq.{bytes_eq-Decides}
 use Rattle.gr_stamp.specs.declared.stamp.TheConstants.{LIMIT}

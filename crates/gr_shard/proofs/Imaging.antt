@@ -74,8 +74,6 @@ module _ (account : Account) (image : Image) (slots : HeldSlots) (vector : Ids) 
       imaged = refl;
       aimed = kept.aimed;
       told = kept.told ∙ sym (heard_next (Imaged image) (reverse account.deeds));
-      eight = kept.eight;
-      gifts = kept.gifts;
       in_step = in_step_after (Imaged image) (reverse account.deeds) after now.queries (λ client name. refl) tells same kept.in_step;
     };
     opens = tells;

@@ -7,7 +7,7 @@ use Rattle.gr_history.specs.Clock.{clock}
 use Rattle.gr_history.specs.Floor.{floor}
 use Rattle.gr_history.specs.Ids.{known}
 use Rattle.gr_history.specs.Lawful.{IsLawfulDeed, IsOfShard}
-use Rattle.gr_history.specs.Recipients.{NamesMembers, gave_to, has_image, recipients}
+use Rattle.gr_history.specs.Recipients.{NamesMembers, has_image, recipients}
 use Rattle.gr_slots.specs.Slots.{Entries}
 use Rattle.gr_stable.specs.Heard.{Reports, heard}
 use Rattle.gr_vector.specs.Ids.{Id}
@@ -21,7 +21,6 @@ pub record Said : Type 0 where
   pub clock_is : ℕ
   pub joined : Bool
   pub to : ℕ
-  pub gave : ℕ → Bool
 
 abbrev pub said : Identity → ℕ → List Deed → Said
 said id opening past = record {
@@ -29,7 +28,6 @@ said id opening past = record {
   clock_is = clock past;
   joined = has_image past;
   to = recipients id past;
-  gave = λ member. gave_to member past;
 }
 
 pub kept_on : (id : Identity) (opening : ℕ) (now : Kept) (deed : Deed) (past : List Deed) → IsKept id opening now past
@@ -51,7 +49,5 @@ kept_on id opening now deed past kept same is here names slots stands vector not
   imaged = kept.imaged ∙ sym (ap (λ (s : Said). s.joined) same);
   aimed = kept.aimed ∙ sym (ap (λ (s : Said). s.to) same);
   told = told;
-  eight = kept.eight;
-  gifts = λ member some most. kept.gifts member some most ∙ sym (ap (λ (s : Said). s.gave member) same);
   in_step = in_step;
 }

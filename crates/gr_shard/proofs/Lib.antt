@@ -1,6 +1,6 @@
+pub mod Counts
 pub mod Fits
 pub mod Gifts
-pub mod Given
 pub mod Kept
 pub mod KeptOn
 pub mod Left

@@ -480,8 +480,6 @@ module _ (id : Identity) (opening : ℕ) (now : Kept) (past : List Deed) where
     imaged = refl;
     aimed = kept.aimed;
     told = kept.told ∙ sym (heard_next (Imaged image) past);
-    eight = kept.eight;
-    gifts = kept.gifts;
     in_step = told_in_step (Imaged image) past (turned_between now.slots (merged now.vector now.clock image now.slots)) now.queries
         (λ client name. refl)
         (turned_by_slots (Imaged image) past now.slots (merged now.vector now.clock image now.slots) kept.stands stands) kept.in_step;

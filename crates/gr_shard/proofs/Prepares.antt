@@ -5,6 +5,7 @@ use Rattle.std.specs.List.{AllByRecursion}
 use Rattle.gr_oql.specs.declared.event.Event.{Event}
 use Rattle.gr_cq.specs.Entries.{Queries}
 use Rattle.gr_cq.specs.Foresight.{Foresight, Enrolling, Taking, Telling, IsWithin, longest, room_of}
+use Rattle.gr_history.specs.declared.identity.Identity.{Identity}
 use Rattle.gr_history.specs.declared.deed.Deed.{Deed}
 use Rattle.gr_history.specs.declared.deed.Deed.TheVariants.{Asked, Gave, Heard, Reported}
 use Rattle.gr_history.specs.declared.query_ask.QueryAsk.{QueryAsk}
@@ -26,6 +27,10 @@ use Rattle.gr_shard.specs.View.{Account, IsKept, spare_of}
 use Rattle.gr_shard.proofs.Asked.{kept_answered}
 use Rattle.gr_shard.proofs.Gifts.{kept_gave}
 use Rattle.gr_shard.proofs.Reports.{kept_heard, kept_reported}
+
+-- a shard as contracts see it, by what it keeps
+abbrev pub account_of : Identity → ℕ → List Deed → Bool → ℕ → Account
+account_of id opening deeds roomy events = record { id = id; opening = opening; deeds = deeds; spare = spare_of roomy events }
 
 -- ---- room
 

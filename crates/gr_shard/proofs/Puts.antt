@@ -1,12 +1,12 @@
 -- The puts and the removals among changes.
-use Rattle.std.proofs.Common.{◌≡◌, ◌∙◌, ap, sym, refl, arith, ℕ, ◌+◌, ◌-◌, ◌≤◌, List, [], ◌∷◌, ◌++◌, length, not, Bool, true, false}
-use Rattle.std.proofs.lemmas.List.{map-append, length-map}
+use Rattle.std.proofs.Common.{◌≡◌, refl, ℕ, ◌+◌, List, [], ◌∷◌, ◌++◌, not, if◌then◌else◌}
+use Rattle.std.specs.List.{fold}
+use Rattle.std.proofs.lemmas.List.{map-append}
 use Rattle.std.proofs.lemmas.List.Elements.{filter-append}
-use Rattle.std.proofs.lemmas.List.Filters.{length-filter_both}
-use Rattle.std.proofs.lemmas.List.Sums.{length-filter}
 use Rattle.gr_stamp.specs.declared.change.Change.{Change}
 use Rattle.gr_stamp.specs.Winner.{is_removal}
 use Rattle.gr_slots.specs.declared.slot.Slot.{Slot}
+use Rattle.gr_slots.specs.Slots.{Entries, tombstones}
 use Rattle.gr_shard.specs.Entries.{change_of, changes_in, puts_of, removals_of}
 
 pub puts_of-push : (changes : List Change) (change : Change) → puts_of (changes ++ change ∷ []) ≡ puts_of changes ++ puts_of (change ∷ [])
@@ -16,23 +16,11 @@ pub changes_in-push : (entries : List (List ℕ × Slot)) (key : List ℕ) (slot
     → changes_in (entries ++ (key, slot) ∷ []) ≡ changes_in entries ++ change_of key slot ∷ []
 changes_in-push entries key slot = map-append _ entries ((key, slot) ∷ [])
 
-pub length-changes_in : (entries : List (List ℕ × Slot)) → length (changes_in entries) ≡ length entries
-length-changes_in entries = length-map entries _
-
-not_not : (b : Bool) → not (not b) ≡ b
-not_not true = refl
-not_not false = refl
-
-pub length-puts_of : (changes : List Change) → length (puts_of changes) + removals_of changes ≡ length changes
-length-puts_of changes =
-    ap (λ n. length (puts_of changes) + n) (sym (length-filter (λ c. is_removal c.kind) changes))
-    ∙ length-filter_both (λ c. not (is_removal c.kind)) (λ c. is_removal c.kind) (λ c. sym (not_not (is_removal c.kind))) changes
-
--- Where the rows are all the puts, what is left is the removals.
-pub left_over : (entries : List (List ℕ × Slot)) (rows : List Change) {all kept : ℕ} → rows ≡ puts_of (changes_in entries)
-    → all ≡ length entries → kept ≡ length rows → (kept ≤ all) × (all - kept ≡ removals_of (changes_in entries))
-left_over entries rows put every kept =
-    let rows = ap length put in
-    let parted = length-puts_of (changes_in entries) in
-    let changes = length-changes_in entries in
-    (omega arith, omega arith)
+-- The removals among the slots are those among their changes.
+pub removals_held : (entries : Entries) → tombstones entries ≡ removals_of (changes_in entries)
+removals_held entries = along 0 entries
+  where
+    along : (n : ℕ) (xs : Entries) → fold (λ s x. s + (if is_removal x.1.kind then 1 else 0)) n xs
+        ≡ fold (λ s c. s + (if is_removal c.kind then 1 else 0)) n (changes_in xs)
+    along n [] = refl
+    along n (x ∷ xs) = along (n + (if is_removal x.1.kind then 1 else 0)) xs

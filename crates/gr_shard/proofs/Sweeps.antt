@@ -278,8 +278,6 @@ module _ (id : Identity) (opening moment : ℕ) (now : Kept) (past : List Deed) 
     imaged = kept.imaged;
     aimed = kept.aimed;
     told = kept.told ∙ sym (heard_next (Swept moment expired) past);
-    eight = kept.eight;
-    gifts = kept.gifts;
     in_step = untold_in_step (Swept moment expired) past now.queries (λ client name. refl)
         (swept_untold id opening moment expired past is) kept.in_step;
   }

@@ -1,10 +1,9 @@
 -- What a deed that was prepared changes of what a shard keeps, and what that takes.
-use Rattle.std.specs.Prelude.{◌≡◌, ◌≤◌, ℕ, ◌+◌, ◌-◌, List, Bool, true, ◌||◌, false, Option, Some, None, set, unwrap_or}
+use Rattle.std.specs.Prelude.{◌≡◌, ◌≤◌, ℕ, ◌+◌, List, ◌||◌, false, Option, Some, None, unwrap_or}
 use Rattle.gr_cq.specs.Entries.{Entry, Queries}
 use Rattle.gr_cq.specs.Foresight.{IsMadeFor, IsOf, changed, room_of}
 use Rattle.gr_history.specs.declared.identity.Identity.{Identity}
 use Rattle.gr_history.specs.declared.query_ask.QueryAsk.TheVariants as asks
-use Rattle.gr_history.specs.Recipients.{member_bits}
 use Rattle.gr_slots.specs.Slots.{Entries, with_slot}
 use Rattle.gr_stamp.specs.declared.change.Change.{Change}
 use Rattle.gr_stable.specs.Heard.{Reports, with_report}
@@ -19,7 +18,7 @@ use Rattle.gr_shard.specs.declared.effect.QueriesAfter.TheVariants as queries_
 use Rattle.gr_shard.specs.declared.effect.SlotsAfter.{SlotsAfter}
 use Rattle.gr_shard.specs.declared.effect.SlotsAfter.TheVariants as slots_
 use Rattle.gr_shard.specs.Entries.{slot_from}
-use Rattle.gr_shard.specs.Gifts.{goes_to}
+use Rattle.gr_shard.specs.Gifts.{with_recipient}
 use Rattle.gr_shard.specs.InStep.{served}
 use Rattle.gr_shard.specs.Sweeps.{without_all}
 use Rattle.gr_shard.specs.View.{Kept}
@@ -68,14 +67,10 @@ abbrev pub heard_after : Option Report → Reports → Reports
 heard_after None heard = heard
 heard_after (Some report) heard = with_report report heard
 
-abbrev pub given_after : Option ℕ → List Bool → List Bool
-given_after None given = given
-given_after (Some to) given = set given (to - 1) true
-
--- the members that a change goes to, by what they are given afterwards
-abbrev pub to_after : Identity → Option ℕ → List Bool → ℕ → ℕ
-to_after id None given to = to
-to_after id (Some other) given to = member_bits (goes_to id given) 8
+-- the members that a change goes to
+abbrev pub to_after : Identity → Option ℕ → ℕ → ℕ
+to_after id None to = to
+to_after id (Some other) to = with_recipient id other to
 
 abbrev pub effected : Identity → Effect → Kept → Kept
 effected id effect now = record {
@@ -84,9 +79,8 @@ effected id effect now = record {
   floor = unwrap_or effect.floor now.floor;
   clock = unwrap_or effect.clock now.clock;
   joined = effect.joined || now.joined;
-  to = to_after id effect.to (given_after effect.to now.given) now.to;
+  to = to_after id effect.to now.to;
   heard = heard_after effect.heard now.heard;
-  given = given_after effect.to now.given;
   queries = queries_after effect.queries now.queries;
 }
 

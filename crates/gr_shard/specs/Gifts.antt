@@ -1,10 +1,7 @@
 -- Whom a change goes to, by what is kept of gifts.
-use Rattle.std.specs.Prelude.{ℕ, ◌-◌, List, Bool, false, ◌&&◌, ◌||◌, ◌==◌, not, nat_le, get_or}
+use Rattle.std.specs.Prelude.{ℕ, ◌-◌, ◌^◌, ◌==◌, if◌then◌else◌, bit_or}
 use Rattle.gr_history.specs.declared.identity.Identity.{Identity}
 
--- whether the member was given something, of a list that begins with the first member
-abbrev pub is_given : List Bool → ℕ → Bool
-is_given given member = get_or given (member - 1) false
-
-abbrev pub goes_to : Identity → List Bool → ℕ → Bool
-goes_to id given member = (nat_le member id.founders || is_given given member) && not (member == id.member)
+-- the members that a change goes to, with bit m - 1 for member m, once this one was given something too
+abbrev pub with_recipient : Identity → ℕ → ℕ → ℕ
+with_recipient id other to = if other == id.member then to else bit_or to (2 ^ (other - 1))

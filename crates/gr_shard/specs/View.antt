@@ -1,5 +1,5 @@
 -- A shard as contracts see it, and how what it keeps is tied to its history.
-use Rattle.std.specs.Prelude.{◌≡◌, ℕ, ◌+◌, ◌≤◌, ◌<◌, List, [], ◌∷◌, ◌++◌, Bool, true, if◌then◌else◌, length, Option, Some}
+use Rattle.std.specs.Prelude.{◌≡◌, ℕ, ◌+◌, ◌≤◌, ◌<◌, List, [], ◌∷◌, ◌++◌, Bool, true, if◌then◌else◌, Option, Some}
 use Rattle.std.specs.List.{AllByRecursion}
 use Rattle.gr_stamp.specs.declared.stamp.TheConstants.{LIMIT}
 use Rattle.gr_history.specs.declared.identity.Identity.{Identity}
@@ -9,13 +9,12 @@ use Rattle.gr_history.specs.Ids.{known}
 use Rattle.gr_history.specs.Standing.{standing}
 use Rattle.gr_history.specs.Floor.{floor as floor_of}
 use Rattle.gr_history.specs.Clock.{clock as clock_of, since}
-use Rattle.gr_history.specs.Recipients.{NamesMembers, gave_to, has_image, recipients}
+use Rattle.gr_history.specs.Recipients.{NamesMembers, has_image, recipients}
 use Rattle.gr_history.specs.Lawful.{IsLawful, IsOfShard}
 use Rattle.gr_cq.specs.Entries.{Entry}
 use Rattle.gr_slots.specs.Slots.{Entries, slot_at}
 use Rattle.gr_stable.specs.Heard.{Reports, heard}
 use Rattle.gr_shard.specs.Entries.{slot_of}
-use Rattle.gr_shard.specs.Gifts.{is_given}
 use Rattle.gr_shard.specs.InStep.{IsInStep, opened}
 
 -- whose shard it is, the floor that it began with, and its deeds, the oldest first
@@ -56,13 +55,11 @@ pub record Kept : Type 0 where
   pub to : ℕ
   -- of each member the report that counts
   pub heard : Reports
-  -- of each member whether it was given something
-  pub given : List Bool
   -- the open queries
   pub queries : List Entry
 
-abbrev pub kept : Entries → List Id → ℕ → ℕ → Bool → ℕ → Reports → List Bool → List Entry → Kept
-kept slots vector floor clock joined to heard given queries = record {
+abbrev pub kept : Entries → List Id → ℕ → ℕ → Bool → ℕ → Reports → List Entry → Kept
+kept slots vector floor clock joined to heard queries = record {
   slots = slots;
   vector = vector;
   floor = floor;
@@ -70,7 +67,6 @@ kept slots vector floor clock joined to heard given queries = record {
   joined = joined;
   to = to;
   heard = heard;
-  given = given;
   queries = queries;
 }
 
@@ -88,8 +84,6 @@ pub record IsKept (id : Identity) (opening : ℕ) (now : Kept) (past : List Deed
   pub imaged : now.joined ≡ has_image past
   pub aimed : now.to ≡ recipients id past
   pub told : now.heard ≡ heard past
-  pub eight : length now.given ≡ 8
-  pub gifts : (member : ℕ) → 1 ≤ member → member ≤ 8 → is_given now.given member ≡ gave_to member past
   pub in_step : IsInStep now.queries past
 
 -- the room that contracts see, by what a query has room for

@@ -1,10 +1,10 @@
 ghost use Rattle.std.specs.Prelude.{◌≡◌, ◌≤◌, ◌||◌, unwrap_or};
 ghost use Rattle.gr_history.specs.declared.query_ask.QueryAsk.TheVariants as asks;
 ghost use Rattle.gr_shard.specs.InStep.{served};
-ghost use Rattle.gr_shard.specs.Effects.{IsOneOfEight, IsReadyFor, IsRoomed, given_after, heard_after, ids_after, queries_after, slots_after, to_after};
+ghost use Rattle.gr_shard.specs.Effects.{IsOneOfEight, IsReadyFor, IsRoomed, heard_after, ids_after, queries_after, slots_after, to_after};
 
 use crate::effect::{IdsAfter, QueriesAfter, SlotsAfter};
-use crate::making::recipients;
+use crate::making::with_recipient;
 use crate::sweeping::drop_all;
 use gr_cq::Registry;
 use gr_history::Identity;
@@ -78,23 +78,14 @@ pub fn keep(heard: &mut Heard, report: Option<Report>)
     }
 }
 
-/// Notes that a member was given something, if one was.
-pub fn note_given(given: &mut [bool; 8], to: Option<u8>)
+/// The members that a change goes to, where one is given something now if any is.
+pub fn aimed(id: Identity, to: Option<u8>, before: u8) -> u8
     requires { IsOneOfEight to }
-    ensures { given.new ≡ given_after to given.old }
-{
-    if let Some(to) = to {
-        given[usize::from(to) - 1] = true;
-    }
-}
-
-/// The members that a change goes to, where these were given something, and one now if any was.
-pub fn aimed(id: Identity, to: Option<u8>, given: &[bool; 8], before: u8) -> u8
-    ensures { result ≡ to_after id to given.now before }
+    ensures { result ≡ to_after id to before }
 {
     match to {
         None => before,
-        Some(_) => recipients(id, given),
+        Some(other) => with_recipient(id, other, before),
     }
 }
 

@@ -58,7 +58,7 @@ pub fn enter(
         stamp: change.stamp,
         taken_at: clock,
     };
-    slots.set(change.key.copy(alloc)?, slot)
+    slots.set(&change.key, slot)
 }
 
 /// What becomes of a change that is known or isn't, over what stands.

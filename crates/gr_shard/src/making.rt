@@ -1,39 +1,31 @@
-ghost use Rattle.std.specs.Prelude.{◌≡◌, ◌≤◌, option_copied};
-ghost use Rattle.gr_history.specs.Recipients.{member_bits};
+ghost use Rattle.std.specs.Prelude.{◌≡◌, ◌≤◌, [], IfOk, option_copied};
+ghost use Rattle.gr_history.specs.Recipients.{is_recipient, recipients};
 ghost use Rattle.gr_history.specs.Calls.{nothing_made};
 ghost use Rattle.gr_shard.specs.Entries.{with_made};
-ghost use Rattle.gr_shard.specs.Gifts.{goes_to, is_given};
+ghost use Rattle.gr_shard.specs.Gifts.{with_recipient};
 ghost use Rattle.gr_shard.specs.Calls.{call_with};
 
+use crate::entering::copied;
 use gr_history::{Ask, Deed, Done, Identity, Reply};
 use gr_stamp::Change;
+use gr_value::{Copied, Memory};
 use gr_vector::Vector;
+use std::alloc::Global;
 
-// Whether a change goes to the member, where these were given something.
-fn is_recipient(id: Identity, given: &[bool; 8], member: u8) -> bool
-    requires from { 1 ≤ member }
-    requires of_eight { member ≤ 8 }
-    ensures { result ≡ goes_to id given.now member }
+// Whether a change goes to the member, where none was given anything.
+fn is_first_recipient(id: Identity, member: u8) -> bool
+    ensures { result ≡ is_recipient id [] member }
 {
-    (member <= id.founders || given[usize::from(member) - 1]) && member != id.member
+    member <= id.founders && member != id.member
 }
 
-// Whether the member was given something.
-fn was_given(given: &[bool; 8], member: u8) -> bool
-    requires from { 1 ≤ member }
-    requires of_eight { member ≤ 8 }
-    ensures { result ≡ is_given given.now member }
-{
-    given[usize::from(member) - 1]
-}
-
-/// The members that a change goes to, where these were given something, with bit m - 1 for member m.
-pub fn recipients(id: Identity, given: &[bool; 8]) -> u8
-    ensures { result ≡ member_bits (goes_to id given.now) 8 }
+/// The members that a change goes to where none was given anything, with bit m - 1 for member m.
+pub fn first_recipients(id: Identity) -> u8
+    ensures { result ≡ recipients id [] }
 {
     let (mut to, mut bit) = (0u16, 1u16);
     for below in 0..8u8 {
-        if is_recipient(id, given, below + 1) {
+        if is_first_recipient(id, below + 1) {
             to += bit;
         }
         bit *= 2;
@@ -41,18 +33,17 @@ pub fn recipients(id: Identity, given: &[bool; 8]) -> u8
     to as u8
 }
 
-/// The members that were given something, with bit m - 1 for member m.
-pub fn given_bits(given: &[bool; 8]) -> u8
-    ensures { result ≡ member_bits (is_given given.now) 8 }
+/// The members that a change goes to, once this one was given something too.
+pub fn with_recipient(id: Identity, other: u8, to: u8) -> u8
+    requires from { 1 ≤ other }
+    requires of_eight { other ≤ 8 }
+    ensures { result ≡ with_recipient id other to }
 {
-    let (mut bits, mut bit) = (0u16, 1u16);
-    for below in 0..8u8 {
-        if was_given(given, below + 1) {
-            bits += bit;
-        }
-        bit *= 2;
+    if other == id.member {
+        to
+    } else {
+        to | 1 << (other - 1)
     }
-    bits as u8
 }
 
 /// Notes what was made or taken in, for which there is room.
@@ -75,6 +66,17 @@ pub fn nothing_made(reply: Reply) -> Done
         made: None,
         to: 0,
     }
+}
+
+/// A copy of what a call gives.
+pub fn done_copied(alloc: Global, done: &Done) -> Result<Done, Memory>
+    ensures { IfOk result (λ copy. copy ≡ done.now) }
+{
+    Ok(Done {
+        reply: done.reply.copy(alloc)?,
+        made: copied(alloc, done.made.as_ref())?,
+        to: done.to,
+    })
 }
 
 /// The deed of a call that gave this.

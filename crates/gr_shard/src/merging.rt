@@ -4,8 +4,7 @@ ghost use Rattle.std.specs.Cmp.Lexicographic.{slice_cmp};
 ghost use Rattle.std.specs.List.Sorted.{IsStrictlySortedBy};
 ghost use Rattle.std.specs.Map.{keys_of};
 ghost use Rattle.gr_vector.specs.Ids.{has_id};
-ghost use Rattle.gr_history.specs.Ids.{id_of};
-ghost use Rattle.gr_shard.specs.Merges.{left_by, merged, row_leaves, rows_leave, with_left, with_unknown};
+ghost use Rattle.gr_shard.specs.Merges.{left_by, merged, rows_leave, with_left, with_unknown};
 
 use crate::entering::verdict_at;
 use gr_history::{Image, Verdict};
@@ -44,11 +43,11 @@ fn left_by(
 }
 
 // Sets what is left at a key, if anything is.
-fn set_left(alloc: Global, slots: &mut Slots, key: &Key, left: Option<Slot>) -> Result<(), Memory>
+fn set_left(slots: &mut Slots, key: &Key, left: Option<Slot>) -> Result<(), Memory>
     ensures { OnOk result (slots.new.entries ≡ with_left key.now left slots.old.entries) }
 {
     if let Some(slot) = left {
-        slots.set(key.copy(alloc)?, slot)?;
+        slots.set(key, slot)?;
     }
     Ok(())
 }
@@ -68,7 +67,7 @@ fn rows_over(
         let slot = slots.find(&row.key);
         let verdict = verdict_at(knows(known, &row.stamp), slot, &row.stamp);
         let over = left_by(alloc, verdict, row, clock, slot)?;
-        set_left(alloc, &mut left, &row.key, over)?;
+        set_left(&mut left, &row.key, over)?;
     }
     Ok(left)
 }
@@ -86,7 +85,7 @@ fn set_unknown(
     if left.find(key).is_some() || knows(known, &slot.stamp) {
         return Ok(());
     }
-    left.set(key.copy(alloc)?, slot.copy(alloc)?)
+    left.set(key, slot.copy(alloc)?)
 }
 
 // The slots are built anew: first the rows are set over what stood at their keys, then what stood at other

@@ -38,15 +38,12 @@ pub fn region(alloc: Global, slots: &Slots, floor: u64, vector: Vector) -> Resul
     ensures ordered { OnOk result (IsStrictlySortedBy (slice_cmp nat_cmp) (keys_of slots.now.entries)) }
 {
     let mut rows = ChangeList::new(alloc)?;
-    let entries = slots.rows(alloc)?;
-    let count = entries.len();
-    for (key, slot) in entries {
+    for (key, slot) in slots.rows(alloc)? {
         push_change(alloc, &mut rows, key, slot)?;
     }
-    let tombstones = (count - rows.len()) as u64;
     Ok(Region {
         rows,
-        tombstones,
+        tombstones: slots.tombstones(),
         floor,
         vector,
     })

@@ -1,5 +1,5 @@
-ghost use Rattle.std.specs.Prelude.{◌≡◌, ◌≤◌, ◌<◌, ◌==◌, [], ◌∷◌, ◌++◌, reverse, max, Some, IfOk, OnOk, OnErr, option_copied, length};
-ghost use Rattle.std.specs.Prelude.{option_and_then, nat_le, filter, List, ℕ};
+ghost use Rattle.std.specs.Prelude.{◌≡◌, ◌≤◌, [], reverse, IfOk, OnOk, OnErr, option_copied, length};
+ghost use Rattle.std.specs.Prelude.{option_and_then, filter, List, ℕ};
 ghost use Rattle.gr_value.specs.Shard.{shard_of};
 ghost use Rattle.gr_history.specs.declared.deed.Deed.TheVariants as deed;
 ghost use Rattle.gr_slots.specs.Slots.{slot_at};
@@ -33,7 +33,7 @@ mod preparing;
 use crate::asking::{Replies, answer};
 use crate::entering::{applied, is_there, value_of, verdict_at};
 use crate::giving::{own_changes, standing};
-use crate::making::{given_bits, note, recipients};
+use crate::making::{first_recipients, note, with_recipient};
 use crate::merging::merged;
 use crate::regions::region;
 use crate::sweeping::{drop_all, risen};
@@ -61,7 +61,6 @@ pub struct Shard {
     clock: u64,
     joined: bool,
     to: u8,
-    given: [bool; 8],
     slots: Slots,
     vector: Vector,
     heard: Heard,
@@ -87,7 +86,7 @@ impl Model for Shard {
     } };
 
     ghost invariant = { λ shard. IsKept shard.id shard.opening (kept shard.slots.entries shard.vector.ids shard.floor shard.clock shard.joined shard.to
-        shard.heard shard.given shard.queries.entries) (reverse shard.history.deeds)
+        shard.heard shard.queries.entries) (reverse shard.history.deeds)
         × IsStocked shard.roomy shard.history.spare shard.vector.spare shard.slots.room shard.clock shard.queries.entries (reverse shard.history.deeds) };
 }
 
@@ -104,8 +103,7 @@ impl Shard {
             floor,
             clock: 0,
             joined: false,
-            to: recipients(id, &[false; 8]),
-            given: [false; 8],
+            to: first_recipients(id),
             history: History::new(alloc)?,
             vector: Vector::new(alloc)?,
             heard: Heard::new(alloc)?,
@@ -207,8 +205,7 @@ impl Shard {
         let gift = self.gift(alloc, what)?;
         self.roomy = false;
         self.history.reserve(1)?;
-        self.given[usize::from(to) - 1] = true;
-        self.to = recipients(self.id, &self.given);
+        self.to = with_recipient(self.id, to, self.to);
         let _ = self.history.push(Deed::Gave { to, what });
         Ok(gift)
     }
@@ -398,9 +395,9 @@ impl Shard {
             founders,
             ..
         } = self.id;
-        let given = given_bits(&self.given);
+        // To whom changes go says of the others who was given something, as founders count anyway.
         self.heard
-            .stable(&slot.stamp, member, founders, given, &self.vector)
+            .stable(&slot.stamp, member, founders, self.to, &self.vector)
     }
 
     // What becomes of a change that is taken in now.

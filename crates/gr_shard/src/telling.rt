@@ -1,9 +1,9 @@
-ghost use Rattle.std.specs.Prelude.{◌≡◌, ◌≤◌, ◌+◌, [], ◌∷◌, not, Some, IfOk, OnOk, OnErr, option_copied};
+ghost use Rattle.std.specs.Prelude.{◌≡◌, ◌≤◌, ◌+◌, [], ◌∷◌, Some, IfOk, OnOk, OnErr, option_copied};
 ghost use Rattle.gr_cq.specs.Entries.{noted};
 ghost use Rattle.gr_vector.specs.Order.{united};
 ghost use Rattle.gr_shard.specs.Effects.{IsMadeAt, needs, queries_after};
 ghost use Rattle.gr_shard.specs.Entries.{with_change};
-ghost use Rattle.gr_stamp.specs.Winner.{is_removal, put_value};
+ghost use Rattle.gr_stamp.specs.Winner.{put_value};
 ghost use Rattle.gr_shard.specs.Telling.{IsForeseen, IsReady, is_other_slot, slot_value, told_of, turned_between, turned_by_change, turned_slot, with_keys};
 
 use crate::effect::QueriesAfter;
@@ -36,16 +36,6 @@ fn put_value(alloc: Global, kind: &Kind) -> Result<Option<Value>, Memory>
     }
 }
 
-// Whether a key is there behind a change of this kind.
-fn stays(kind: &Kind) -> bool
-    ensures { result ≡ not (is_removal kind.now) }
-{
-    match kind {
-        Kind::Put(_) | Kind::Invalid => true,
-        Kind::Remove => false,
-    }
-}
-
 // The key of a change that comes in, with its values before and behind.
 fn turned_one(alloc: Global, slots: &Slots, change: &Change) -> Result<Turned, Memory>
     ensures { IfOk result (λ turned. turned ∷ [] ≡ turned_by_change slots.now.entries (Some change.now)) }
@@ -56,7 +46,7 @@ fn turned_one(alloc: Global, slots: &Slots, change: &Change) -> Result<Turned, M
         old: slot_value(alloc, held)?,
         new: put_value(alloc, &change.kind)?,
         had: is_there(held),
-        has: stays(&change.kind),
+        has: change.kind.keeps_key(),
     })
 }
 

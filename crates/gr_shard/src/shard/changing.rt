@@ -8,7 +8,7 @@ ghost use Rattle.gr_shard.specs.View.{with_spare};
 use super::Shard;
 use crate::effect::{Effect, IdsAfter};
 use crate::entering::{applied, arriving, copied, noting};
-use crate::making::deed_of;
+use crate::making::{deed_of, done_copied};
 use crate::telling::turned_by;
 use crate::{Came, Prepared};
 use gr_history::{Ask, Deed};
@@ -17,7 +17,7 @@ use gr_value::{Copied, Memory};
 use std::alloc::Global;
 
 impl Shard {
-    // Prepares a client's step. What stands is looked up for what is noted and for what is told.
+    // Prepares a client's step. What is told is a copy of what is noted.
     pub(super) fn prepare_call(
         &mut self,
         alloc: Global,
@@ -32,8 +32,8 @@ impl Shard {
         ensures prepared { IfOk result (IsPrepared self.old (next.Call client seq ask.entry)) }
         ensures made { IfOk result (IsPreparedFor self.new) }
     {
-        let told = self.gives(alloc, ask)?;
         let done = self.gives(alloc, ask)?;
+        let told = done_copied(alloc, &done)?;
         let asked = ask.copy(alloc)?;
         let made = done.made.as_ref();
         let turned = turned_by(alloc, &self.slots, made)?;

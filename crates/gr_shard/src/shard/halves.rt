@@ -9,7 +9,7 @@ ghost use Rattle.gr_shard.specs.View.{after_deed, with_spare};
 
 use super::Shard;
 use crate::asking::{Foretold, foretell};
-use crate::committing::{aimed, carry_out, either, keep, know, moved, note_given, settle};
+use crate::committing::{aimed, carry_out, either, keep, know, moved, settle};
 use crate::effect::{Effect, QueriesAfter};
 use crate::telling::foretell_turned;
 use crate::{Came, Next, Prepared};
@@ -48,8 +48,7 @@ impl Shard {
         know(&mut self.vector, ids);
         carry_out(&mut self.queries, queries);
         keep(&mut self.heard, heard);
-        note_given(&mut self.given, to);
-        self.to = aimed(self.id, to, &self.given, self.to);
+        self.to = aimed(self.id, to, self.to);
         self.floor = moved(floor, self.floor);
         self.clock = moved(clock, self.clock);
         self.joined = either(joined, self.joined);

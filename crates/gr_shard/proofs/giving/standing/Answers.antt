@@ -1,6 +1,5 @@
-use Rattle.std.proofs.Common.{◌≡◌, ◌∙◌, ap, sym, map, length, ◌++◌, ◌∷◌, [], rules}
+use Rattle.std.proofs.Common.{◌≡◌, ◌∙◌, ap, sym, map, ◌++◌, ◌∷◌, []}
 use Rattle.std.specs.Map.Iter.{deref_pair}
-use Rattle.std.specs.Vec.{vec_len}
 use Rattle.std.proofs.lemmas.List.{map-append}
 use Rattle.gr_shard.specs.Entries.{changes_in}
 use Rattle.gr_shard.proofs.Puts.{changes_in-push}
@@ -20,10 +19,9 @@ loop-key-preserved c =
 
 pub returns-clause-changes : goal.returns-clause-changes
 returns-clause-changes c =
-    let long : vec_len c.in_ok-items.items ≡ length c.in_ok-items.items.items = search rules in
     let whole : map deref_pair c.loop-key.yielded ≡ c.args.slots.now.entries =
-    all_yielded deref_pair c.in_ok-items.items.items c.loop-key.yielded c.into_iter-key-iterator.result c.loop-key.key-iterator
+    all_yielded deref_pair c.in_ok-items.items c.loop-key.yielded c.into_iter-key-iterator.result c.loop-key.key-iterator
     c.next.new.self c.next.result c.into_iter-key-iterator.ensures.into_iter_gives.0
-    (c.into_iter-key-iterator.ensures.into_iter_gives.1 ∙ long) c.loop-key.yielded_by c.in-None.is c.next.ensures.steps
+    c.into_iter-key-iterator.ensures.into_iter_gives.1 c.loop-key.yielded_by c.in-None.is c.next.ensures.steps
     ∙ c.in_ok-items.ensures.rows in
     c.loop-key.invariant ∙ ap changes_in whole

@@ -1,10 +1,9 @@
-use Rattle.std.proofs.Common.{◌≡◌, ◌∙◌, ap, sym, map, length, ◌++◌, ◌∷◌, [], rules}
+use Rattle.std.proofs.Common.{◌≡◌, ◌∙◌, ap, sym, map, ◌++◌, ◌∷◌, []}
 use Rattle.std.specs.Cmp.Lexicographic.{slice_cmp}
 use Rattle.std.specs.List.Sorted.{IsStrictlySortedBy}
 use Rattle.std.specs.Map.{keys_of}
 use Rattle.std.specs.Map.Iter.{deref_pair}
 use Rattle.std.specs.Ordering.{nat_cmp}
-use Rattle.std.specs.Vec.{vec_len}
 use Rattle.std.proofs.lemmas.List.{map-append}
 use Rattle.std.proofs.lemmas.List.Elements.{filter_map-append}
 use Rattle.gr_shard.specs.Asking.{row_in, rows_in}
@@ -25,11 +24,10 @@ pub returns : goal.returns
 returns c past hold =
     let query = c.args.query.now in
     let slots = c.args.slots.now.entries in
-    let long : vec_len c.in_ok-items.items ≡ length c.in_ok-items.items.items = search rules in
     let whole : map deref_pair c.loop-key.yielded ≡ c.args.slots.now.entries =
-    all_yielded deref_pair c.in_ok-items.items.items c.loop-key.yielded c.into_iter-key-iterator.result c.loop-key.key-iterator
+    all_yielded deref_pair c.in_ok-items.items c.loop-key.yielded c.into_iter-key-iterator.result c.loop-key.key-iterator
     c.next.new.self c.next.result c.into_iter-key-iterator.ensures.into_iter_gives.0
-    (c.into_iter-key-iterator.ensures.into_iter_gives.1 ∙ long) c.loop-key.yielded_by c.in-None.is c.next.ensures.steps
+    c.into_iter-key-iterator.ensures.into_iter_gives.1 c.loop-key.yielded_by c.in-None.is c.next.ensures.steps
     ∙ c.in_ok-items.ensures.rows in
     let ordered : IsStrictlySortedBy (slice_cmp nat_cmp) (keys_of slots) = c.rows.ensures.ordered in
     c.loop-key.invariant ∙ ap (rows_in query) whole ∙ rows_held query slots past hold ordered

@@ -1,9 +1,8 @@
-use Rattle.std.proofs.Common.{◌≡◌, ◌∙◌, ap, sym, map, length, ◌++◌, ◌∷◌, [], rules}
+use Rattle.std.proofs.Common.{◌≡◌, ◌∙◌, ap, sym, map, ◌++◌, ◌∷◌, []}
 use Rattle.std.specs.Map.Iter.{deref_pair}
-use Rattle.std.specs.Vec.{vec_len}
-use Rattle.std.proofs.lemmas.List.{length-map, map-append}
+use Rattle.std.proofs.lemmas.List.{map-append}
 use Rattle.gr_shard.specs.Entries.{changes_in, change_of, puts_of}
-use Rattle.gr_shard.proofs.Puts.{puts_of-push, changes_in-push, left_over}
+use Rattle.gr_shard.proofs.Puts.{puts_of-push, changes_in-push, removals_held}
 use Rattle.gr_shard.proofs.Rows.{all_yielded}
 use Rattle.gr_shard.proofs.regions.region.Goals as goal
 
@@ -19,34 +18,12 @@ loop-key-preserved c =
 
 pub returns-clause-rows : goal.returns-clause-rows
 returns-clause-rows c =
-    let long : vec_len c.in_ok-entries.entries ≡ length c.in_ok-entries.entries.items = search rules in
     let whole : map deref_pair c.loop-key.yielded ≡ c.args.slots.now.entries =
-    all_yielded deref_pair c.in_ok-entries.entries.items c.loop-key.yielded c.into_iter-key-iterator.result c.loop-key.key-iterator
+    all_yielded deref_pair c.in_ok-items.items c.loop-key.yielded c.into_iter-key-iterator.result c.loop-key.key-iterator
     c.next.new.self c.next.result c.into_iter-key-iterator.ensures.into_iter_gives.0
-    (c.into_iter-key-iterator.ensures.into_iter_gives.1 ∙ long) c.loop-key.yielded_by c.in-None.is c.next.ensures.steps
-    ∙ c.in_ok-entries.ensures.rows in
+    c.into_iter-key-iterator.ensures.into_iter_gives.1 c.loop-key.yielded_by c.in-None.is c.next.ensures.steps
+    ∙ c.in_ok-items.ensures.rows in
     c.loop-key.invariant ∙ ap (λ entries. puts_of (changes_in entries)) whole
 
-pub overflow_sub-tombstones : goal.overflow_sub-tombstones
-overflow_sub-tombstones c =
-    let long : vec_len c.in_ok-entries.entries ≡ length c.in_ok-entries.entries.items = search rules in
-    let whole : map deref_pair c.loop-key.yielded ≡ c.args.slots.now.entries =
-    all_yielded deref_pair c.in_ok-entries.entries.items c.loop-key.yielded c.into_iter-key-iterator.result c.loop-key.key-iterator
-    c.next.new.self c.next.result c.into_iter-key-iterator.ensures.into_iter_gives.0
-    (c.into_iter-key-iterator.ensures.into_iter_gives.1 ∙ long) c.loop-key.yielded_by c.in-None.is c.next.ensures.steps
-    ∙ c.in_ok-entries.ensures.rows in
-    (left_over c.args.slots.now.entries c.loop-key.rows (c.loop-key.invariant ∙ ap (λ entries. puts_of (changes_in entries)) whole)
-    (c.len-count.ensures ∙ long ∙ sym (length-map c.in_ok-entries.entries.items deref_pair) ∙ ap length c.in_ok-entries.ensures.rows)
-    c.len.ensures).0
-
 pub returns-clause-tombstones : goal.returns-clause-tombstones
-returns-clause-tombstones c =
-    let long : vec_len c.in_ok-entries.entries ≡ length c.in_ok-entries.entries.items = search rules in
-    let whole : map deref_pair c.loop-key.yielded ≡ c.args.slots.now.entries =
-    all_yielded deref_pair c.in_ok-entries.entries.items c.loop-key.yielded c.into_iter-key-iterator.result c.loop-key.key-iterator
-    c.next.new.self c.next.result c.into_iter-key-iterator.ensures.into_iter_gives.0
-    (c.into_iter-key-iterator.ensures.into_iter_gives.1 ∙ long) c.loop-key.yielded_by c.in-None.is c.next.ensures.steps
-    ∙ c.in_ok-entries.ensures.rows in
-    (left_over c.args.slots.now.entries c.loop-key.rows (c.loop-key.invariant ∙ ap (λ entries. puts_of (changes_in entries)) whole)
-    (c.len-count.ensures ∙ long ∙ sym (length-map c.in_ok-entries.entries.items deref_pair) ∙ ap length c.in_ok-entries.ensures.rows)
-    c.len.ensures).1
+returns-clause-tombstones c = c.tombstones.ensures ∙ removals_held c.args.slots.now.entries

@@ -33,7 +33,7 @@ invariant_of-self-2 c =
     let told : c.come_in.new.queries.entries ≡ noted_ (turned_by_change was.slots.entries made) was.queries.entries =
     c.in_ok-come_in.ensures.told in
     rw (pushed, reverse-append, noted, entered, told) (
-      kept_called was.id was.opening (kept was.slots.entries was.vector.ids was.floor was.clock was.joined was.to was.heard was.given
+      kept_called was.id was.opening (kept was.slots.entries was.vector.ids was.floor was.clock was.joined was.to was.heard
           was.queries.entries) past
           c.args.client c.args.seq
           c.args.ask c.args.reply made was.to c.self.invariant.0 here gives,

@@ -23,7 +23,7 @@ invariant_of-self-2 c =
     ∙ ap (λ deed. was.history.deeds ++ deed ∷ [])
     (c.deed_of.ensures ∙ ap (call_with c.args.client c.args.seq c.args.ask) c.nothing_made-done.ensures) in
     rw (pushed, reverse-append, ← noted_nothing was.queries.entries) (
-      kept_called was.id was.opening (kept was.slots.entries was.vector.ids was.floor was.clock was.joined was.to was.heard was.given
+      kept_called was.id was.opening (kept was.slots.entries was.vector.ids was.floor was.clock was.joined was.to was.heard
           was.queries.entries) past
           c.args.client c.args.seq c.args.ask c.args.reply None 0 c.self.invariant.0 here gives,
       unstocked _ _ _ _ _ _ (noted_nothing was.queries.entries ∙ c.self.invariant.1.open_are),

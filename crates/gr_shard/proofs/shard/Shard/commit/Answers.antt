@@ -2,8 +2,8 @@ use Rattle.std.proofs.Common.{◌≡◌, ◌∙◌, ap, sym, subst, true, [], �
 use Rattle.std.proofs.lemmas.List.{reverse-append}
 use Rattle.gr_shard.specs.Effects.{IsMadeAt, IsTimed, needs, queries_after}
 use Rattle.gr_shard.specs.Prepared.{IsFit}
-use Rattle.gr_shard.specs.View.{kept, spare_of}
-use Rattle.gr_shard.proofs.Prepares.{has_events, is_roomy, needs_some, ready_for, roomed}
+use Rattle.gr_shard.specs.View.{kept}
+use Rattle.gr_shard.proofs.Prepares.{account_of, has_events, is_roomy, needs_some, ready_for, roomed}
 use Rattle.gr_shard.proofs.Pushed.{on_ok}
 use Rattle.gr_shard.proofs.Stocked.{unstocked}
 use Rattle.gr_shard.proofs.shard.Shard.commit.Goals as goal
@@ -14,8 +14,7 @@ invariant_of-self c =
     let past = reverse was.history.deeds in
     let deed = c.args.prepared.deed in
     let effect = c.args.prepared.effect in
-    let fit : IsFit (record { id = was.id; opening = was.opening; deeds = was.history.deeds; spare = spare_of was.roomy was.queries.spare })
-    deed effect = rw (← c.self.view_is) at c.requires in
+    let fit : IsFit (account_of was.id was.opening was.history.deeds was.roomy was.queries.spare) deed effect = rw (← c.self.view_is) at c.requires in
     let roomy : was.roomy ≡ true = is_roomy was.roomy was.queries.spare (needs effect.queries) (needs_some effect.queries) fit.room in
     let pushed : c.push.new.self.deeds ≡ was.history.deeds ++ deed ∷ [] =
     on_ok c.push.result (c.push.ensures.room (c.self.invariant.1.a_deed roomy)) c.push.ensures.ok in
@@ -27,12 +26,11 @@ invariant_of-self c =
       c.carry_out.ensures,
       c.keep.ensures,
       c.aimed-self-inside.ensures,
-      c.note_given.ensures,
       c.moved-self-inside.ensures,
       c.moved-self-inside-2.ensures,
       c.either-self-inside.ensures,
     ) (
-      fit.keeps (kept was.slots.entries was.vector.ids was.floor was.clock was.joined was.to was.heard was.given was.queries.entries)
+      fit.keeps (kept was.slots.entries was.vector.ids was.floor was.clock was.joined was.to was.heard was.queries.entries)
           c.has_keys_in_order.ensures c.self.invariant.1.open_are c.self.invariant.0,
       unstocked _ _ _ _ _ _ (ap (queries_after effect.queries) c.self.invariant.1.open_are ∙ fit.opens),
     )
@@ -41,8 +39,7 @@ pub carry_out-requires : goal.carry_out-requires
 carry_out-requires c =
     let was = c.self.inside in
     let effect = c.args.prepared.effect in
-    let fit : IsFit (record { id = was.id; opening = was.opening; deeds = was.history.deeds; spare = spare_of was.roomy was.queries.spare })
-    c.args.prepared.deed effect = rw (← c.self.view_is) at c.requires in
+    let fit : IsFit (account_of was.id was.opening was.history.deeds was.roomy was.queries.spare) c.args.prepared.deed effect = rw (← c.self.view_is) at c.requires in
     ready_for was.queries effect.queries (subst (λ all. IsMadeAt all effect.queries) (sym c.self.invariant.1.open_are) fit.made)
     (has_events was.roomy was.queries.spare (needs effect.queries) fit.room)
 
@@ -50,8 +47,7 @@ pub settle-requires : goal.settle-requires
 settle-requires c =
     let was = c.self.inside in
     let effect = c.args.prepared.effect in
-    let fit : IsFit (record { id = was.id; opening = was.opening; deeds = was.history.deeds; spare = spare_of was.roomy was.queries.spare })
-    c.args.prepared.deed effect = rw (← c.self.view_is) at c.requires in
+    let fit : IsFit (account_of was.id was.opening was.history.deeds was.roomy was.queries.spare) c.args.prepared.deed effect = rw (← c.self.view_is) at c.requires in
     let roomy : was.roomy ≡ true = is_roomy was.roomy was.queries.spare (needs effect.queries) (needs_some effect.queries) fit.room in
     roomed effect.slots was.slots.room was.clock (c.self.invariant.1.a_slot roomy)
     (subst (λ n. IsTimed n effect.slots) (sym c.self.invariant.0.clocked) fit.timed)

@@ -10,7 +10,7 @@ pub returns-clause-floor : goal.returns-clause-floor
 returns-clause-floor c =
     let was = c.self.inside in
     let past = reverse was.history.deeds in
-    let now = kept was.slots.entries was.vector.ids was.floor was.clock was.joined was.to was.heard was.given was.queries.entries in
+    let now = kept was.slots.entries was.vector.ids was.floor was.clock was.joined was.to was.heard was.queries.entries in
     let is : c.args.expired.now ≡ due was.id c.args.moment past = rw (← c.self.view_is) at c.requires in
     subst (λ (a : Account). c.risen.result ≡ floor a.opening (Swept c.args.moment c.args.expired.now ∷ reverse a.deeds)) c.self.view_is
     (c.risen.ensures.risen ∙ floor_swept was.id was.opening c.args.moment now past c.args.expired.now c.self.invariant.0 is)

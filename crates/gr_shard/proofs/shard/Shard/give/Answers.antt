@@ -15,8 +15,8 @@ invariant_of-self-2 c =
     let pushed : c.push.new.self.deeds ≡ was.history.deeds ++ Gave c.args.to c.args.what ∷ [] =
     on_ok c.push.result (c.push.ensures.room c.in_ok-reserve.ensures.room) c.push.ensures.ok
     ∙ ap (λ deeds. deeds ++ Gave c.args.to c.args.what ∷ []) c.in_ok-reserve.ensures.deeds in
-    rw (pushed, reverse-append, c.recipients-self-inside.ensures, c.from.ensures) (
-      kept_gave was.id was.opening (kept was.slots.entries was.vector.ids was.floor was.clock was.joined was.to was.heard was.given
+    rw (pushed, reverse-append, c.with_recipient-self-inside.ensures) (
+      kept_gave was.id was.opening (kept was.slots.entries was.vector.ids was.floor was.clock was.joined was.to was.heard
           was.queries.entries) past c.args.to
           c.args.what c.self.invariant.0 c.requires.from stated,
       unstocked _ _ _ _ _ _ c.self.invariant.1.open_are,

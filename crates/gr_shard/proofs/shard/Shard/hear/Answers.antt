@@ -16,7 +16,7 @@ invariant_of-self-2 c =
     ∙ ap (λ deeds. deeds ++ Heard c.in_ok-noted.noted ∷ []) c.in_ok-reserve.ensures.deeds
     ∙ ap (λ copy. was.history.deeds ++ Heard copy ∷ []) c.in_ok-noted.ensures in
     rw (pushed, reverse-append, c.in_ok-hear.ensures.ok) (
-      kept_heard was.id was.opening (kept was.slots.entries was.vector.ids was.floor was.clock was.joined was.to was.heard was.given
+      kept_heard was.id was.opening (kept was.slots.entries was.vector.ids was.floor was.clock was.joined was.to was.heard
           was.queries.entries) past c.args.report.now
           c.self.invariant.0,
       unstocked _ _ _ _ _ _ c.self.invariant.1.open_are,

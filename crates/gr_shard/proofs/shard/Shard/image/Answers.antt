@@ -15,7 +15,7 @@ returns-clause-image c =
       at_is = c.len.ensures ∙ sym (length-reverse was.history.deeds);
       rows_are = c.in_ok-standing.ensures.changes
           ∙ changes_in-kept was.id was.opening
-          (kept was.slots.entries was.vector.ids was.floor was.clock was.joined was.to was.heard was.given was.queries.entries)
+          (kept was.slots.entries was.vector.ids was.floor was.clock was.joined was.to was.heard was.queries.entries)
           (reverse was.history.deeds)
           c.self.invariant.0 c.in_ok-standing.ensures.ordered;
       vector_is = ap (λ v. v.ids) c.in_ok-copy.ensures ∙ c.self.invariant.0.noted;
@@ -26,7 +26,7 @@ pub returns-clause-fits : goal.returns-clause-fits
 returns-clause-fits c =
     let was = c.self.inside in
     let past = reverse was.history.deeds in
-    let now = kept was.slots.entries was.vector.ids was.floor was.clock was.joined was.to was.heard was.given was.queries.entries in
+    let now = kept was.slots.entries was.vector.ids was.floor was.clock was.joined was.to was.heard was.queries.entries in
     let image : ImageOf = record {
       from = was.id.member;
       at = c.len.result;

@@ -9,7 +9,7 @@ returns-clause-record_of c =
     rw (← c.self.view_is) record {
       deeds = refl;
       region = region-kept was.id was.opening (kept was.slots.entries was.vector.ids was.floor was.clock was.joined was.to was.heard
-          was.given was.queries.entries)
+          was.queries.entries)
           (reverse was.history.deeds) c.self.invariant.0
           c.in_ok-region.ensures.ordered c.in_ok-region.region c.in_ok-region.ensures.rows c.in_ok-region.ensures.tombstones
           c.in_ok-region.ensures.floor c.in_ok-region.ensures.vector;

@@ -1,13 +1,11 @@
 use Rattle.std.proofs.Common.{◌≡◌, ◌≤◌, ◌∙◌, ap, arith, reverse, Some}
 use Rattle.gr_vector.specs.Ids.{Id}
 use Rattle.gr_history.specs.Clock.{since}
+use Rattle.gr_history.specs.Recipients.{recipients}
 use Rattle.gr_history.specs.Standing.{standing}
 use Rattle.gr_stable.specs.Heard.{heard, is_stable_now}
-use Rattle.gr_stable.proofs.Counting.{stable_is}
-use Rattle.gr_history.specs.Recipients.{member_bits}
 use Rattle.gr_shard.specs.Entries.{slot_of}
-use Rattle.gr_shard.specs.Gifts.{is_given}
-use Rattle.gr_shard.proofs.Given.{given_in}
+use Rattle.gr_shard.proofs.Counts.{stable_aimed}
 use Rattle.gr_shard.proofs.Sweeps.{slot_stable}
 use Rattle.gr_shard.proofs.shard.Shard.is_stable.Goals as goal
 
@@ -19,13 +17,13 @@ returns c =
     let slot = c.in-Some.slot.now in
     let at : Id = record { member = slot.stamp.member; rv = slot.stamp.rv } in
     let found : Some slot ≡ slot_of (standing key past) (since key past) = rw (← c.self.view_is) at c.in-Some.ensures.slot in
-    let given = member_bits (is_given was.given) 8 in
     let few : was.id.founders ≤ 8 =
     let place = c.self.invariant.0.place in let a = place.founded in let b = place.few in omega (arith, a, b) in
     rw (← c.self.view_is)
     (c.stable.ensures
-    ∙ ap (λ bits. is_stable_now was.id.member was.id.founders bits at was.heard was.vector.ids) c.given_bits-given.ensures
-    ∙ ap (λ reports. is_stable_now was.id.member was.id.founders given at reports was.vector.ids) c.self.invariant.0.told
-    ∙ ap (λ ids. is_stable_now was.id.member was.id.founders given at (heard past) ids) c.self.invariant.0.noted
-    ∙ stable_is was.id given at past few (given_in was.given past c.self.invariant.0.gifts)
+    ∙ ap (λ to. is_stable_now was.id.member was.id.founders to at was.heard was.vector.ids) c.self.invariant.0.aimed
+    ∙ ap (λ reports. is_stable_now was.id.member was.id.founders (recipients was.id past) at reports was.vector.ids)
+    c.self.invariant.0.told
+    ∙ ap (is_stable_now was.id.member was.id.founders (recipients was.id past) at (heard past)) c.self.invariant.0.noted
+    ∙ stable_aimed was.id at past few
     ∙ slot_stable was.id past (standing key past) (since key past) slot found)

@@ -26,7 +26,7 @@ invariant_of-self-2 c =
     c.in_ok-take_over.ensures.told
     ∙ ap (λ slots. noted (turned_between was.slots.entries slots) was.queries.entries) c.in_ok-slots.ensures.merged in
     rw (pushed, reverse-append, c.in_ok-take_over.ensures.ids, slots_are, told, c.max-self-inside.ensures) (
-      kept_merged was.id was.opening (kept was.slots.entries was.vector.ids was.floor was.clock was.joined was.to was.heard was.given
+      kept_merged was.id was.opening (kept was.slots.entries was.vector.ids was.floor was.clock was.joined was.to was.heard
           was.queries.entries) past image
           c.self.invariant.0 c.in_ok-slots.ensures.ordered fits,
       unstocked _ _ _ _ _ _

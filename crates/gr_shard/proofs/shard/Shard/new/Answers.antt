@@ -6,4 +6,4 @@ use Rattle.gr_shard.proofs.shard.Shard.new.Goals as goal
 pub invariant_of-result : goal.invariant_of-result
 invariant_of-result c =
     rw (c.new-5.ensures, c.in_ok-new.ensures, c.in_ok-new-2.ensures, c.in_ok-new-3.ensures, c.in_ok-new-4.ensures)
-    (kept_new c.args.id c.args.floor c.recipients.result c.requires c.recipients.ensures, unstocked _ 0 None 0 [] [] refl)
+    (kept_new c.args.id c.args.floor c.first_recipients.result c.requires c.first_recipients.ensures, unstocked _ 0 None 0 [] [] refl)

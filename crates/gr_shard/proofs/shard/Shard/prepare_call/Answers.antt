@@ -10,8 +10,9 @@ use Rattle.gr_shard.specs.Effects.{IsMadeAt, arriving, noting, queries_after}
 use Rattle.gr_shard.specs.InStep.{opened}
 use Rattle.gr_shard.specs.Prepared.{IsFit}
 use Rattle.gr_shard.specs.Telling.{turned_by_change}
-use Rattle.gr_shard.specs.View.{Account, spare_of, with_spare}
+use Rattle.gr_shard.specs.View.{with_spare}
 use Rattle.gr_shard.proofs.Coming.{fit_called, opened_made, turned_made}
+use Rattle.gr_shard.proofs.Prepares.{account_of}
 use Rattle.gr_shard.proofs.shard.Shard.prepare_call.Goals as goal
 
 pub returns-clause-prepared : goal.returns-clause-prepared
@@ -21,7 +22,7 @@ returns-clause-prepared c =
     let ask = c.args.ask.now in
     let done = c.in_ok-done.done in
     let gives : done ≡ call_gives was.id was.opening past ask = rw (← c.self.view_is) at c.in_ok-done.ensures in
-    let told : c.in_ok-told.told ≡ call_gives was.id was.opening past ask = rw (← c.self.view_is) at c.in_ok-told.ensures in
+    let told = c.in_ok-told.ensures ∙ gives in
     rw (← c.self.view_is, c.deed_of.ensures, c.in_ok-asked.ensures) record {
       gives = (ap came.Done told, ap (call_with c.args.client c.args.seq ask) gives);
       turned_are = c.in_ok-turned.ensures ∙ ap (turned_by_change was.slots.entries) c.as_ref-made.ensures.value
@@ -35,13 +36,7 @@ returns-clause-made c =
     let past = reverse was.history.deeds in
     let ask = c.args.ask.now in
     let done = c.in_ok-done.done in
-    let account : Account = record {
-      id = was.id;
-      opening = was.opening;
-      deeds = was.history.deeds;
-      spare = spare_of was.roomy
-          was.queries.spare;
-    } in
+    let account = account_of was.id was.opening was.history.deeds was.roomy was.queries.spare in
     let gives : done ≡ call_gives was.id was.opening past ask = rw (← c.self.view_is) at c.in_ok-done.ensures in
     let here : shard_of (key_of ask) was.id.shards ≡ was.id.shard = rw (← c.self.view_is) at c.requires in
     let turned_is : c.as_slice.result.now ≡ turned_by_change was.slots.entries done.made = c.as_slice.ensures.value

@@ -12,15 +12,16 @@ use Rattle.gr_shard.specs.Effects.{IsMadeAt, queries_after}
 use Rattle.gr_shard.specs.InStep.{opened}
 use Rattle.gr_shard.specs.Merges.{IsImageFor}
 use Rattle.gr_shard.specs.Prepared.{IsFit}
-use Rattle.gr_shard.specs.View.{Account, kept, spare_of, with_spare}
+use Rattle.gr_shard.specs.View.{kept, with_spare}
 use Rattle.gr_shard.proofs.Imaging.{fit_imaged, known_built, stands_built, turned_built}
+use Rattle.gr_shard.proofs.Prepares.{account_of}
 use Rattle.gr_shard.proofs.shard.Shard.prepare_merge.Goals as goal
 
 pub returns-clause-prepared : goal.returns-clause-prepared
 returns-clause-prepared c =
     let was = c.self.inside in
     let past = reverse was.history.deeds in
-    let now = kept was.slots.entries was.vector.ids was.floor was.clock was.joined was.to was.heard was.given was.queries.entries in
+    let now = kept was.slots.entries was.vector.ids was.floor was.clock was.joined was.to was.heard was.queries.entries in
     let image = c.args.image.now in
     let fits : IsImageFor was.id image = rw (← c.self.view_is) at c.requires in
     let stands : Hold c.in_ok-slots.slots.entries (Imaged image ∷ past) = stands_built was.id was.opening now past image c.self.invariant.0
@@ -34,15 +35,9 @@ pub returns-clause-made : goal.returns-clause-made
 returns-clause-made c =
     let was = c.self.inside in
     let past = reverse was.history.deeds in
-    let now = kept was.slots.entries was.vector.ids was.floor was.clock was.joined was.to was.heard was.given was.queries.entries in
+    let now = kept was.slots.entries was.vector.ids was.floor was.clock was.joined was.to was.heard was.queries.entries in
     let image = c.args.image.now in
-    let account : Account = record {
-      id = was.id;
-      opening = was.opening;
-      deeds = was.history.deeds;
-      spare = spare_of was.roomy
-          was.queries.spare;
-    } in
+    let account = account_of was.id was.opening was.history.deeds was.roomy was.queries.spare in
     let fits : IsImageFor was.id image = rw (← c.self.view_is) at c.requires in
     let stands : Hold c.in_ok-slots.slots.entries (Imaged image ∷ past) = stands_built was.id was.opening now past image c.self.invariant.0
     c.in_ok-slots.ensures.ordered fits c.in_ok-slots.slots.entries c.in_ok-slots.ensures.merged in

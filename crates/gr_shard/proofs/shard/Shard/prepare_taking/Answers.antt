@@ -12,10 +12,11 @@ use Rattle.gr_shard.specs.Entries.{applied}
 use Rattle.gr_shard.specs.InStep.{opened}
 use Rattle.gr_shard.specs.Prepared.{IsFit}
 use Rattle.gr_shard.specs.Telling.{turned_by_change}
-use Rattle.gr_shard.specs.View.{Account, spare_of, with_spare}
+use Rattle.gr_shard.specs.View.{with_spare}
 use Rattle.gr_shard.proofs.Coming.{fit_taken}
 use Rattle.gr_shard.proofs.Kept.{turned_taken}
 use Rattle.gr_shard.proofs.Stocked.{opened_taken}
+use Rattle.gr_shard.proofs.Prepares.{account_of}
 use Rattle.gr_shard.proofs.shard.Shard.prepare_taking.Goals as goal
 
 pub returns-clause-prepared : goal.returns-clause-prepared
@@ -39,13 +40,7 @@ returns-clause-made c =
     let past = reverse was.history.deeds in
     let change = c.args.change.now in
     let told = c.verdict-verdict.result in
-    let account : Account = record {
-      id = was.id;
-      opening = was.opening;
-      deeds = was.history.deeds;
-      spare = spare_of was.roomy
-          was.queries.spare;
-    } in
+    let account = account_of was.id was.opening was.history.deeds was.roomy was.queries.spare in
     let is : told ≡ verdict past change = rw (← c.self.view_is) at c.verdict-verdict.ensures in
     let here : shard_of change.key was.id.shards ≡ was.id.shard = rw (← c.self.view_is) at c.requires in
     let turned_is : c.as_slice.result.now ≡ turned_by_change was.slots.entries (applied told change) = c.as_slice.ensures.value

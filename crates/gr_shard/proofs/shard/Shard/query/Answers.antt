@@ -15,7 +15,7 @@ past c = reverse c.self.inside.history.deeds
 
 abbrev now : goal.After-push → Kept
 now c = let was = c.self.inside in
-    kept was.slots.entries was.vector.ids was.floor was.clock was.joined was.to was.heard was.given was.queries.entries
+    kept was.slots.entries was.vector.ids was.floor was.clock was.joined was.to was.heard was.queries.entries
 
 both : (c : goal.After-push)
     → (c.in_ok-noted.field-0.noted ≡ query_gives c.args.client c.args.ask.now (past c))

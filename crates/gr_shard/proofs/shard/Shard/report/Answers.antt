@@ -19,7 +19,7 @@ invariant_of-self-2 c =
     ∙ ap (λ deeds. deeds ++ Reported c.in_ok-noted.noted ∷ []) c.in_ok-reserve.ensures.deeds
     ∙ ap (λ copy. was.history.deeds ++ Reported copy ∷ []) c.in_ok-noted.ensures in
     rw (pushed, reverse-append) (
-      kept_reported was.id was.opening (kept was.slots.entries was.vector.ids was.floor was.clock was.joined was.to was.heard was.given
+      kept_reported was.id was.opening (kept was.slots.entries was.vector.ids was.floor was.clock was.joined was.to was.heard
           was.queries.entries) past report c.self.invariant.0 is,
       unstocked _ _ _ _ _ _ c.self.invariant.1.open_are,
     )

@@ -18,7 +18,7 @@ pub invariant_of-self-3 : goal.invariant_of-self-3
 invariant_of-self-3 c =
     let was = c.self.inside in
     let past = reverse was.history.deeds in
-    let now = kept was.slots.entries was.vector.ids was.floor was.clock was.joined was.to was.heard was.given was.queries.entries in
+    let now = kept was.slots.entries was.vector.ids was.floor was.clock was.joined was.to was.heard was.queries.entries in
     let expired = c.in_ok-expired.expired in
     let ordered = c.in_ok-timed_out.ensures.ordered in
     let is : expired ≡ due was.id c.args.moment past =
@@ -45,7 +45,7 @@ pub returns-clause-expired : goal.returns-clause-expired
 returns-clause-expired c =
     let was = c.self.inside in
     let past = reverse was.history.deeds in
-    let now = kept was.slots.entries was.vector.ids was.floor was.clock was.joined was.to was.heard was.given was.queries.entries in
+    let now = kept was.slots.entries was.vector.ids was.floor was.clock was.joined was.to was.heard was.queries.entries in
     rw (← c.self.view_is) (c.len-count.ensures
     ∙ ap length (expired_is was.id was.opening c.args.moment c.max-clock.result now past c.as_slice.result.now
     c.in_ok-expired.expired c.self.invariant.0 c.in_ok-timed_out.ensures.ordered c.max-clock.ensures
@@ -56,7 +56,7 @@ pub returns-clause-added : goal.returns-clause-added
 returns-clause-added c =
     let was = c.self.inside in
     let past = reverse was.history.deeds in
-    let now = kept was.slots.entries was.vector.ids was.floor was.clock was.joined was.to was.heard was.given was.queries.entries in
+    let now = kept was.slots.entries was.vector.ids was.floor was.clock was.joined was.to was.heard was.queries.entries in
     let is : c.in_ok-expired.expired ≡ due was.id c.args.moment past =
     expired_is was.id was.opening c.args.moment c.max-clock.result now past c.as_slice.result.now c.in_ok-expired.expired
     c.self.invariant.0 c.in_ok-timed_out.ensures.ordered c.max-clock.ensures (c.as_slice.ensures ∙ c.in_ok-timed_out.ensures.keys)

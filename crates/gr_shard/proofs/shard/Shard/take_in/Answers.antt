@@ -34,7 +34,7 @@ invariant_of-self-2 c =
     c.in_ok-come_in.ensures.told
     ∙ ap (λ m. noted_ (turned_by_change was.slots.entries m) was.queries.entries) c.applied-came.ensures in
     rw (pushed, reverse-append, noted, entered, heard) (
-      kept_taken was.id was.opening (kept was.slots.entries was.vector.ids was.floor was.clock was.joined was.to was.heard was.given
+      kept_taken was.id was.opening (kept was.slots.entries was.vector.ids was.floor was.clock was.joined was.to was.heard
           was.queries.entries) past change
           told
           c.self.invariant.0 here is,

@@ -9,7 +9,7 @@ returns c =
     rw (← c.self.view_is) record {
       deeds = c.in_ok-copy.ensures;
       region = region-kept was.id was.opening (kept was.slots.entries was.vector.ids was.floor was.clock was.joined was.to was.heard
-          was.given was.queries.entries)
+          was.queries.entries)
           (reverse was.history.deeds) c.self.invariant.0
           c.in_ok-region.ensures.ordered c.in_ok-region.field-0 c.in_ok-region.ensures.rows c.in_ok-region.ensures.tombstones
           c.in_ok-region.ensures.floor (c.in_ok-region.ensures.vector ∙ ap (λ v. v.ids) c.in_ok-copy-2.ensures);
