@@ -1,8 +1,8 @@
 use crate::row::Row;
 use crate::running::no_memory;
+use gr_depart::replay;
 use gr_report::summary;
 use gr_script::{Form, Script, generate, read};
-use gr_world::replay;
 use std::alloc::Global;
 use std::io::{self, Print};
 use std::rt::Files;

@@ -50,7 +50,7 @@ use Rattle.gr_run_law.specs.Duties.{Reports, Sweeps, Joins, duty_in, duty_of, gi
 use Rattle.gr_run_law.specs.Plans.{total_to, draws_for, brings_change, changes_posted, posted_by}
 use Rattle.gr_run_law.specs.Runs.{IsRun}
 use Rattle.gr_run_law.specs.Closed.{EndsReady, TakesAll}
-use Rattle.gr_run_law.proofs.Lists.{true_false, count_cons, same_number, none_isnt_some, same_in_some}
+use Rattle.gr_run_law.proofs.Lists.{true_false, count_cons, same_number, none_isnt_some, same_in_some, no_item}
 use Rattle.gr_run_law.proofs.Delivering.{map_among}
 use Rattle.gr_run_law.proofs.Integrity.{made_key, among_older, among_flat, flat_among}
 use Rattle.gr_run_law.proofs.Known.{total_at, among_count, owed_some, ids_among, counted_known}
@@ -59,10 +59,7 @@ use Rattle.gr_run_law.proofs.Recipients.{bit_set, made_to_all}
 -- ---- gifts before and behind
 
 gave_among : (joiner : ℕ) (gave : What) (q h : List Deed) → Older (Gave joiner gave ∷ q) h → gave_to joiner h ≡ true
-gave_among joiner gave q [] o = absurd (no o)
-  where
-    no : Gave joiner gave ∷ q ≡ [] → ⊥
-    no e = cc
+gave_among joiner gave q [] o = absurd (no_item (Gave joiner gave) q o)
 gave_among joiner gave q (first ∷ past) (inl is) =
     subst (λ z. gave_to joiner z ≡ true) is (rw (same_number joiner) refl)
 gave_among joiner gave q (Call client to seq ask reply own ∷ past) (inr o) = gave_among joiner gave q past o
@@ -82,10 +79,7 @@ gave_among joiner gave q (Swept moment expired ∷ past) (inr o) = gave_among jo
 before_gift : (change : Change) (deed : Deed) (past : List Deed) (joiner : ℕ) (gave : What) (q h : List Deed)
     → Among change (made_at deed) → gave_to joiner past ≡ false → Older (deed ∷ past) h → Older (Gave joiner gave ∷ q) h
     → Among change (made q)
-before_gift change deed past joiner gave q [] m none o p = absurd (no o)
-  where
-    no : deed ∷ past ≡ [] → ⊥
-    no e = cc
+before_gift change deed past joiner gave q [] m none o p = absurd (no_item deed past o)
 before_gift change deed past joiner gave q (first ∷ rest) m none (inl is) (inl too) =
     absurd (subst (λ d. Among change (made_at d)) (heads deed (Gave joiner gave) past q (is ∙ sym too)) m)
   where
@@ -109,10 +103,7 @@ before_gift change deed past joiner gave q (first ∷ rest) m none (inr o) (inr 
 -- a gift of own changes has what was made before it
 own_given : (change : Change) (joiner : ℕ) (q h : List Deed) → Older (Gave joiner what.Own ∷ q) h → Among change (made q)
     → Among change (given_to joiner h)
-own_given change joiner q [] o m = absurd (no o)
-  where
-    no : Gave joiner what.Own ∷ q ≡ [] → ⊥
-    no e = cc
+own_given change joiner q [] o m = absurd (no_item (Gave joiner what.Own) q o)
 own_given change joiner q (first ∷ past) (inl is) m =
     subst (λ z. Among change (given_to joiner z)) is
     (among_right change (given_to joiner q) (own_where (joiner == joiner) what.Own (own_changes q))
@@ -176,10 +167,7 @@ made_call change (Heard report ∷ past) a = longer_by change (Heard report) pas
 made_call change (Swept moment expired ∷ past) a = longer_by change (Swept moment expired) past (made_call change past a)
 
 older_among : (deed : Deed) (past h : List Deed) → Older (deed ∷ past) h → Among deed h
-older_among deed past [] o = absurd (no o)
-  where
-    no : deed ∷ past ≡ [] → ⊥
-    no e = cc
+older_among deed past [] o = absurd (no_item deed past o)
 older_among deed past (first ∷ rest) (inl is) = inl (heads deed first past rest is)
   where
     heads : (a b : Deed) (xs ys : List Deed) → a ∷ xs ≡ b ∷ ys → a ≡ b
@@ -244,6 +232,7 @@ join_line member (first ∷ lines) some = at_line first (λ more. join_line memb
     at_line (line.Report own) next some = later (line.Report own) refl next some
     at_line (line.Hear by own number) next some = later (line.Hear by own number) refl next some
     at_line (line.Sweep own moment) next some = later (line.Sweep own moment) refl next some
+    at_line (line.Depart own) next some = later (line.Depart own) refl next some
     at_line (line.Join joiner provider) next some = at_join joiner provider (joiner == member) refl next some
 
 genuine_at : (grid : Grid) (me : ℕ) (d : Deed) (h : List Deed) → IsGenuine grid me h → Among d h → IsGenuineDeed grid me d

@@ -24,7 +24,7 @@ use Rattle.gr_run_law.specs.Runs.{DoesDuties, GivesGifts, WaitsForImage, AreRoun
 use Rattle.gr_run_law.specs.Threads.{AreLeftByThreads, Work, TookIn, HeardOf, ReportedAll, SweptAll, Merged, GotFrom, work_at, deed_if}
 use Rattle.gr_run_law.specs.Threads.{report_deed, sweep_deed, FitsShards, duty_at, round_of, IsReadyBefore}
 use Rattle.gr_run_law.proofs.Sharing.{GivesNone, one_owner, entry_at, get_below}
-use Rattle.gr_run_law.proofs.Lists.{all_at, filter_flat, filter_mapped, map_itself, get_some, older_get, older_below, same_number}
+use Rattle.gr_run_law.proofs.Lists.{all_at, filter_flat, filter_mapped, map_itself, get_some, older_get, older_below, same_number, no_item, true_false}
 use Rattle.gr_run_law.proofs.Lists.{same_in_some}
 use Rattle.gr_run_law.proofs.Owners.{OfSteps, client_owned, client_all, thread_all, giver_all, only_thread}
 
@@ -175,10 +175,7 @@ module _ (heading : Heading) (lines : List Line) (histories : Histories) (served
       not_step is owner all t =
           let entry = entry_at list 0 (a.places member shard owner) (a.owned member shard owner) (length past) (λ d. is_step d ≡ false)
           ((a.shared member shard is within).stands owner) (all_at (λ d. is_step d ≡ false) (a.owned member shard owner) all) t in
-          no (sym step ∙ ap is_step (same_in_some deed entry.0 (sym get ∙ entry.1)) ∙ entry.2)
-        where
-          no : true ≡ false → ⊥
-          no e = cc
+          true_false (sym step ∙ ap is_step (same_in_some deed entry.0 (sym get ∙ entry.1)) ∙ entry.2)
 
       of_client : (is : IsMember heading member) (client : ℕ) → 0 < times (length past) (a.places member shard (Client client))
           → (IsStated client heading × (member ≡ home_of heading client)
@@ -204,10 +201,7 @@ module _ (heading : Heading) (lines : List Line) (histories : Histories) (served
 
       at_member : IsMember heading member ⊎ (histories member shard ≡ []) → Goal
       at_member (inl is) = at_owner is ((a.shared member shard is within).each (length past) (get_below list (length past) deed get))
-      at_member (inr none) = absurd (no (subst (Older (deed ∷ past)) none o))
-        where
-          no : deed ∷ past ≡ [] → ⊥
-          no e = cc
+      at_member (inr none) = absurd (no_item deed past (subst (Older (deed ∷ past)) none o))
 
   -- the reports of a history are those of the member's rounds
   pub rounds_reported : AreRounds heading histories (λ member. filter_map round_of (a.works member))

@@ -117,6 +117,7 @@ joins_same member (line.Sweep own moment ∷ past) = at_test (own == member) (jo
         → joins (cons_option (if b then Some (Sweeps moment) else None) (filter_map (duty_of member) past)) ≡ joins_of member past
     at_test true e = omega arith
     at_test false e = e
+joins_same member (line.Depart own ∷ past) = joins_same member past
 joins_same member (line.Join joiner provider ∷ past) =
     at_test (joiner == member) (joins_same member past) ∙ sym (count_cons (is_join_of member) (line.Join joiner provider) past)
   where
@@ -134,6 +135,7 @@ joins_few h member (line.Deliver to client number ∷ past) all = joins_few h me
 joins_few h member (line.Report own ∷ past) all = joins_few h member past all.1
 joins_few h member (line.Hear by own number ∷ past) all = joins_few h member past all.1
 joins_few h member (line.Sweep own moment ∷ past) all = joins_few h member past all.1
+joins_few h member (line.Depart own ∷ past) all = joins_few h member past all.1
 joins_few h member (line.Join joiner provider ∷ past) all =
     let c = count_cons (is_join_of member) (line.Join joiner provider) past in
     let t = at_test (joiner == member) refl (joins_few h member past all.1) in omega arith
@@ -258,117 +260,70 @@ module _ (heading : Heading) (lines : List Line) (histories : Histories) (served
       subst (λ k. Among (Reported report) (histories k at)) (sym law.1.member_is) stands
 
   -- a deed of integrity
-  Good : ℕ → ℕ → Deed → Type 0
+  abbrev Good : ℕ → ℕ → Deed → Type 0
   Good member shard d =
       IsGenuineDeed (grid_from heading histories shard) member d × IsHeardDeed (grid_from heading histories shard) d
 
+  good_if : (member shard : ℕ) (b : Bool) (d : Deed) → (b ≡ true → Good member shard d)
+      → AllByRecursion (Good member shard) (deed_if b d)
+  good_if member shard true d good = (good refl, tt)
+  good_if member shard false d good = tt
+
   work_good : (member shard : ℕ) → IsMember heading member → shard < heading.shards → (w : Work) → Among w (a.works member)
-      → AllByRecursion (λ d. IsGenuineDeed (grid_from heading histories shard) member d × IsHeardDeed (grid_from heading histories shard) d)
-      (work_at heading.shards shard w)
-  work_good member shard is within (TookIn at change verdict) among = at_test (shard == shard_of change.key heading.shards) refl
-    where
-      at_test : (b : Bool) → (shard == shard_of change.key heading.shards) ≡ b
-          → AllByRecursion (λ d. IsGenuineDeed (grid_from heading histories shard) member d
-          × IsHeardDeed (grid_from heading histories shard) d)
-          (deed_if b (Taken change verdict))
-      at_test true e = (
-        (
-          subst (λ s. IsMade (grid_from heading histories s) change) (sym (eqb-true shard (shard_of change.key heading.shards) e))
-              (took_made member is at change verdict among).1,
-          tt,
-        ),
+      → AllByRecursion (Good member shard) (work_at heading.shards shard w)
+  work_good member shard is within (TookIn at change verdict) among =
+      good_if member shard (shard == shard_of change.key heading.shards) (Taken change verdict) (λ e. (
+        subst (λ s. IsMade (grid_from heading histories s) change) (sym (eqb-true shard (shard_of change.key heading.shards) e))
+            (took_made member is at change verdict among).1,
         tt,
-      )
-      at_test false e = tt
-  work_good member shard is within (HeardOf at report) among = at_test (shard == at) refl
-    where
-      at_test : (b : Bool) → (shard == at) ≡ b
-          → AllByRecursion (λ d. IsGenuineDeed (grid_from heading histories shard) member d
-          × IsHeardDeed (grid_from heading histories shard) d)
-          (deed_if b (Heard report))
-      at_test true e = (
-        (
-          tt,
-          map_among bare (Reported report) (histories report.member shard)
-              (subst (λ s. Among (Reported report) (histories report.member s)) (sym (eqb-true shard at e))
-              (mailed_report (mail.Report at report) at report refl (subst (λ s. s < heading.shards) (eqb-true shard at e) within)
-              (work_from heading lines histories served a head member is (HeardOf at report) (mail.Report at report) among refl refl))),
-        ),
+      ))
+  work_good member shard is within (HeardOf at report) among =
+      good_if member shard (shard == at) (Heard report) (λ e. (
         tt,
-      )
-      at_test false e = tt
+        map_among bare (Reported report) (histories report.member shard)
+            (subst (λ s. Among (Reported report) (histories report.member s)) (sym (eqb-true shard at e))
+            (mailed_report (mail.Report at report) at report refl (subst (λ s. s < heading.shards) (eqb-true shard at e) within)
+            (work_from heading lines histories served a head member is (HeardOf at report) (mail.Report at report) among refl refl))),
+      ))
   work_good member shard is within (ReportedAll reports) among = at_report (slice_get reports shard)
     where
-      at_report : (o : Option Report)
-          → AllByRecursion (λ d. IsGenuineDeed (grid_from heading histories shard) member d
-          × IsHeardDeed (grid_from heading histories shard) d)
-          (report_deed o)
+      at_report : (o : Option Report) → AllByRecursion (Good member shard) (report_deed o)
       at_report None = tt
       at_report (Some report) = ((tt, tt), tt)
   work_good member shard is within (SweptAll moment expired) among = at_sweep (slice_get expired shard)
     where
-      at_sweep : (o : Option (List (List ℕ)))
-          → AllByRecursion (λ d. IsGenuineDeed (grid_from heading histories shard) member d
-          × IsHeardDeed (grid_from heading histories shard) d)
-          (sweep_deed moment o)
+      at_sweep : (o : Option (List (List ℕ))) → AllByRecursion (Good member shard) (sweep_deed moment o)
       at_sweep None = tt
       at_sweep (Some keys) = ((tt, tt), tt)
-  work_good member shard is within (Merged at image) among = at_test (shard == at) refl
-    where
-      at_test : (b : Bool) → (shard == at) ≡ b
-          → AllByRecursion (λ d. IsGenuineDeed (grid_from heading histories shard) member d
-          × IsHeardDeed (grid_from heading histories shard) d)
-          (deed_if b (Imaged image))
-      at_test true e = (
-        (
-          subst (λ s. (heading.founders < member) × IsGift (grid_from heading histories s) member image) (sym (eqb-true shard at e))
-              ((a.threads member is).merged at image among),
-          tt,
-        ),
+  work_good member shard is within (Merged at image) among =
+      good_if member shard (shard == at) (Imaged image) (λ e. (
+        subst (λ s. (heading.founders < member) × IsGift (grid_from heading histories s) member image) (sym (eqb-true shard at e))
+            ((a.threads member is).merged at image among),
         tt,
-      )
-      at_test false e = tt
-  work_good member shard is within (GotFrom giver change verdict) among = at_test (shard == shard_of change.key heading.shards) refl
-    where
-      at_test : (b : Bool) → (shard == shard_of change.key heading.shards) ≡ b
-          → AllByRecursion (λ d. IsGenuineDeed (grid_from heading histories shard) member d
-          × IsHeardDeed (grid_from heading histories shard) d)
-          (deed_if b (Taken change verdict))
-      at_test true e = (
-        (
-          subst (λ s. IsMade (grid_from heading histories s) change) (sym (eqb-true shard (shard_of change.key heading.shards) e))
-              (got_made member is giver change verdict among),
-          tt,
-        ),
+      ))
+  work_good member shard is within (GotFrom giver change verdict) among =
+      good_if member shard (shard == shard_of change.key heading.shards) (Taken change verdict) (λ e. (
+        subst (λ s. IsMade (grid_from heading histories s) change) (sym (eqb-true shard (shard_of change.key heading.shards) e))
+            (got_made member is giver change verdict among),
         tt,
-      )
-      at_test false e = tt
+      ))
 
   deed_good : (member shard : ℕ) → IsMember heading member → shard < heading.shards → (d : Deed) → Among d (histories member shard)
-      → IsGenuineDeed (grid_from heading histories shard) member d × IsHeardDeed (grid_from heading histories shard) d
+      → Good member shard d
   deed_good member shard is within d among =
       let at = reverse_get d (histories member shard) among in
       let each = (a.shared member shard is within).each at.0 (get_below (reverse (histories member shard)) at.0 d at.1) in
-      let P : Deed → Type 0 = λ d. IsGenuineDeed (grid_from heading histories shard) member d
-      × IsHeardDeed (grid_from heading histories shard) d in
-      let entry = entry_at (reverse (histories member shard)) 0 (a.places member shard each.0) (a.owned member shard each.0) at.0 P
-      ((a.shared member shard is within).stands each.0) (all_at P (a.owned member shard each.0) (all_of each.0)) each.1 in
-      subst P (same_in_some entry.0 d (sym entry.1 ∙ at.1)) entry.2
+      let entry = entry_at (reverse (histories member shard)) 0 (a.places member shard each.0) (a.owned member shard each.0) at.0
+      (Good member shard)
+      ((a.shared member shard is within).stands each.0) (all_at (Good member shard) (a.owned member shard each.0) (all_of each.0)) each.1 in
+      subst (Good member shard) (same_in_some entry.0 d (sym entry.1 ∙ at.1)) entry.2
     where
-      all_of : (owner : Owner)
-          → AllByRecursion (λ d. IsGenuineDeed (grid_from heading histories shard) member d
-          × IsHeardDeed (grid_from heading histories shard) d)
-          (a.owned member shard owner)
-      all_of (Client client) = client_all heading lines histories served a member shard is within client
-          (λ d. IsGenuineDeed (grid_from heading histories shard) member d × IsHeardDeed (grid_from heading histories shard) d)
+      all_of : (owner : Owner) → AllByRecursion (Good member shard) (a.owned member shard owner)
+      all_of (Client client) = client_all heading lines histories served a member shard is within client (Good member shard)
           record { calls = λ to n ask reply made. (tt, tt); asks = λ n ask reply. (tt, tt) }
-      all_of Thread = subst (AllByRecursion (λ d. IsGenuineDeed (grid_from heading histories shard) member d
-          × IsHeardDeed (grid_from heading histories shard) d)) (sym ((a.threads member is).deeds shard within))
-          (all_flat_in (λ d. IsGenuineDeed (grid_from heading histories shard) member d × IsHeardDeed (grid_from heading histories shard) d)
-          (work_at heading.shards shard) (a.works member) (work_good member shard is within))
-      all_of (Giver joiner) = giver_all heading lines histories served a member shard is within joiner
-          (λ d. IsGenuineDeed (grid_from heading histories shard) member d × IsHeardDeed (grid_from heading histories shard) d)
-          (λ what. (tt, tt))
+      all_of Thread = subst (AllByRecursion (Good member shard)) (sym ((a.threads member is).deeds shard within))
+          (all_flat_in (Good member shard) (work_at heading.shards shard) (a.works member) (work_good member shard is within))
+      all_of (Giver joiner) = giver_all heading lines histories served a member shard is within joiner (Good member shard) (λ what. (tt, tt))
 
   few_images : (member shard : ℕ) → IsMember heading member → shard < heading.shards → IsImagedOnce (histories member shard)
   few_images member shard is within =

@@ -17,7 +17,7 @@ use Rattle.gr_world.specs.Served.{Served, Called, Queried, Looked, deeds_of, all
 use Rattle.gr_run_law.specs.Shares.{Stands, Owner, Client, Thread, Giver, AreShared, AreSharedSoFar, same_owner, with_owner}
 use Rattle.gr_run_law.specs.Duties.{gift_in, given_to, own_where}
 use Rattle.gr_run_law.specs.Threads.{LooksFit, behind_first, rest_if, seen_if}
-use Rattle.gr_run_law.proofs.Lists.{get_front, get_last, same_number}
+use Rattle.gr_run_law.proofs.Lists.{get_front, get_last, same_number, true_false, no_item}
 use Rattle.gr_value.specs.Lists.{StartsWith}
 
 -- ---- what stands
@@ -83,30 +83,12 @@ shared_met list more made ps owned places owner ds shared starts stands none = r
             the_same (Client x) (Client y) e = ap (λ n. Client n) (eqb-true x y e)
             the_same Thread Thread e = refl
             the_same (Giver x) (Giver y) e = ap (λ n. Giver n) (eqb-true x y e)
-            the_same (Client x) Thread e = absurd (no e)
-              where
-                no : false ≡ true → ⊥
-                no e = cc
-            the_same (Client x) (Giver y) e = absurd (no e)
-              where
-                no : false ≡ true → ⊥
-                no e = cc
-            the_same Thread (Client y) e = absurd (no e)
-              where
-                no : false ≡ true → ⊥
-                no e = cc
-            the_same Thread (Giver y) e = absurd (no e)
-              where
-                no : false ≡ true → ⊥
-                no e = cc
-            the_same (Giver x) (Client y) e = absurd (no e)
-              where
-                no : false ≡ true → ⊥
-                no e = cc
-            the_same (Giver x) Thread e = absurd (no e)
-              where
-                no : false ≡ true → ⊥
-                no e = cc
+            the_same (Client x) Thread e = absurd (true_false (sym e))
+            the_same (Client x) (Giver y) e = absurd (true_false (sym e))
+            the_same Thread (Client y) e = absurd (true_false (sym e))
+            the_same Thread (Giver y) e = absurd (true_false (sym e))
+            the_same (Giver x) (Client y) e = absurd (true_false (sym e))
+            the_same (Giver x) Thread e = absurd (true_false (sym e))
     of_other p other false e t = t
 
     at_place : (p : ℕ) → 0 < times p (made ++ ps) → (n : ℕ) → times p ps ≡ n → (o : Owner) × (0 < times p (with_owner owner ps places o))
@@ -226,10 +208,7 @@ no_gift joiner (Gave to gave ∷ past) e = at_test (to == joiner) e (λ f. no_gi
     at_test : (b : Bool) → cons_option (if b then Some gave else None) (filter_map (gift_in joiner) past) ≡ []
         → (filter_map (gift_in joiner) past ≡ [] → given_to joiner past ≡ [])
         → given_to joiner past ++ own_where b gave (own_changes past) ≡ []
-    at_test true e next = absurd (no e)
-      where
-        no : gave ∷ filter_map (gift_in joiner) past ≡ [] → ⊥
-        no e = cc
+    at_test true e next = absurd (no_item gave (filter_map (gift_in joiner) past) e)
     at_test false e next = rw (next e) refl
 no_gift joiner (Imaged image ∷ past) e = no_gift joiner past e
 no_gift joiner (Reported report ∷ past) e = no_gift joiner past e
@@ -239,10 +218,7 @@ no_gift joiner (Swept moment expired ∷ past) e = no_gift joiner past e
 -- Where a history gave the joiner once, that gift's changes are all that it gave it.
 pub given_once : (joiner : ℕ) (gave : What) (past h : List Deed) → Older (Gave joiner gave ∷ past) h
     → filter_map (gift_in joiner) h ≡ gave ∷ [] → given_to joiner h ≡ own_where true gave (own_changes past)
-given_once joiner gave past [] o e = absurd (no o)
-  where
-    no : Gave joiner gave ∷ past ≡ [] → ⊥
-    no e = cc
+given_once joiner gave past [] o e = absurd (no_item (Gave joiner gave) past o)
 given_once joiner gave past (first ∷ rest) (inl is) e =
     subst (λ z. given_to joiner z ≡ own_where true gave (own_changes past)) is here
   where
@@ -254,10 +230,7 @@ given_once joiner gave past (first ∷ rest) (inl is) e =
           where
             at_test : (b : Bool) → b ≡ true → cons_option (if b then Some gave else None) xs ≡ gave ∷ [] → xs ≡ []
             at_test true f e = cc
-            at_test false f e = absurd (no f)
-              where
-                no : false ≡ true → ⊥
-                no e = cc
+            at_test false f e = absurd (true_false (sym f))
 
     here : given_to joiner past ++ own_where (joiner == joiner) gave (own_changes past) ≡ own_where true gave (own_changes past)
     here = ap (λ l. l ++ own_where (joiner == joiner) gave (own_changes past)) (no_gift joiner past once)
@@ -268,10 +241,7 @@ given_once joiner gave past (Taken change verdict ∷ rest) (inr o) e = given_on
 given_once joiner gave past (Gave to other ∷ rest) (inr o) e = at_test (to == joiner) e (λ f. given_once joiner gave past rest o f)
   where
     among : (q : List Deed) → Older (Gave joiner gave ∷ past) q → filter_map (gift_in joiner) q ≡ [] → ⊥
-    among [] o e = no o
-      where
-        no : Gave joiner gave ∷ past ≡ [] → ⊥
-        no e = cc
+    among [] o e = no_item (Gave joiner gave) past o
     among (d ∷ q) (inl is) e = no (joiner == joiner) (same_number joiner) (subst (λ z. filter_map (gift_in joiner) z ≡ []) (sym is) e)
       where
         no : (b : Bool) → b ≡ true → cons_option (if b then Some gave else None) (filter_map (gift_in joiner) past) ≡ [] → ⊥
@@ -281,10 +251,7 @@ given_once joiner gave past (Gave to other ∷ rest) (inr o) e = at_test (to == 
       where
         rest_none : (o : Option What) (xs : List What) → cons_option o xs ≡ [] → xs ≡ []
         rest_none None xs e = e
-        rest_none (Some w) xs e = absurd (no e)
-          where
-            no : w ∷ xs ≡ [] → ⊥
-            no e = cc
+        rest_none (Some w) xs e = absurd (no_item w xs e)
 
     at_test : (b : Bool) → cons_option (if b then Some other else None) (filter_map (gift_in joiner) rest) ≡ gave ∷ []
         → (filter_map (gift_in joiner) rest ≡ gave ∷ [] → given_to joiner rest ≡ own_where true gave (own_changes past))

@@ -43,7 +43,7 @@ use Rattle.gr_run_law.specs.Duties.{given_to, own_where}
 use Rattle.gr_run_law.specs.Plans.{posted_from, reports_posted, courier_of, others, changes_posted, posted_by}
 use Rattle.gr_run_law.specs.Threads.{AreLeftByThreads, Work, TookIn, HeardOf, ReportedAll, SweptAll, Merged, GotFrom, mail_of, is_for}
 use Rattle.gr_run_law.specs.Threads.{round_of, IsSenderOf, client_place, member_place}
-use Rattle.gr_run_law.proofs.Lists.{all_append, same_number, none_isnt_some, same_in_some}
+use Rattle.gr_run_law.proofs.Lists.{all_append, same_number, none_isnt_some, same_in_some, true_false}
 use Rattle.gr_run_law.proofs.Delivering.{among_map, was_posted}
 
 -- ---- a lawful call's change is of its key
@@ -185,10 +185,7 @@ round_in (Merged at image ∷ works) reports a = inr (round_in works reports a)
 round_in (GotFrom giver change verdict ∷ works) reports a = inr (round_in works reports a)
 
 end_or : (m : Mail) → is_end m ≡ false → m ≡ mail.End → ⊥
-end_or m h e = no (sym (ap is_end e) ∙ h)
-  where
-    no : true ≡ false → ⊥
-    no e = cc
+end_or m h e = true_false (sym (ap is_end e) ∙ h)
 
 module _ (heading : Heading) (lines : List Line) (histories : Histories) (served : ℕ → List Served)
     (a : AreLeftByThreads heading lines histories served) (head : IsScript heading lines) where

@@ -21,6 +21,9 @@ none_isnt_some x e = cc
 pub same_in_some : {X : Type 0} (x y : X) → Some x ≡ Some y → x ≡ y
 same_in_some x y e = cc
 
+pub no_item : {X : Type 0} (x : X) (xs : List X) → x ∷ xs ≡ [] → ⊥
+no_item x xs e = cc
+
 pub same_number : (a : ℕ) → (a == a) ≡ true
 same_number a = grind (arith, nat_tests)
 
@@ -84,10 +87,7 @@ module _ {E : Type 0} where
 
 -- A deed stands at the place that its past gives.
 pub older_get : (deed : Deed) (past h : List Deed) → Older (deed ∷ past) h → slice_get (reverse h) (length past) ≡ Some deed
-older_get deed past [] o = absurd (no o)
-  where
-    no : deed ∷ past ≡ [] → ⊥
-    no e = cc
+older_get deed past [] o = absurd (no_item deed past o)
 older_get deed past (first ∷ rest) (inl is) =
     let l : length past ≡ length (reverse rest) = ap length (tails deed first past rest is) ∙ sym (length-reverse rest) in
     ap (λ (xs : List Deed). slice_get xs (length past)) (reverse_onto rest first [])
@@ -149,10 +149,7 @@ older_self (deed ∷ past) = inl refl
 -- of two places the one with fewer deeds is older
 pub older_below : (deed : Deed) (early past h : List Deed) → Older early h → Older (deed ∷ past) h → length early ≤ length past
     → Older early past
-older_below deed early past [] o p le = absurd (no p)
-  where
-    no : deed ∷ past ≡ [] → ⊥
-    no e = cc
+older_below deed early past [] o p le = absurd (no_item deed past p)
 older_below deed early past (first ∷ rest) o (inl is) le = at_first o
   where
     tails : deed ∷ past ≡ first ∷ rest → past ≡ rest

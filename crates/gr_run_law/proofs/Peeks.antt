@@ -30,6 +30,15 @@ Tells shards shard low (Called number ask reply made to) = Unit {0}
 Tells shards shard low (Queried number ask replies) = Unit {0}
 Tells shards shard low (Looked number peek) = shard ≡ shard_of peek.key shards → low ≤ peek.at
 
+-- No other step is a peek.
+abbrev IsLook : Served → Type 0
+IsLook (Called number ask reply made to) = ⊥
+IsLook (Queried number ask replies) = ⊥
+IsLook (Looked number peek) = Unit {0}
+
+a_look : (number : ℕ) (peek : Peek) (one : Served) → Looked number peek ≡ one → IsLook one
+a_look number peek one is = subst IsLook is tt
+
 module _ (shards shard : ℕ) where
   tells_more : (low high : ℕ) (one : Served) → low ≤ high → Tells shards shard high one → Tells shards shard low one
   tells_more low high (Called number ask reply made to) le t = tt
@@ -123,10 +132,7 @@ module _ (client shards shard : ℕ) (number : ℕ) (peek : Peek)
       → (deed : Deed) (earlier : ℕ) → slice_get list p ≡ Some deed → number_in client deed ≡ Some earlier → earlier < number → suc p ≤ peek.at
   late_of list from low first ps [] stands fit n a p t deed earlier get is less = absurd a
   late_of list from low first ps (Called own ask reply made to ∷ served) stands fit n (inl same) p t deed earlier get is less =
-      absurd (no same)
-    where
-      no : Look ≡ Called own ask reply made to → ⊥
-      no e = cc
+      absurd (a_look number peek _ same)
   late_of list from low first ps (Called own ask reply made to ∷ served) stands fit n (inr a) p t deed earlier get is less =
       at_shard (λ from low ps stands fit t. late_of list from low (first + 1) ps served stands fit n.1 a p t deed earlier get is less)
       (shard == shard_of (key_of ask) shards) ps stands fit t
@@ -140,10 +146,7 @@ module _ (client shards shard : ℕ) (number : ℕ) (peek : Peek)
       at_shard next true (q ∷ qs) stands fit t = at_deed list low p q qs served fit a t
           (λ t'. next (suc q) (max low (suc q)) qs stands.2 fit t')
       at_shard next false ps stands fit t = next from low ps stands fit t
-  late_of list from low first ps (Queried own ask replies ∷ served) stands fit n (inl same) p t deed earlier get is less = absurd (no same)
-    where
-      no : Look ≡ Queried own ask replies → ⊥
-      no e = cc
+  late_of list from low first ps (Queried own ask replies ∷ served) stands fit n (inl same) p t deed earlier get is less = absurd (a_look number peek _ same)
   late_of list from low first [] (Queried own ask replies ∷ served) stands fit n (inr a) p t deed earlier get is less = absurd stands
   late_of list from low first (q ∷ qs) (Queried own ask replies ∷ served) stands fit n (inr a) p t deed earlier get is less =
       at_deed list low p q qs served fit a t
@@ -168,16 +171,10 @@ pub in_order : (shards shard : ℕ) (low first : ℕ) (ps : List ℕ) (served : 
 in_order shards shard low first ps [] fit n number earlier peek other here there a b less = absurd a
 in_order shards shard low first ps (Called own ask reply made to ∷ served) fit n number earlier peek other here there
     (inl same) b less =
-    absurd (no same)
-  where
-    no : Looked number peek ≡ Called own ask reply made to → ⊥
-    no e = cc
+    absurd (a_look number peek _ same)
 in_order shards shard low first ps (Called own ask reply made to ∷ served) fit n number earlier peek other here there
     (inr a) (inl same) less =
-    absurd (no same)
-  where
-    no : Looked earlier other ≡ Called own ask reply made to → ⊥
-    no e = cc
+    absurd (a_look earlier other _ same)
 in_order shards shard low first ps (Called own ask reply made to ∷ served) fit n number earlier peek other here there
     (inr a) (inr b) less =
     in_order shards shard (behind_first (shard == shard_of (key_of ask) shards) low ps) (first + 1)
@@ -185,16 +182,10 @@ in_order shards shard low first ps (Called own ask reply made to ∷ served) fit
     fit n.1 number earlier peek other here there a b less
 in_order shards shard low first ps (Queried own ask replies ∷ served) fit n number earlier peek other here there
     (inl same) b less =
-    absurd (no same)
-  where
-    no : Looked number peek ≡ Queried own ask replies → ⊥
-    no e = cc
+    absurd (a_look number peek _ same)
 in_order shards shard low first ps (Queried own ask replies ∷ served) fit n number earlier peek other here there
     (inr a) (inl same) less =
-    absurd (no same)
-  where
-    no : Looked earlier other ≡ Queried own ask replies → ⊥
-    no e = cc
+    absurd (a_look earlier other _ same)
 in_order shards shard low first ps (Queried own ask replies ∷ served) fit n number earlier peek other here there
     (inr a) (inr b) less =
     in_order shards shard (behind_first true low ps) (first + 1) (rest_if true ps) served

@@ -1,25 +1,17 @@
 -- A change that a call made goes to its recipients, and each recipient has its bit.
 use Rattle.std.proofs.Common.{◌≡◌, ℕ, zero, suc, ◌+◌, ◌-◌, ◌*◌, ◌/◌, ◌%◌, ◌≤◌, ◌==◌, Bool, true, false}
-use Rattle.std.proofs.Common.{List, Option, Some, None}
-use Rattle.std.proofs.Common.{refl, sym, ap, ◌∙◌, arith, max, if◌then◌else◌}
-use Rattle.std.specs.Prelude.{nat_le}
+use Rattle.std.proofs.Common.{List, Some}
+use Rattle.std.proofs.Common.{refl, sym, ap, ◌∙◌, arith, if◌then◌else◌}
 use Rattle.gr_stamp.specs.declared.change.Change.{Change}
-use Rattle.gr_stamp.specs.declared.change.Kind.{Kind}
-use Rattle.gr_stamp.specs.declared.stamp.TheConstants.{LIMIT}
 use Rattle.gr_history.specs.declared.identity.Identity.{Identity}
 use Rattle.gr_history.specs.declared.ask.Ask.{Ask}
 use Rattle.gr_history.specs.declared.reply.Reply.{Reply}
-use Rattle.gr_history.specs.declared.reply.Reply.TheVariants.{Limit, NotReady}
-use Rattle.gr_history.specs.declared.reply.Told.{Told}
 use Rattle.gr_history.specs.declared.deed.Deed.{Deed}
 use Rattle.gr_history.specs.declared.deed.Deed.TheVariants.{Call}
-use Rattle.gr_history.specs.Asks.{at_key, key_of, told}
-use Rattle.gr_history.specs.Calls.{call_gives, given, nothing_made, made_change, reach, last_rv}
 use Rattle.gr_history.specs.Lawful.{IsLawfulDeed}
-use Rattle.gr_history.specs.Recipients.{recipients, is_ready, is_recipient, member_bits}
-use Rattle.gr_history.specs.Standing.{there, present}
+use Rattle.gr_history.specs.Recipients.{recipients, is_recipient, member_bits}
 use Rattle.gr_post.specs.Plan.{is_named}
-use Rattle.gr_run_law.proofs.Lists.{none_isnt_some}
+use Rattle.gr_law.proofs.Made.{gives_made}
 
 abbrev one_bit : Bool → ℕ
 one_bit b = if b then 1 else 0
@@ -117,32 +109,7 @@ unfolding recipients
 bit_set id past member low high is = bits_named (is_recipient id past) member low high is
 
 -- a change that a call made goes to the recipients
-given_to_all : (id : Identity) (opening : ℕ) (past : List Deed) (key : List ℕ) (reply : Reply) (kind : Option Kind) (change : Change)
-    → (given id opening past key reply kind).made ≡ Some change → (given id opening past key reply kind).to ≡ recipients id past
-given_to_all id opening past key reply None change h = absurd (none_isnt_some change h)
-given_to_all id opening past key reply (Some kind) change h = at_test (nat_le LIMIT (max (reach opening key past) (last_rv id past))) h
-  where
-    at_test : (b : Bool) → (if b then nothing_made Limit
-        else record { reply = reply; made = Some (made_change id opening past key kind); to = recipients id past }).made ≡ Some change
-        → (if b then nothing_made Limit
-        else record { reply = reply; made = Some (made_change id opening past key kind); to = recipients id past }).to ≡ recipients id past
-    at_test true h = absurd (none_isnt_some change h)
-    at_test false h = refl
-
-gives_to_all : (id : Identity) (opening : ℕ) (past : List Deed) (ask : Ask) (change : Change)
-    → (call_gives id opening past ask).made ≡ Some change → (call_gives id opening past ask).to ≡ recipients id past
-gives_to_all id opening past ask change h = at_test (is_ready id past) h
-  where
-    answer : Told
-    answer = told ask (at_key (there (key_of ask) past) (present (key_of ask) past))
-
-    at_test : (b : Bool) → (if b then given id opening past (key_of ask) answer.reply answer.change else nothing_made NotReady).made
-        ≡ Some change
-        → (if b then given id opening past (key_of ask) answer.reply answer.change else nothing_made NotReady).to ≡ recipients id past
-    at_test true h = given_to_all id opening past (key_of ask) answer.reply answer.change change h
-    at_test false h = absurd (none_isnt_some change h)
-
 pub made_to_all : (id : Identity) (opening client to number : ℕ) (ask : Ask) (reply : Reply) (change : Change) (past : List Deed)
     → IsLawfulDeed id opening (Call client to number ask reply (Some change)) past → to ≡ recipients id past
 made_to_all id opening client to number ask reply change past law =
-    ap (λ d. d.to) law ∙ gives_to_all id opening past ask change (sym (ap (λ d. d.made) law))
+    ap (λ d. d.to) law ∙ (gives_made id opening past ask change (sym (ap (λ d. d.made) law))).1.1

@@ -8,13 +8,6 @@ use Rattle.gr_history.specs.declared.deed.Deed.{Deed}
 use Rattle.gr_history.specs.declared.record.MemberRecord.{MemberRecord}
 use Rattle.gr_history.specs.declared.record.Record.{Record}
 use Rattle.gr_history.specs.declared.record.ShardRecord.{ShardRecord}
-use Rattle.gr_law.specs.Grids.{Grid}
-use Rattle.gr_law.specs.Integrity.{IsWhole}
-use Rattle.gr_law.proofs.Reached.{law_0-holds}
-use Rattle.gr_law.proofs.Took.{law_1-holds}
-use Rattle.gr_law.proofs.Late.{law_2-holds}
-use Rattle.gr_law.proofs.Queries.{law_queries-holds}
-use Rattle.gr_law.proofs.Held.{law_3-holds, law_4-holds, law_5-holds, same_value-holds, same_entry-holds}
 use Rattle.gr_script.specs.declared.line.Line.{Line}
 use Rattle.gr_script.specs.Drill.{IsDrill}
 use Rattle.gr_script.specs.Rules.{Heading, IsMember, IsScript}
@@ -22,34 +15,20 @@ use Rattle.gr_world.specs.Grids.{grid_from}
 use Rattle.gr_world.specs.Histories.{deeds_at, history_at, KeepsLaws}
 use Rattle.gr_world.specs.Numbered.{numbers_from}
 use Rattle.gr_world.specs.Records.{HasRegion, HasRegions, histories_of}
-use Rattle.gr_world.specs.Histories.{IsLawAbiding}
 use Rattle.gr_world.specs.Served.{histories_in}
 use Rattle.gr_report.specs.Same.{rows_by_shard, member_eq, are_equal}
 use Rattle.gr_report.proofs.Sameness.{member_eq_decides}
+use Rattle.gr_world.proofs.Abiding.{whole_abiding}
 use Rattle.gr_run_law.specs.Runs.{IsLawfulRun}
 use Rattle.gr_run_law.specs.Closed.{EndsReady}
 use Rattle.gr_run_law.specs.Records.{IsRecordOfRun}
 use Rattle.gr_run_law.proofs.Closed.{takes_all}
-use Rattle.gr_run_law.proofs.Lists.{all_at, same_number, none_isnt_some, same_in_some}
+use Rattle.gr_run_law.proofs.Lists.{all_at, same_number, none_isnt_some, same_in_some, no_item}
 use Rattle.gr_run_law.proofs.Rows.{rows_left, rows_same, regions_same}
 
-whole_abiding : (grid : Grid) → IsWhole grid → IsLawAbiding grid
-whole_abiding grid whole = record {
-  whole = whole;
-  reached = law_0-holds grid whole.sound;
-  greater = law_1-holds grid whole.sound;
-  late = law_2-holds grid whole;
-  held = law_3-holds grid whole;
-  same = same_value-holds grid whole;
-  one_entry = same_entry-holds grid whole;
-  no_removed = law_4-holds grid whole;
-  one_history = law_5-holds grid whole.sound;
-  queries = law_queries-holds grid whole.sound;
-}
-
 -- A lawful run's record keeps the laws,
-pub keeps_laws : (heading : Heading) (lines : List Line) (left : Record) → IsLawfulRun heading lines left → KeepsLaws heading left
-keeps_laws heading lines left lawful shard within = whole_abiding (grid_from heading (histories_in left) shard)
+pub keeps_laws : (heading : Heading) (lines : List Line) (left : Record) → IsLawfulRun heading lines left → KeepsLaws heading [] left
+keeps_laws heading lines left lawful shard within = whole_abiding [] (grid_from heading (histories_in left) shard)
     (lawful.run.whole shard within)
 
 -- and all else that is said of it.
@@ -70,9 +49,6 @@ deeds_of one = map (λ (s : ShardRecord). s.history.deeds) one.shards
 
 heads : {A : Type 0} (x y : A) (xs ys : List A) → x ∷ xs ≡ y ∷ ys → (x ≡ y) × (xs ≡ ys)
 heads x y xs ys e = (cc, cc)
-
-no_item : {A : Type 0} (x : A) (xs : List A) → x ∷ xs ≡ [] → ⊥
-no_item x xs e = cc
 
 -- the member at a place has the number that the place gives
 pub numbered_history : (shard from n k : ℕ) (ms : List MemberRecord) (one : MemberRecord)

@@ -21,7 +21,7 @@ use Rattle.gr_script.specs.Rules.{Heading, IsScript}
 use Rattle.gr_world.specs.Grids.{Histories, grid_from}
 use Rattle.gr_run_law.specs.Runs.{IsRun}
 use Rattle.gr_run_law.specs.Closed.{EndsReady, HasSameRows}
-use Rattle.gr_run_law.proofs.Lists.{none_isnt_some, same_in_some}
+use Rattle.gr_run_law.proofs.Lists.{none_isnt_some, same_in_some, true_false}
 use Rattle.gr_run_law.proofs.Closed.{takes_all}
 
 -- the change, where it is a put
@@ -119,10 +119,7 @@ put_key : (past : List Deed) (key : List ℕ) → is_some (put_at past key) ≡ 
 put_key past key h = at_standing (standing key past) refl h
   where
     at_standing : (o : Option Change) → standing key past ≡ o → is_some (put_of o) ≡ true → Among key (keys_of (changes past))
-    at_standing None e f = absurd (no f)
-      where
-        no : false ≡ true → ⊥
-        no e = cc
+    at_standing None e f = absurd (true_false (sym f))
     at_standing (Some c) e f = standing_key key past c e
 
 map_same : (f g : List ℕ → Option Change) → ((key : List ℕ) → f key ≡ g key) → (keys : List (List ℕ)) → filter_map f keys

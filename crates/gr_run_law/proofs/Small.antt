@@ -492,9 +492,10 @@ small_script = record {
   lines_stand = ((omega arith, omega arith), refl, tt)
       & (omega arith, omega arith, (omega arith, omega arith), refl)
       & ((omega arith, omega arith), omega arith)
-      & ((omega arith, omega arith), omega arith, omega arith)
+      & ((omega arith, omega arith), omega arith, omega arith, omega arith)
       & ((omega arith, omega arith), refl, tt)
       & ((omega arith, omega arith), refl, (refl, omega arith, omega arith, record { line = refl; front = refl; back = refl }))
       & ((omega arith, omega arith), refl, tt)
       & tt;
+  names_staying = refl & (refl & refl) & refl & refl & refl & refl & refl & tt;
 }

@@ -27,7 +27,7 @@ use Rattle.gr_run_law.specs.Plans.{total_to, courier_of, draws_for, brings_chang
 use Rattle.gr_run_law.specs.Runs.{TakesChanges, HearsReports}
 use Rattle.gr_run_law.specs.Threads.{AreLeftByThreads, Work, TookIn, HeardOf, ReportedAll, SweptAll, Merged, GotFrom, work_at, deed_if}
 use Rattle.gr_run_law.specs.Threads.{report_deed, sweep_deed, mail_of, is_for, round_of, got_from, IsFromMember}
-use Rattle.gr_run_law.proofs.Lists.{count_cons, count_append}
+use Rattle.gr_run_law.proofs.Lists.{count_cons, count_append, true_false}
 use Rattle.gr_run_law.proofs.Owners.{only_thread}
 use Rattle.gr_run_law.proofs.Delivering.{drawn_posted}
 use Rattle.gr_run_law.proofs.Integrity.{IsOfClient, IsOfMember, client_posting, member_posting}
@@ -76,10 +76,7 @@ kept_count test kept none (m ∷ ms) = at_test (kept m) refl (kept_count test ke
 
 -- what a thread does nothing about isn't of a shard
 other_change : (shards shard : ℕ) (test : Change → Bool) (m : Mail) → is_for shards m ≡ false → brings_change shard test m ≡ false
-other_change shards shard test (mail.Change at change) e = absurd (no e)
-  where
-    no : true ≡ false → ⊥
-    no e = cc
+other_change shards shard test (mail.Change at change) e = absurd (true_false e)
 other_change shards shard test (mail.Report at report) e = refl
 other_change shards shard test mail.End e = refl
 

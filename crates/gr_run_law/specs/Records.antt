@@ -1,5 +1,5 @@
 -- What the record of a run has, whatever order, delay and repeats its threads and their mail had.
-use Rattle.std.specs.Prelude.{List}
+use Rattle.std.specs.Prelude.{List, []}
 use Rattle.gr_history.specs.declared.record.Record.{Record}
 use Rattle.gr_script.specs.declared.line.Line.{Line}
 use Rattle.gr_script.specs.Rules.{Heading}
@@ -13,7 +13,7 @@ pub record IsRecordOfRun (heading : Heading) (lines : List Line) (left : Record)
   pub lawful : IsLawfulRun heading lines left
   -- Members that took in the same changes have the same entries, no removed value is back but by a greater stamp, and
   -- a query's initial result followed by its events is its result.
-  pub laws : KeepsLaws heading left
+  pub laws : KeepsLaws heading [] left
   -- Each client was served, step by step, and told what came of it.
   pub served : HasServed heading lines left
   -- Each founder and each member that joined took in every change,

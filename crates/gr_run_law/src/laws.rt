@@ -51,7 +51,7 @@ pub fn lawful_runs_are_closed()
 /// The record of a run keeps the laws at each shard; and where each member is a founder or joins, as in
 /// each drill, its members are equal.
 pub fn records_of_runs_keep_the_laws()
-    ensures laws { (heading : Heading) (lines : List Line) (left : Record) → IsLawfulRun heading lines left → KeepsLaws heading left }
+    ensures laws { (heading : Heading) (lines : List Line) (left : Record) → IsLawfulRun heading lines left → KeepsLaws heading [] left }
     ensures whole { (heading : Heading) (lines : List Line) (left : Record) → IsScript heading lines → IsLawfulRun heading lines left
         → IsRecordOfRun heading lines left }
     ensures equal { (heading : Heading) (lines : List Line) (left : Record) → IsScript heading lines → IsLawfulRun heading lines left

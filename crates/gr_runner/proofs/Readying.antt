@@ -173,6 +173,7 @@ module _ (h : Heading) (lines : List Line) (houses : List House) (rings : List R
               no : Some (Sweeps moment) ≡ Some (Joins from) → ⊥
               no e = cc
           at false e = absurd (none_isnt_some (Joins from) e)
+      is_join (line.Depart of) from e = absurd (none_isnt_some (Joins from) e)
       is_join (line.Join joiner provider) from e = at (joiner == suc k) refl e
         where
           at : (b : Bool) → (joiner == suc k) ≡ b → (if b then Some (Joins provider) else None) ≡ Some (Joins from)

@@ -87,6 +87,12 @@ pub three_tests : (one two three : Bool) (why other last : Reason) → one ≡ f
 three_tests one two three why other last a b c =
     ap (λ (t : Bool). cond t (Some why) (cond two (Some other) (cond three (Some last) None))) a ∙ two_tests two three other last b c
 
+pub four_tests : (one two three four : Bool) (why other then last : Reason) → one ≡ false → two ≡ false → three ≡ false → four ≡ false
+    → refusal ((one, why) ∷ (two, other) ∷ (three, then) ∷ (four, last) ∷ []) ≡ None
+four_tests one two three four why other then last a b c d =
+    ap (λ (t : Bool). cond t (Some why) (cond two (Some other) (cond three (Some then) (cond four (Some last) None)))) a
+    ∙ three_tests two three four other then last b c d
+
 pub room_left : (most count counted : ℕ) → counted ≡ count → counted < most → is_full most count ≡ false
 room_left most count counted same less = grind (arith, same, less)
 

@@ -1,6 +1,6 @@
 -- Each line of the drill may stand where it does.
 use Rattle.std.proofs.Common.{◌≡◌, ℕ, zero, suc, ◌+◌, ◌-◌, ◌*◌, ◌/◌, ◌%◌, ◌≤◌, ◌<◌, List, [], ◌∷◌, ◌++◌, Bool, true, false, cond, eqb}
-use Rattle.std.proofs.Common.{inl, inr, refl, sym, ap, ◌∙◌, subst, arith, reverse, append_assoc, append-nil, is_some}
+use Rattle.std.proofs.Common.{inl, inr, refl, sym, ap, ◌∙◌, subst, arith, reverse, length, append_assoc, append-nil, is_some}
 use Rattle.std.specs.List.{count_by}
 use Rattle.std.proofs.lemmas.Bool.{cases_eq, cases_Bool, eqb-true, eqb-false, eq-eqb, ne_eqb}
 use Rattle.std.proofs.lemmas.List.{reverse-append}
@@ -18,8 +18,9 @@ use Rattle.gr_script.specs.Drill.{query_name, asked_before}
 use Rattle.gr_script.specs.Drill.{steps_made, at_members, step_lines, drill_steps, asks_at, drill_lines, IsDrill}
 use Rattle.gr_script.specs.Rests.{IsRest}
 use Rattle.gr_script.specs.Rules.{Heading, heading, IsHeading, AreWithin, IsWithin, AllStand, IsScript}
-use Rattle.gr_script.specs.Steps.{step_of, step_count, opens, queries, reports, sweeps, is_report, is_sweep, is_query}
+use Rattle.gr_script.specs.Steps.{step_of, step_count, opens, queries, reports, sweeps, is_report, is_sweep, is_query, departed, hears}
 use Rattle.gr_value.specs.Drawing.{drawn}
+use Rattle.gr_script.proofs.Gone.{all_staying}
 
 -- ---- the heading
 
@@ -50,6 +51,8 @@ record Counted (start made reported swept : ℕ) (past : List Line) : Type 0 whe
   report : reports past ≡ reported
   sweep : sweeps past ≡ swept
   query : queries past ≡ 4
+  gone : departed past ≡ []
+  heard : hears past ≡ 0
 
 abbrev of_client : ℕ → Line → Bool
 of_client client line = is_some (step_of client line)
@@ -121,6 +124,8 @@ step_counted start made reported swept past ask c =
       report = other_line is_report line past reported refl c.report;
       sweep = other_line is_sweep line past swept refl c.sweep;
       query = other_line is_query line past 4 refl c.query;
+      gone = c.gone;
+      heard = omega (arith, c.heard);
     }
 
 -- ---- reports and sweeps
@@ -133,16 +138,21 @@ report_counted start made reported swept member past c within few = record {
   report = this_line is_report (Report member) past reported refl c.report;
   sweep = other_line is_sweep (Report member) past swept refl c.sweep;
   query = other_line is_query (Report member) past 4 refl c.query;
+  gone = c.gone;
+  heard = omega (arith, c.heard);
 }
 
 sweep_counted : (start made reported swept member moment : ℕ) (past : List Line) → Counted start made reported swept past
     → IsWithin 1 4 member → moment ≤ 4294967295 → swept < 10000 → Counted start made reported (1 + swept) (Sweep member moment ∷ past)
 sweep_counted start made reported swept member moment past c within early few = record {
-  stand = ((within, early, subst (λ (n : ℕ). n < 10000) (sym c.sweep) few), c.stand);
+  stand =
+      ((within, early, subst (λ (n : ℕ). n < 10000) (sym c.sweep) few, omega (arith, c.heard, ap (length {A = ℕ}) c.gone)), c.stand);
   steps = λ client among. other_line (of_client client) (Sweep member moment) past _ refl (c.steps client among);
   report = other_line is_report (Sweep member moment) past reported refl c.report;
   sweep = this_line is_sweep (Sweep member moment) past swept refl c.sweep;
   query = other_line is_query (Sweep member moment) past 4 refl c.query;
+  gone = c.gone;
+  heard = omega (arith, c.heard, ap (length {A = ℕ}) c.gone);
 }
 
 recounted : (start made reported swept more further : ℕ) (past : List Line) → reported ≡ more → swept ≡ further
@@ -153,6 +163,8 @@ recounted start made reported swept more further past is also c = record {
   report = c.report ∙ is;
   sweep = c.sweep ∙ also;
   query = c.query;
+  gone = c.gone;
+  heard = c.heard;
 }
 
 swept_counted : (start made reported swept moment : ℕ) (past : List Line) → Counted start made reported swept past → reported < 197
@@ -246,6 +258,8 @@ opened start asked own rest =
       report = refl;
       sweep = refl;
       query = refl;
+      gone = refl;
+      heard = refl;
     }
 
 -- Of the clients that open a query, so many have fetched its events.
@@ -253,6 +267,7 @@ record Fetched (start made done asked : ℕ) (past : List Line) : Type 0 where
   stand : AllStand (drill_heading start) past
   steps : (client : ℕ) → done < client → client ≤ 4 → step_count client past ≡ steps_made client made + 1
   query : queries past ≡ asked
+  gone : departed past ≡ []
 
 before_own : (client : ℕ) → client ≤ 4 → asked_before client ≡ 1
 before_own client low = grind arith
@@ -263,6 +278,7 @@ fetched_none start made past c = record {
   steps = λ client some low.
       c.steps client (omega (arith, some), omega (arith, low)) ∙ ap (λ (n : ℕ). steps_made client made + n) (before_own client low);
   query = c.query;
+  gone = c.gone;
 }
 
 fetched_more : (start made done asked : ℕ) (past : List Line) → Fetched start made done asked past → done < 4 → asked < 10000
@@ -277,13 +293,19 @@ fetched_more start made done asked past f few rare =
           let other = is_own client (done + 1) _ act ∙ ne_eqb (done + 1) client (λ is. omega (arith, some, is)) in
           other_line (of_client client) line past _ other (f.steps client (omega (arith, some)) low);
       query = this_line is_query line past asked refl f.query;
+      gone = f.gone;
     }
 
 -- ---- the whole
 
-all_stand : (start steps : ℕ) (asked : Question) → steps ≤ 50000 → asked.asked.region ≡ drill_region → IsRest asked.text
-    → AllStand (drill_heading start) (reverse (drill_lines asked start steps))
-all_stand start steps asked few own rest =
+-- Lines that may stand where they do, of which none departs a member.
+record AllLast (start : ℕ) (past : List Line) : Type 0 where
+  stand : AllStand (drill_heading start) past
+  gone : departed past ≡ []
+
+all_last : (start steps : ℕ) (asked : Question) → steps ≤ 50000 → asked.asked.region ≡ drill_region → IsRest asked.text
+    → AllLast start (reverse (drill_lines asked start steps))
+all_last start steps asked few own rest =
     let opens = asks_at (λ client. 1) (Enrol query_name asked) in
     let made = drill_steps steps 1 start in
     let fetches = asks_at (λ client. steps_made client steps + 2) (Fetch query_name) in
@@ -296,9 +318,9 @@ all_stand start steps asked few own rest =
     let two = fetched_more start steps 1 5 _ one (omega arith) (omega arith) in
     let three = fetched_more start steps 2 6 _ two (omega arith) (omega arith) in
     let all = fetched_more start steps 3 7 _ three (omega arith) (omega arith) in
-    subst (AllStand (drill_heading start))
+    subst (AllLast start)
     (behind_more made fetches (reverse opens ++ []) ∙ behind_more opens (made ++ fetches) [] ∙ append-nil _)
-    all.stand
+    (record { stand = all.stand; gone = all.gone })
 
 same_heading : (start : ℕ) (region homes : List ℕ) → region ≡ drill_region → homes ≡ drill_homes
     → heading region 4 4 8 8 start 0 homes ≡ drill_heading start
@@ -327,9 +349,11 @@ module _ (start steps : ℕ) (region homes : List ℕ) (asked : Question) (lines
       → IsScript (heading region 4 4 8 8 start 0 homes) lines
   drill_is_ruled low few of_region =
       let rest : IsRest asked.text = subst IsRest (sym spelled.2) (record { line = refl; front = refl; back = refl }) in
+      let last : AllLast start (reverse lines) = subst (λ (ls : List Line). AllLast start (reverse ls)) (sym are)
+      (all_last start steps asked few of_region rest) in
       subst (λ (h : Heading). IsScript h lines) (sym (same_heading start region homes own homed))
       (record {
         heading = drill_is_headed start low;
-        lines_stand = subst (λ (ls : List Line). AllStand (drill_heading start) (reverse ls)) (sym are)
-            (all_stand start steps asked few of_region rest);
+        lines_stand = last.stand;
+        names_staying = all_staying (drill_heading start) (reverse lines) last.gone;
       })

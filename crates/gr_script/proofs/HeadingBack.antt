@@ -21,7 +21,7 @@ use Rattle.gr_script.specs.Past.{region, members, homes, stage}
 use Rattle.gr_script.specs.Printed.{other_saying, saying_in, client_sayings, sayings_in, script_text, IsLineKept}
 use Rattle.gr_script.specs.Printing.{spaced, saying_text}
 use Rattle.gr_script.specs.Suiting.{IsShort}
-use Rattle.gr_script.specs.Rules.{Heading, IsHeading, IsWithin, AreWithin, AllStand, IsScript}
+use Rattle.gr_script.specs.Rules.{Heading, IsHeading, IsWithin, AreWithin, IsScript}
 use Rattle.gr_script.specs.Said.{heading_said, lines_said, script_from, script_of}
 use Rattle.gr_script.specs.Sayings.{sayings_from, sayings_of, end_of}
 use Rattle.gr_script.specs.Texts.{lines_of}
@@ -29,7 +29,7 @@ use Rattle.gr_script.proofs.Accepted.{Accepts, one_test, late}
 use Rattle.gr_script.proofs.Follows.{AllFollow}
 use Rattle.gr_script.proofs.PrintedFields.{word_plain}
 use Rattle.gr_script.proofs.PrintedLines.{front_is}
-use Rattle.gr_script.proofs.ScriptBack.{Reads, Ready, one_more, follow_more, lines_back, lines_again}
+use Rattle.gr_script.proofs.ScriptBack.{Reads, Ready, MayStand, one_more, follow_more, lines_back, lines_again}
 use Rattle.gr_script.specs.Limits.{most_lines}
 
 -- ---- the clients
@@ -69,7 +69,7 @@ client_accepts h done past client member head stated next few within =
 pub clients_back : (h : Heading) (number client : ℕ) (done rest : List ℕ) (past : List Saying) (lines : List Line) → IsHeading h
     → Stated h done past → length done + 1 ≡ client → length done + length rest ≤ 64 → AreWithin 1 h.members rest
     → done ++ rest ≡ h.clients
-    → AllStand h (reverse lines) → AllByRecursion IsLineKept lines
+    → MayStand h (reverse lines) → AllByRecursion IsLineKept lines
     → Reads number past (map saying_text (client_sayings client rest ++ map saying_in lines)) h (reverse lines)
 clients_back h number client done [] past lines head stated next few within whole stand kept =
     let same : with_clients h done ≡ h = ap (with_clients h) (sym (append-nil done) ∙ whole) in
@@ -82,7 +82,7 @@ clients_back h number client done [] past lines head stated next few within whol
     let none : reverse lines ++ lines_said past ≡ reverse lines =
     ap (λ (ls : List Line). reverse lines ++ ls) stated.quiet ∙ append-nil (reverse lines) in
     subst (Reads number past (map saying_text (map saying_in lines)) h) none
-    (lines_back h number past lines head ready (subst (AllStand h) (sym none) stand) kept)
+    (lines_back h number past lines head ready (subst (MayStand h) (sym none) stand) kept)
 clients_back h number client done (member ∷ rest) past lines head stated next few within whole stand kept =
     let saying : Saying = other_saying kind.Client (item.Number client ∷ item.Word ∷ item.Member member ∷ []) in
     let accepts = client_accepts h done past client member head stated next (omega (arith, next, few)) within.0 in
@@ -199,7 +199,7 @@ module _ (h : Heading) (head : IsHeading h) where
     quiet = refl;
   }
 
-  script_back : (lines : List Line) → AllStand h (reverse lines) → AllByRecursion IsLineKept lines
+  script_back : (lines : List Line) → MayStand h (reverse lines) → AllByRecursion IsLineKept lines
       → Reads 1 [] (map saying_text (sayings_in h lines)) h (reverse lines)
   script_back lines stand kept =
       let clients =
@@ -219,7 +219,7 @@ pub text_back : (h : Heading) (lines : List Line) → IsScript h lines → AllBy
     → line_count (script_text h lines) ≤ most_lines → script_of false (script_text h lines) ≡ Ok (h, lines)
 text_back h lines is kept few =
     let texts = map saying_text (sayings_in h lines) in
-    let back = script_back h is.heading lines is.lines_stand kept in
+    let back = script_back h is.heading lines (is.lines_stand, is.names_staying) kept in
     let text : lines_of (script_text h lines) ≡ texts = lines_again texts back.alone in
     let count = line_count (script_text h lines) in
     let whole : sayings_of false (script_text h lines) ≡ Ok back.all =

@@ -2,15 +2,14 @@
 use Rattle.std.proofs.Common.{◌≡◌, ◌∙◌, ℕ, ◌+◌, ◌<◌, ◌≤◌, ◌^◌, List, ◌∷◌, Bool, true, false, ◌&&◌, cond, eqb}
 use Rattle.std.proofs.Common.{Option, Some, None, option_map, refl, ap, arith}
 use Rattle.std.specs.Option.{IsSome}
-use Rattle.std.proofs.lemmas.List.Sums.{sum_by-cons}
 use Rattle.gr_script.specs.declared.forms.LineKind.{LineKind}
 use Rattle.gr_script.specs.declared.forms.LineKind.TheVariants as kind
 use Rattle.gr_script.specs.declared.items.Item.{Item}
 use Rattle.gr_script.specs.declared.line.Line.{Line}
 use Rattle.gr_script.specs.declared.saying.Saying.{Saying}
-use Rattle.gr_script.specs.Forms.{rank, is_step}
+use Rattle.gr_script.specs.Forms.{rank, is_step, is_kind}
 use Rattle.gr_script.specs.Narrow.{IsNarrow, IsNarrowStep}
-use Rattle.gr_script.specs.Past.{number, count_at, steps}
+use Rattle.gr_script.specs.Past.{number, steps}
 use Rattle.gr_script.specs.Printed.{saying_in}
 use Rattle.gr_script.specs.Said.{line_of}
 use Rattle.gr_script.specs.Tallies.{Counts, count_in}
@@ -23,15 +22,6 @@ next_step : (held : Counts) (past : List Saying) (saying : Saying) (first count 
     → count + 1 ≡ steps (number 0 saying.items) past + 1
 next_step held past saying first count first_is counted held_are =
     ap (λ (n : ℕ). n + 1) (counted ∙ held_are first ∙ ap (λ (client : ℕ). steps client past) first_is)
-
--- A line of the heading isn't counted.
-pub uncounted : (test : LineKind → Bool) (n : ℕ) (past : List Saying) (saying : Saying) → test saying.kind ≡ false
-    → count_at test n past ≡ count_at test n (saying ∷ past)
-uncounted test n past saying other =
-    let more = sum_by-cons (λ (l : Saying). cond (test l.kind && eqb (number 0 l.items) n) 1 0) saying past in
-    let none : ◌≡◌ {A = ℕ} (cond (test saying.kind && eqb (number 0 saying.items) n) 1 0) 0 =
-    ap (λ (b : Bool). cond {A = ℕ} (b && eqb (number 0 saying.items) n) 1 0) other in
-    omega (arith, more, none)
 
 -- ---- the line that a saying is
 
@@ -61,6 +51,7 @@ narrow_first kind.Report items late step other = other
 narrow_first kind.Hear items late step other = other.0
 narrow_first kind.Sweep items late step other = other.0
 narrow_first kind.Join items late step other = other.0
+narrow_first kind.Depart items late step other = other
 narrow_first kind.Georep items late step other = absurd (omega (arith, late))
 narrow_first kind.Region items late step other = absurd (omega (arith, late))
 narrow_first kind.Members items late step other = absurd (omega (arith, late))
@@ -70,3 +61,8 @@ narrow_first kind.Trouble items late step other = absurd (omega (arith, late))
 narrow_first kind.Floor items late step other = absurd (omega (arith, late))
 narrow_first kind.Client items late step other = absurd (omega (arith, late))
 narrow_first _ items late step other = step refl
+
+-- and a join has one second
+pub narrow_second : (form : LineKind) (items : List Item) → is_kind kind.Join form ≡ true → IsNarrow form items → number 1 items < 2 ^ 8
+narrow_second kind.Join items is other = other.1
+narrow_second _ items is other = absurd cc

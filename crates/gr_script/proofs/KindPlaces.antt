@@ -34,7 +34,8 @@ words =
     ∷ word kind.Report
     ∷ word kind.Hear
     ∷ word kind.Sweep
-    ∷ word kind.Join ∷ []
+    ∷ word kind.Join
+    ∷ word kind.Depart ∷ []
 
 word_at : (one : LineKind) → slice_get words (place one) ≡ Some (word one)
 word_at kind.Georep = refl
@@ -63,6 +64,7 @@ word_at kind.Report = refl
 word_at kind.Hear = refl
 word_at kind.Sweep = refl
 word_at kind.Join = refl
+word_at kind.Depart = refl
 
 place_of : (one : LineKind) → position (λ (text : List ℕ). bytes_eq text (word one)) words ≡ Some (place one)
 place_of kind.Georep = refl
@@ -91,6 +93,7 @@ place_of kind.Report = refl
 place_of kind.Hear = refl
 place_of kind.Sweep = refl
 place_of kind.Join = refl
+place_of kind.Depart = refl
 
 both : (one two : Bool) → (one ≡ true → two ≡ true) → (two ≡ true → one ≡ true) → one ≡ two
 both true two on back = sym (on refl)

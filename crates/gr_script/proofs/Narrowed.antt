@@ -66,6 +66,7 @@ narrow past kind.Sweep c none most le =
     (small past c.1.0.0 (most (omega arith)) c.1.0.1, omega (arith, moment))
 narrow past kind.Join c none most le =
     (small past c.1.0.0 (most (omega arith)) c.1.0.1, small past c.1.1.0.0 (most (omega arith)) c.1.1.0.1)
+narrow past kind.Depart c none most le = small past c.1.0.0 (most (omega arith)) c.1.0.1
 narrow past _ c none most le = tt
 
 said_back : (past : List Saying) (form : LineKind) (c : Held past form) → 8 ≤ rank form

@@ -110,6 +110,7 @@ word_plain kind.Report = record { some = omega arith; each = refl }
 word_plain kind.Hear = record { some = omega arith; each = refl }
 word_plain kind.Sweep = record { some = omega arith; each = refl }
 word_plain kind.Join = record { some = omega arith; each = refl }
+word_plain kind.Depart = record { some = omega arith; each = refl }
 
 -- ---- where such a field ends
 

@@ -147,6 +147,7 @@ last_alone kind.Report = (tt, tt)
 last_alone kind.Hear = (tt, (tt, (tt, tt)))
 last_alone kind.Sweep = (tt, (tt, tt))
 last_alone kind.Join = (tt, (tt, tt))
+last_alone kind.Depart = (tt, tt)
 
 some_fields : (line : LineKind) → 0 < length (fields line)
 some_fields kind.Georep = omega arith

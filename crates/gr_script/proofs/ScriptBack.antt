@@ -15,7 +15,7 @@ use Rattle.gr_script.specs.declared.saying.Saying.{Saying}
 use Rattle.gr_script.specs.Past.{setting, region, stage, steps}
 use Rattle.gr_script.specs.Printed.{saying_in, IsLineKept}
 use Rattle.gr_script.specs.Printing.{saying_text}
-use Rattle.gr_script.specs.Rules.{Heading, IsHeading, StandsAfter, AllStand}
+use Rattle.gr_script.specs.Rules.{Heading, IsHeading, StandsAfter, AllBehind, AllStand, NamesStaying, AllNameStaying}
 use Rattle.gr_script.specs.Said.{heading_said, line_of, lines_said}
 use Rattle.gr_script.specs.Sayings.{fault, go_on, sayings_from}
 use Rattle.gr_script.specs.Texts.{lines_of, IsLine, text_of}
@@ -106,12 +106,16 @@ line_is h past (Step client seq act) all stands =
     step_is past client seq act (omega (arith, count, stands.1))
 line_is h past _ all stands = refl
 
-rest_stands : (h : Heading) (front past : List Line) → AllStand h (front ++ past) → AllStand h past
-rest_stands h [] past all = all
-rest_stands h (line ∷ front) past all = rest_stands h front past all.1
+rest_behind : (Each : List Line → Line → Type 0) (front past : List Line) → AllBehind Each (front ++ past) → AllBehind Each past
+rest_behind Each [] past all = all
+rest_behind Each (line ∷ front) past all = rest_behind Each front past all.1
+
+-- Each line may stand behind those before it.
+abbrev pub MayStand : Heading → List Line → Type 0
+MayStand h lines = AllStand h lines × AllNameStaying h lines
 
 pub lines_back : (h : Heading) (number : ℕ) (past : List Saying) (lines : List Line) → IsHeading h → Ready h past
-    → AllStand h (reverse lines ++ lines_said past) → AllByRecursion IsLineKept lines
+    → MayStand h (reverse lines ++ lines_said past) → AllByRecursion IsLineKept lines
     → Reads number past (map saying_text (map saying_in lines)) h (reverse lines ++ lines_said past)
 lines_back h number past [] head ready stand kept = record {
   all = past;
@@ -126,11 +130,13 @@ lines_back h number past (line ∷ lines) head ready stand kept =
     let joined : reverse (line ∷ lines) ++ so_far ≡ reverse lines ++ line ∷ so_far =
     ap (λ (ls : List Line). ls ++ so_far) (reverse-append (line ∷ []) lines) ∙ append_assoc (reverse lines) (line ∷ []) so_far
     in
-    let stands = subst (AllStand h) joined stand in
-    let here : StandsAfter h so_far line = (rest_stands h (reverse lines) (line ∷ so_far) stands).0 in
+    let stands = subst (MayStand h) joined stand in
+    let here : StandsAfter h so_far line = (rest_behind (StandsAfter h) (reverse lines) (line ∷ so_far) stands.0).0 in
+    let names : NamesStaying h so_far line = (rest_behind (NamesStaying h) (reverse lines) (line ∷ so_far) stands.1).0 in
     let accepts : Accepts past (saying_in line) = line_accepts past ready.follow (subst IsHeading (sym ready.headed) head)
     (subst (λ (g : Heading). region past ≡ Some g.region) (sym ready.headed) ready.named) ready.whole line
-    (subst (λ (g : Heading). StandsAfter g so_far line) (sym ready.headed) here) kept.0
+    (subst (λ (g : Heading). StandsAfter g so_far line) (sym ready.headed) here)
+    (subst (λ (g : Heading). NamesStaying g so_far line) (sym ready.headed) names) kept.0
     in
     let said : lines_said (saying_in line ∷ past) ≡ line ∷ so_far =
     ap (λ (l : Option Line). cons_option l so_far) (line_is h past line ready.follow here) in
@@ -144,4 +150,4 @@ lines_back h number past (line ∷ lines) head ready stand kept =
     ap (λ (ls : List Line). reverse lines ++ ls) said ∙ sym joined in
     one_more number past (saying_in line) (map saying_text (map saying_in lines)) h (reverse (line ∷ lines) ++ so_far) accepts
     (subst (Reads (number + 1) (saying_in line ∷ past) (map saying_text (map saying_in lines)) h) whole
-    (lines_back h (number + 1) (saying_in line ∷ past) lines head next (subst (AllStand h) (sym whole) stand) kept.1))
+    (lines_back h (number + 1) (saying_in line ∷ past) lines head next (subst (MayStand h) (sym whole) stand) kept.1))

@@ -10,17 +10,20 @@ use Rattle.gr_script.specs.declared.forms.LineKind.TheVariants as kind
 use Rattle.gr_script.specs.declared.items.Item.{Item}
 use Rattle.gr_script.specs.declared.line.Line.{Line}
 use Rattle.gr_script.specs.declared.reason.Reason.{Reason}
+use Rattle.gr_script.specs.declared.reason.Reason.TheVariants.{Count, Gone}
 use Rattle.gr_script.specs.declared.saying.Saying.{Saying}
 use Rattle.gr_script.specs.Forms.{rank}
-use Rattle.gr_script.specs.Past.{setting, region, founders, home, steps, reports, joins, count_of, queries, stage}
+use Rattle.gr_script.specs.Past.{setting, region, founders, home, steps, reports, joins, gifts, hears, count_of, queries, stage}
 use Rattle.gr_script.specs.Past.{next_rank}
-use Rattle.gr_script.specs.Refusals.{tests, refusal, is_missing, is_full}
-use Rattle.gr_script.specs.Rules.{Heading, IsWithin, IsStated, StandsAfter, AllStand}
+use Rattle.gr_script.specs.Refusals.{tests, refusal, is_missing, is_full, is_gone}
+use Rattle.gr_script.specs.Rules.{Heading, IsWithin, IsStated, StandsAfter, AllBehind, AllStand, Stays, NamesStaying}
+use Rattle.gr_script.specs.Rules.{AllNameStaying}
 use Rattle.gr_script.specs.Said.{heading_said, line_of, lines_said}
 use Rattle.gr_script.specs.Steps as lines
 use Rattle.gr_script.specs.Suiting.{AreRests}
 use Rattle.gr_script.proofs.Contents.{IsClient}
 use Rattle.gr_script.proofs.Follows.{Follows, AllFollow, Held, held_items}
+use Rattle.gr_script.proofs.Gone.{departed_said, gone_said, hears_said}
 use Rattle.gr_script.proofs.Tallied.{line_by, tallied}
 
 -- ---- what no test refused
@@ -83,20 +86,20 @@ line_stands past kind.Invalidate c none rests all = (stated past c.0.0 c.0.1, nu
 line_stands past kind.Peek c none rests all = (stated past c.0.0 c.0.1, numbered past c.0.0 all, tt)
 line_stands past kind.Open c none rests all =
     let pass = passed (tests past kind.Open (held_items past kind.Open c)) none in
-    let full = or_parts (is_full 16 (count_of kind.Open past)) (is_full 10000 (queries past)) pass.0 in (
+    let full = or_parts (is_full 16 (count_of kind.Open past)) (is_full 10000 (queries past)) pass.1.0 in (
       stated past c.0.0 c.0.1,
       numbered past c.0.0 all,
       (own_region (region past) _ c.1.1.1.0.1, few_opens past all full.0, few_queries past all full.1, rests.1.1.1.0),
     )
 line_stands past kind.Stop c none rests all =
     let pass = passed (tests past kind.Stop (held_items past kind.Stop c)) none in
-    (stated past c.0.0 c.0.1, numbered past c.0.0 all, few_queries past all pass.0)
+    (stated past c.0.0 c.0.1, numbered past c.0.0 all, few_queries past all pass.1.0)
 line_stands past kind.Close c none rests all =
     let pass = passed (tests past kind.Close (held_items past kind.Close c)) none in
-    (stated past c.0.0 c.0.1, numbered past c.0.0 all, few_queries past all pass.0)
+    (stated past c.0.0 c.0.1, numbered past c.0.0 all, few_queries past all pass.1.0)
 line_stands past kind.Fetch c none rests all =
     let pass = passed (tests past kind.Fetch (held_items past kind.Fetch c)) none in
-    (stated past c.0.0 c.0.1, numbered past c.0.0 all, few_queries past all pass.0)
+    (stated past c.0.0 c.0.1, numbered past c.0.0 all, few_queries past all pass.1.0)
 line_stands past kind.Deliver c none rests all =
     let client = c.1.1.0.0.0 in
     let pass = passed (tests past kind.Deliver (held_items past kind.Deliver c)) none in
@@ -108,7 +111,7 @@ line_stands past kind.Deliver c none rests all =
     )
 line_stands past kind.Report c none rests all =
     let pass = passed (tests past kind.Report (held_items past kind.Report c)) none in
-    (c.1.0.1, not_full 200 (count_of kind.Report past) _ pass.0 (tallied (λ m. m.report) 0 past refl all))
+    (c.1.0.1, not_full 200 (count_of kind.Report past) _ pass.1.0 (tallied (λ m. m.report) 0 past refl all))
 line_stands past kind.Hear c none rests all =
     let of = c.1.1.0.0 in
     let pass = passed (tests past kind.Hear (held_items past kind.Hear c)) none in
@@ -117,14 +120,23 @@ line_stands past kind.Hear c none rests all =
       c.1.1.0.1,
       subst (λ (n : ℕ). IsWithin 1 n c.1.1.1.0) (sym count) (not_missing c.1.1.1.0 (reports of past) pass.0),
       not_from_false (eqb c.1.0.0 of) pass.1.0,
-      not_full 1400 (count_of kind.Hear past) _ pass.1.1.0 (tallied (λ m. m.hear) 0 past refl all),
+      not_full 1400 (hears past) _ pass.1.1.1.0 (hears_said past all),
     )
 line_stands past kind.Sweep c none rests all =
-    let pass = passed (tests past kind.Sweep (held_items past kind.Sweep c)) none in (
+    let pass = passed (tests past kind.Sweep (held_items past kind.Sweep c)) none in
+    let full = or_parts (is_full 10000 (count_of kind.Sweep past)) (ltb 1400 (hears past + count_of kind.Depart past)) pass.1.0 in
+    let closing = ltb-false 1400 (hears past + count_of kind.Depart past) full.1 in (
       c.1.0.1,
       c.1.1.0.1.1,
-      not_full 10000 (count_of kind.Sweep past) _ pass.0 (tallied (λ m. m.sweep) 0 past refl all),
+      not_full 10000 (count_of kind.Sweep past) _ full.0 (tallied (λ m. m.sweep) 0 past refl all),
+      omega (arith, closing, hears_said past all, departed_said past all),
     )
+line_stands past kind.Depart c none rests all =
+    let pass = passed (tests past kind.Depart (held_items past kind.Depart c)) none in
+    (c.1.0.1, tallied (λ m. m.join_from) c.1.0.0 past refl all ∙ no_gift (gifts c.1.0.0 past) pass.1.0)
+  where
+    no_gift : (count : ℕ) → not (eqb count 0) ≡ false → count ≡ 0
+    no_gift count isnt = grind arith
 line_stands past kind.Join c none rests all =
     let member = c.1.0.0 in
     let provider = c.1.1.0.0 in
@@ -141,6 +153,57 @@ line_stands past kind.Join c none rests all =
     none_yet : (count : ℕ) → not (eqb count 0) ≡ false → count ≡ 0
     none_yet count isnt = grind arith
 line_stands past _ c none rests all = tt
+
+-- ---- the members that it names
+
+abbrev NameStaying : Heading → List Line → Option Line → Type 0
+NameStaying h past None = Unit {0}
+NameStaying h past (Some l) = NamesStaying h past l
+
+stays : (past : List Saying) (member : ℕ) → AllFollow past → is_gone member past ≡ false → Stays (lines_said past) member
+stays past member all isnt = gone_said past all member ∙ isnt
+
+-- a step's client is at a member that stays
+step_stays : (past : List Saying) (client : ℕ) (more : List (Bool × Reason)) → AllFollow past
+    → refusal ((is_gone (home client past) past, Gone) ∷ more) ≡ None → Stays (lines_said past) (home client past)
+step_stays past client more all none =
+    stays past (home client past) all (passed ((is_gone (home client past) past, Gone) ∷ more) none).0
+
+line_names : (past : List Saying) (form : LineKind) (c : Held past form) → refusal (tests past form (held_items past form c)) ≡ None
+    → AllFollow past → NameStaying (heading_said past) (lines_said past) (line_by past form (held_items past form c))
+line_names past kind.Get c none all = step_stays past c.0.0 [] all none
+line_names past kind.Put c none all = step_stays past c.0.0 [] all none
+line_names past kind.PutIfAbsent c none all = step_stays past c.0.0 [] all none
+line_names past kind.Replace c none all = step_stays past c.0.0 [] all none
+line_names past kind.ReplaceIf c none all = step_stays past c.0.0 [] all none
+line_names past kind.Destroy c none all = step_stays past c.0.0 [] all none
+line_names past kind.Remove c none all = step_stays past c.0.0 [] all none
+line_names past kind.Invalidate c none all = step_stays past c.0.0 [] all none
+line_names past kind.Peek c none all = step_stays past c.0.0 [] all none
+line_names past kind.Open c none all =
+    step_stays past c.0.0 ((is_full 16 (count_of kind.Open past) || is_full 10000 (queries past), Count) ∷ []) all none
+line_names past kind.Stop c none all = step_stays past c.0.0 ((is_full 10000 (queries past), Count) ∷ []) all none
+line_names past kind.Close c none all = step_stays past c.0.0 ((is_full 10000 (queries past), Count) ∷ []) all none
+line_names past kind.Fetch c none all = step_stays past c.0.0 ((is_full 10000 (queries past), Count) ∷ []) all none
+line_names past kind.Deliver c none all =
+    stays past c.1.0.0 all (passed (tests past kind.Deliver (held_items past kind.Deliver c)) none).1.1.0
+line_names past kind.Report c none all =
+    stays past c.1.0.0 all (passed (tests past kind.Report (held_items past kind.Report c)) none).0
+line_names past kind.Hear c none all = stays past c.1.0.0 all (passed (tests past kind.Hear (held_items past kind.Hear c)) none).1.1.0
+line_names past kind.Sweep c none all = stays past c.1.0.0 all (passed (tests past kind.Sweep (held_items past kind.Sweep c)) none).0
+line_names past kind.Join c none all =
+    let pass = passed (tests past kind.Join (held_items past kind.Join c)) none in
+    let gone = or_parts (is_gone c.1.0.0 past) (is_gone c.1.1.0.0 past) pass.1.0 in
+    (stays past c.1.0.0 all gone.0, stays past c.1.1.0.0 all gone.1)
+line_names past kind.Depart c none all =
+    stays past c.1.0.0 all (passed (tests past kind.Depart (held_items past kind.Depart c)) none).0
+line_names past _ c none all = tt
+
+follower_names : (past : List Saying) (form : LineKind) (items : List Item) → Follows past form items → AllFollow past
+    → NameStaying (heading_said past) (lines_said past) (line_by past form items)
+follower_names past form items f all =
+    subst (λ (is : List Item). NameStaying (heading_said past) (lines_said past) (line_by past form is)) f.items_are
+    (line_names past form f.held (subst (λ (is : List Item). refusal (tests past form is) ≡ None) (sym f.items_are) f.passes) all)
 
 pub follower_stands : (past : List Saying) (form : LineKind) (items : List Item) → Follows past form items → AllFollow past
     → Stands (heading_said past) (lines_said past) (line_by past form items)
@@ -199,19 +262,37 @@ same_heading past kind.Floor items le = absurd (omega (arith, le))
 same_heading past kind.Client items le = absurd (omega (arith, le))
 same_heading past _ items le = refl
 
-stand_more : (h : Heading) (l : Option Line) (lines : List Line) → Stands h lines l → AllStand h lines → AllStand h (cons_option l lines)
-stand_more h None lines one all = all
-stand_more h (Some l) lines one all = (one, all)
+-- ---- what holds of each line that is said behind the earlier ones
+
+module _ (Each : Heading → List Line → Line → Type 0) where
+  abbrev Of : Heading → List Line → Option Line → Type 0
+  Of h past None = Unit {0}
+  Of h past (Some l) = Each h past l
+
+  one_behind : (h : Heading) (l : Option Line) (lines : List Line) → Of h lines l → AllBehind (Each h) lines
+      → AllBehind (Each h) (cons_option l lines)
+  one_behind h None lines one all = all
+  one_behind h (Some l) lines one all = (one, all)
+
+  all_behind : ((past : List Saying) (saying : Saying) → Follows past saying.kind saying.items → AllFollow past
+      → Of (heading_said past) (lines_said past) (line_of past saying))
+      → (past : List Saying) → AllFollow past → AllBehind (Each (heading_said past)) (lines_said past)
+  all_behind each [] all = tt
+  all_behind each (saying ∷ past) all =
+      elim (cases_lt (rank saying.kind) 8) [
+        | inl lt ↦ let order = all.0.order in
+            subst (AllBehind (Each (heading_said (saying ∷ past))))
+            (sym (quiet_lines past saying lt (no_lines_yet past all.1 (omega (arith, lt, order))))) tt
+        | inr le ↦
+            subst (λ (h : Heading). AllBehind (Each h) (lines_said (saying ∷ past))) (same_heading past saying.kind saying.items le)
+            (one_behind (heading_said past) (line_of past saying) (lines_said past) (each past saying all.0 all.1)
+            (all_behind each past all.1))
+      ]
 
 pub all_stand : (past : List Saying) → AllFollow past → AllStand (heading_said past) (lines_said past)
-all_stand [] all = tt
-all_stand (saying ∷ past) all =
-    elim (cases_lt (rank saying.kind) 8) [
-      | inl lt ↦ let order = all.0.order in
-          subst (AllStand (heading_said (saying ∷ past)))
-          (sym (quiet_lines past saying lt (no_lines_yet past all.1 (omega (arith, lt, order))))) tt
-      | inr le ↦
-          subst (λ (h : Heading). AllStand h (lines_said (saying ∷ past))) (same_heading past saying.kind saying.items le)
-          (stand_more (heading_said past) (line_of past saying) (lines_said past)
-          (follower_stands past saying.kind saying.items all.0 all.1) (all_stand past all.1))
-    ]
+all_stand past all =
+    all_behind StandsAfter (λ past saying one rest. follower_stands past saying.kind saying.items one rest) past all
+
+pub all_name_staying : (past : List Saying) → AllFollow past → AllNameStaying (heading_said past) (lines_said past)
+all_name_staying past all =
+    all_behind NamesStaying (λ past saying one rest. follower_names past saying.kind saying.items one rest) past all

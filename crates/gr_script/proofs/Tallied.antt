@@ -1,5 +1,5 @@
 -- The lines that are said are as many as those that say them, of each kind.
-use Rattle.std.proofs.Common.{◌≡◌, ℕ, ◌+◌, List, [], ◌∷◌, Bool, true, false, cond, eqb, ◌&&◌, Option, Some, None, refl, ap, ◌∙◌, subst}
+use Rattle.std.proofs.Common.{◌≡◌, ℕ, ◌+◌, ◌==◌, List, [], ◌∷◌, Bool, true, false, cond, eqb, ◌&&◌, Option, Some, None, refl, ap, ◌∙◌, subst}
 use Rattle.std.proofs.Common.{arith}
 use Rattle.std.specs.List.{cons_option, count_by}
 use Rattle.std.specs.Option.{is_some, option_map_or}
@@ -19,9 +19,16 @@ use Rattle.gr_script.specs.declared.saying.Saying.{Saying}
 use Rattle.gr_script.specs.Forms.{fields, is_step, is_kind}
 use Rattle.gr_script.specs.Past.{number, setting, steps, is_query as is_query_kind}
 use Rattle.gr_script.specs.Said.{line_of, lines_said}
-use Rattle.gr_script.specs.Steps.{step_of, is_report, is_report_of, is_hear, is_sweep, is_join_of, is_query, is_open}
+use Rattle.gr_script.specs.Steps.{step_of, is_report, is_report_of, is_sweep, is_join_of, is_join_from, is_query, is_open, departs}
 use Rattle.gr_script.proofs.Contents.{Contents, items_of}
-use Rattle.gr_script.proofs.Follows.{AllFollow}
+use Rattle.gr_script.proofs.Follows.{Follows, AllFollow}
+
+abbrev pub is_hear : Line → Bool
+is_hear (line.Hear by of number) = true
+is_hear _ = false
+
+abbrev pub is_depart_of : ℕ → Line → Bool
+is_depart_of member l = option_map_or (λ of. of == member) (departs l) false
 
 -- what a line counts for, of a client's steps, of a member's reports and joins, and in all
 pub record Marks : Type 0 where
@@ -31,6 +38,9 @@ pub record Marks : Type 0 where
   pub hear : Bool
   pub sweep : Bool
   pub join_of : Bool
+  pub join_from : Bool
+  pub depart : Bool
+  pub depart_of : Bool
   pub query : Bool
   pub opened : Bool
 
@@ -42,6 +52,9 @@ line_marks n l = record {
   hear = is_hear l;
   sweep = is_sweep l;
   join_of = is_join_of n l;
+  join_from = is_join_from n l;
+  depart = is_some (departs l);
+  depart_of = is_depart_of n l;
   query = is_query l;
   opened = is_open l;
 }
@@ -54,6 +67,9 @@ form_marks n form items = record {
   hear = is_kind kind.Hear form;
   sweep = is_kind kind.Sweep form;
   join_of = is_kind kind.Join form && eqb (number 0 items) n;
+  join_from = is_kind kind.Join form && eqb (number 1 items) n;
+  depart = is_kind kind.Depart form;
+  depart_of = is_kind kind.Depart form && eqb (number 0 items) n;
   query = is_query_kind form;
   opened = is_kind kind.Open form;
 }
@@ -66,14 +82,17 @@ step_marks own queries opens = record {
   hear = false;
   sweep = false;
   join_of = false;
+  join_from = false;
+  depart = false;
+  depart_of = false;
   query = queries;
   opened = opens;
 }
 
-abbrev no_marks : Marks
+abbrev pub no_marks : Marks
 no_marks = step_marks false false false
 
-abbrev said_marks : ℕ → Option Line → Marks
+abbrev pub said_marks : ℕ → Option Line → Marks
 said_marks n l = option_map_or (line_marks n) l no_marks
 
 abbrev pub line_by : List Saying → LineKind → List Item → Option Line
@@ -123,17 +142,20 @@ line_more p n None lines none =
     omega (arith, zero)
 line_more p n (Some l) lines none = sum_by-cons (λ (l : Line). one_if (p (line_marks n l))) l lines
 
+-- What a line that was read says counts as its kind does.
+pub says_its_kind : (n : ℕ) (past : List Saying) (saying : Saying) → Follows past saying.kind saying.items
+    → said_marks n (line_of past saying) ≡ form_marks n saying.kind saying.items
+says_its_kind n past saying first =
+    subst (λ (is : List Item). said_marks n (line_by past saying.kind is) ≡ form_marks n saying.kind is) first.items_are
+    (same_marks n past (setting past) saying.kind first.held)
+
 -- ---- all lines
 
 pub tallied : (p : Marks → Bool) (n : ℕ) (past : List Saying) → p no_marks ≡ false → AllFollow past
     → count_by (λ l. p (line_marks n l)) (lines_said past) ≡ count_by (λ s. p (form_marks n s.kind s.items)) past
 tallied p n [] none all = refl
 tallied p n (saying ∷ past) none all =
-    let first = all.0 in
-    let same : said_marks n (line_of past saying) ≡ form_marks n saying.kind saying.items =
-    subst (λ (is : List Item). said_marks n (line_by past saying.kind is) ≡ form_marks n saying.kind is) first.items_are
-    (same_marks n past (setting past) saying.kind first.held)
-    in
+    let same = says_its_kind n past saying all.0 in
     let one : one_if (p (said_marks n (line_of past saying))) ≡ one_if (p (form_marks n saying.kind saying.items)) =
     ap (λ (m : Marks). one_if (p m)) same in
     let rest = tallied p n past none all.1 in

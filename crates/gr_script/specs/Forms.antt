@@ -3,8 +3,8 @@ use Rattle.std.specs.Prelude.{ℕ, List, [], ◌∷◌, Bool, true, false, Optio
 use Rattle.std.specs.List.{find}
 use Rattle.gr_script.specs.declared.forms.LineKind.{LineKind}
 use Rattle.gr_script.specs.declared.forms.LineKind.TheVariants.{Georep, Region, Members, Shards, Inbox, Trouble, Floor, Client, Get, Put}
-use Rattle.gr_script.specs.declared.forms.LineKind.TheVariants.{PutIfAbsent, Replace, ReplaceIf, Destroy, Remove, Invalidate, Peek, Open, Stop, Close}
-use Rattle.gr_script.specs.declared.forms.LineKind.TheVariants.{Fetch, Deliver, Report, Hear, Sweep, Join}
+use Rattle.gr_script.specs.declared.forms.LineKind.TheVariants.{PutIfAbsent, Replace, ReplaceIf, Destroy, Remove, Invalidate, Peek}
+use Rattle.gr_script.specs.declared.forms.LineKind.TheVariants.{Open, Stop, Close, Fetch, Deliver, Report, Hear, Sweep, Join, Depart}
 use Rattle.gr_script.specs.declared.forms.FieldKind.{FieldKind}
 use Rattle.gr_script.specs.declared.forms.FieldKind.TheVariants as field
 use Rattle.gr_script.specs.Limits.{most_members, most_shards, most_inbox, most_trouble, most_clients, most_moment}
@@ -37,6 +37,7 @@ word Report = codes "report"
 word Hear = codes "hear"
 word Sweep = codes "sweep"
 word Join = codes "join"
+word Depart = codes "depart"
 
 -- the fields of the line
 abbrev pub fields : LineKind → List FieldKind
@@ -66,6 +67,7 @@ fields Report = field.Word ∷ field.Member ∷ []
 fields Hear = field.Word ∷ field.Member ∷ field.Member ∷ field.Ordinal ∷ []
 fields Sweep = field.Word ∷ field.Member ∷ (field.Number 0 most_moment) ∷ []
 fields Join = field.Word ∷ field.Member ∷ field.Member ∷ []
+fields Depart = field.Word ∷ field.Member ∷ []
 
 -- which of the kinds it is, counted from 0
 abbrev pub place : LineKind → ℕ
@@ -95,6 +97,7 @@ place Report = 22
 place Hear = 23
 place Sweep = 24
 place Join = 25
+place Depart = 26
 
 -- A line of a greater rank stands behind one of a lesser.
 abbrev pub rank : LineKind → ℕ
@@ -109,7 +112,7 @@ step_kinds =
 abbrev pub other_kinds : List LineKind
 other_kinds =
     Georep ∷ Region ∷ Members ∷ Shards ∷ Inbox ∷ Trouble ∷ Floor
-    ∷ Client ∷ Deliver ∷ Report ∷ Hear ∷ Sweep ∷ Join ∷ []
+    ∷ Client ∷ Deliver ∷ Report ∷ Hear ∷ Sweep ∷ Join ∷ Depart ∷ []
 
 -- the first of these kinds whose word this is
 abbrev pub kind_of : List LineKind → List ℕ → Option LineKind

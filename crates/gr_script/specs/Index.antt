@@ -5,30 +5,30 @@ use Rattle.gr_script.specs.declared.items.Setting.{Setting}
 use Rattle.gr_script.specs.declared.past.Counted.{Counted}
 use Rattle.gr_script.specs.declared.past.Sizes.{Sizes}
 use Rattle.gr_script.specs.declared.saying.Saying.{Saying}
+use Rattle.gr_script.specs.declared.tally.Tallies.{Tallies}
 use Rattle.gr_script.specs.Limits.{most_lines}
-use Rattle.gr_script.specs.Past.{setting, founders, sizes, homes, stage, count_of, queries, steps, reports, joins}
-use Rattle.gr_script.specs.Tallies.{count_in, Counts}
+use Rattle.gr_script.specs.Past.{setting, founders, sizes, homes, stage, count_of, queries, hears}
+use Rattle.gr_script.specs.Tallies.{AreTallied}
 
 -- how many lines of some kinds there are
 abbrev pub counted : List Saying → Counted
 counted past = record {
   reports = count_of kind.Report past;
-  hears = count_of kind.Hear past;
+  hears = hears past;
   sweeps = count_of kind.Sweep past;
   opens = count_of kind.Open past;
   queries = queries past;
+  departs = count_of kind.Depart past;
 }
 
 -- What is kept is what the earlier lines say.
 pub record IsIndex (stage_now : ℕ) (held : Setting) (founders_now : ℕ) (sizes_now : Sizes) (homes_now : List ℕ)
-    (step_counts report_counts join_counts : Counts) (lines : Counted) (past : List Saying) : Type 0 where
+    (tallies : Tallies) (lines : Counted) (past : List Saying) : Type 0 where
   pub staged : stage_now ≡ stage past
   pub set : held ≡ setting past
   pub founded : founders_now ≡ founders past
   pub sized : sizes_now ≡ sizes past
   pub homed : homes_now ≡ homes past
-  pub stepped : (client : ℕ) → count_in step_counts client ≡ steps client past
-  pub reported : (member : ℕ) → count_in report_counts member ≡ reports member past
-  pub joined : (member : ℕ) → count_in join_counts member ≡ joins member past
+  pub tallied : AreTallied tallies past
   pub counts : lines ≡ counted past
   pub few : length past ≤ most_lines

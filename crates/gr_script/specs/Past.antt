@@ -104,6 +104,22 @@ reports member past = count_at (is_kind kind.Report) member past
 abbrev pub joins : ℕ → List Saying → ℕ
 joins member past = count_at (is_kind kind.Join) member past
 
+abbrev pub departs : ℕ → List Saying → ℕ
+departs member past = count_at (is_kind kind.Depart) member past
+
+-- how often a member gives a joiner its image
+abbrev pub gifts : ℕ → List Saying → ℕ
+gifts provider past = count_by (λ line. is_kind kind.Join line.kind && number 1 line.items == provider) past
+
+-- how many reports are heard on a line of this kind, behind these: at a sweep one of each member that departed
+abbrev pub heard_on : List Saying → LineKind → ℕ
+heard_on past form =
+    if is_kind kind.Hear form then 1 else (if is_kind kind.Sweep form then count_of kind.Depart past else 0)
+
+abbrev pub hears : List Saying → ℕ
+hears [] = 0
+hears (line ∷ past) = heard_on past line.kind + hears past
+
 -- ---- where a line may stand
 
 -- The lines of the heading stand once each, the others as often as one likes.

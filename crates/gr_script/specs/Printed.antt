@@ -15,7 +15,7 @@ use Rattle.gr_script.specs.declared.items.Item.TheVariants as item
 use Rattle.gr_script.specs.declared.line.Act.{Act}
 use Rattle.gr_script.specs.declared.line.Act.TheVariants.{Call, Query, Peek}
 use Rattle.gr_script.specs.declared.line.Line.{Line}
-use Rattle.gr_script.specs.declared.line.Line.TheVariants.{Step, Deliver, Report, Hear, Sweep, Join}
+use Rattle.gr_script.specs.declared.line.Line.TheVariants.{Step, Deliver, Report, Hear, Sweep, Join, Depart}
 use Rattle.gr_script.specs.declared.saying.Saying.{Saying}
 use Rattle.gr_script.specs.Printing.{saying_text, text_of_sayings}
 use Rattle.gr_script.specs.Rules.{Heading}
@@ -59,6 +59,7 @@ saying_in (Report member) = other_saying kind.Report (item.Member member ∷ [])
 saying_in (Hear by of number) = other_saying kind.Hear (item.Member by ∷ item.Member of ∷ item.Ordinal number ∷ [])
 saying_in (Sweep member moment) = other_saying kind.Sweep (item.Member member ∷ item.Number moment ∷ [])
 saying_in (Join member from) = other_saying kind.Join (item.Member member ∷ item.Member from ∷ [])
+saying_in (Depart member) = other_saying kind.Depart (item.Member member ∷ [])
 
 -- with the line feed that ends it
 unfoldable pub line_text : Line → List ℕ

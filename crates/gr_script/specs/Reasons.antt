@@ -2,7 +2,7 @@
 use Rattle.std.specs.Prelude.{ℕ, List, codes}
 use Rattle.gr_script.specs.declared.reason.Reason.{Reason}
 use Rattle.gr_script.specs.declared.reason.Reason.TheVariants.{Utf8, Header, Word, Fields, Number, Range, Name, Key, Value, Query, Region}
-use Rattle.gr_script.specs.declared.reason.Reason.TheVariants.{Client, Order, Later, Join, Itself, Count, NotInRun}
+use Rattle.gr_script.specs.declared.reason.Reason.TheVariants.{Client, Order, Later, Join, Itself, Count, NotInRun, Gone, Provider}
 
 abbrev pub number_of : Reason → ℕ
 number_of Utf8 = 1
@@ -23,6 +23,8 @@ number_of Join = 15
 number_of Itself = 16
 number_of Count = 17
 number_of NotInRun = 18
+number_of Gone = 19
+number_of Provider = 20
 
 abbrev pub name_of : Reason → List ℕ
 name_of Utf8 = codes "Utf8"
@@ -43,3 +45,5 @@ name_of Join = codes "Join"
 name_of Itself = codes "Self"
 name_of Count = codes "Count"
 name_of NotInRun = codes "NotInRun"
+name_of Gone = codes "Gone"
+name_of Provider = codes "Provider"

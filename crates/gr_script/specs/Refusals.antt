@@ -7,14 +7,16 @@ use Rattle.gr_script.specs.declared.forms.LineKind.TheVariants as kind
 use Rattle.gr_script.specs.declared.items.Item.{Item}
 use Rattle.gr_script.specs.declared.saying.Saying.{Saying}
 use Rattle.gr_script.specs.declared.reason.Reason.{Reason}
-use Rattle.gr_script.specs.declared.reason.Reason.TheVariants.{Header, Word, Fields, Range, Order, Later, Join, Itself, Count, NotInRun}
+use Rattle.gr_script.specs.declared.reason.Reason.TheVariants.{Header, Word, Fields, Range, Order, Later, Join, Itself}
+use Rattle.gr_script.specs.declared.reason.Reason.TheVariants.{Count, NotInRun, Gone, Provider}
 use Rattle.gr_script.specs.Cuts.{text_said, is_skipped}
 use Rattle.gr_script.specs.Fields.{first, fits, form_of}
 use Rattle.gr_script.specs.Forms.{word, fields, rank, is_kind}
 use Rattle.gr_script.specs.Halts.{◌>>=◌, unless}
 use Rattle.gr_script.specs.Limits.{most_reports, most_hears, most_sweeps, most_opens, most_queries}
 use Rattle.gr_script.specs.Items.{text_at, items_at}
-use Rattle.gr_script.specs.Past.{number, founders, home, clients, setting, count_of, queries, steps, reports, joins, stage}
+use Rattle.gr_script.specs.Past.{number, founders, home, clients, setting, count_of, queries, steps, reports, joins, departs, gifts, hears}
+use Rattle.gr_script.specs.Past.{stage}
 
 -- ---- a line of the heading that is due
 
@@ -44,6 +46,14 @@ is_full most count = nat_le most count
 abbrev pub is_no_join : ℕ → ℕ → List Saying → Bool
 is_no_join member provider past = nat_le member (founders past) || not (joins member past == 0) || nat_lt (founders past) provider
 
+-- The member departed on an earlier line.
+abbrev pub is_gone : ℕ → List Saying → Bool
+is_gone member past = not (departs member past == 0)
+
+-- what a step on a query may still be
+abbrev pub query_tests : List Saying → Bool → List Item → List (Bool × Reason)
+query_tests past is_full items = (is_gone (home (number 0 items) past) past, Gone) ∷ (is_full, Count) ∷ []
+
 -- what a line with good fields may still be, and the reason against it, in order
 abbrev pub tests : List Saying → LineKind → List Item → List (Bool × Reason)
 tests past kind.Members items = (nat_lt (number 0 items) (number 1 items), Range) ∷ []
@@ -51,20 +61,35 @@ tests past kind.Client items = (not (number 0 items == clients past + 1), Order)
 tests past kind.Deliver items =
     (is_missing (number 2 items) (steps (number 1 items) past), Later)
     ∷ (number 0 items == home (number 1 items) past, Itself)
+    ∷ (is_gone (number 0 items) past, Gone)
     ∷ []
 tests past kind.Hear items =
     (is_missing (number 2 items) (reports (number 1 items) past), Later)
     ∷ (number 0 items == number 1 items, Itself)
-    ∷ (is_full most_hears (count_of kind.Hear past), Count)
+    ∷ (is_gone (number 0 items) past, Gone)
+    ∷ (is_full most_hears (hears past), Count)
     ∷ []
-tests past kind.Join items = (is_no_join (number 0 items) (number 1 items) past, Join) ∷ []
-tests past kind.Report items = (is_full most_reports (count_of kind.Report past), Count) ∷ []
-tests past kind.Sweep items = (is_full most_sweeps (count_of kind.Sweep past), Count) ∷ []
-tests past kind.Open items = (is_full most_opens (count_of kind.Open past) || is_full most_queries (queries past), Count) ∷ []
-tests past kind.Stop items = (is_full most_queries (queries past), Count) ∷ []
-tests past kind.Close items = (is_full most_queries (queries past), Count) ∷ []
-tests past kind.Fetch items = (is_full most_queries (queries past), Count) ∷ []
-tests past _ items = []
+tests past kind.Join items =
+    (is_no_join (number 0 items) (number 1 items) past, Join)
+    ∷ (is_gone (number 0 items) past || is_gone (number 1 items) past, Gone)
+    ∷ []
+tests past kind.Report items = (is_gone (number 0 items) past, Gone) ∷ (is_full most_reports (count_of kind.Report past), Count) ∷ []
+tests past kind.Sweep items =
+    (is_gone (number 0 items) past, Gone)
+    ∷ (is_full most_sweeps (count_of kind.Sweep past) || nat_lt most_hears (hears past + count_of kind.Depart past), Count)
+    ∷ []
+tests past kind.Depart items = (is_gone (number 0 items) past, Gone) ∷ (not (gifts (number 0 items) past == 0), Provider) ∷ []
+tests past kind.Open items = query_tests past (is_full most_opens (count_of kind.Open past) || is_full most_queries (queries past)) items
+tests past kind.Stop items = query_tests past (is_full most_queries (queries past)) items
+tests past kind.Close items = query_tests past (is_full most_queries (queries past)) items
+tests past kind.Fetch items = query_tests past (is_full most_queries (queries past)) items
+tests past kind.Georep items = []
+tests past kind.Region items = []
+tests past kind.Shards items = []
+tests past kind.Inbox items = []
+tests past kind.Trouble items = []
+tests past kind.Floor items = []
+tests past _ items = (is_gone (home (number 0 items) past) past, Gone) ∷ []
 
 -- the reason of the first test that holds
 abbrev pub refusal : List (Bool × Reason) → Option Reason
@@ -77,9 +102,9 @@ unless_refused (Some why) x = Err why
 
 -- ---- a line
 
--- Deliveries and hearings stand in no run.
+-- Deliveries, hearings and departures stand in no run.
 abbrev pub is_replayed : LineKind → Bool
-is_replayed form = is_kind kind.Deliver form || is_kind kind.Hear form
+is_replayed form = is_kind kind.Deliver form || is_kind kind.Hear form || is_kind kind.Depart form
 
 -- which form a line has, at the least rank that it may have now
 abbrev pub form_at : Bool → ℕ → List ℕ → Result LineKind Reason

@@ -11,11 +11,12 @@ use Rattle.gr_history.specs.declared.query_ask.QueryAsk.TheVariants as query
 use Rattle.gr_script.specs.declared.line.Act.{Act}
 use Rattle.gr_script.specs.declared.line.Act.TheVariants.{Call, Query, Peek}
 use Rattle.gr_script.specs.declared.line.Line.{Line}
-use Rattle.gr_script.specs.declared.line.Line.TheVariants.{Step, Deliver, Report, Hear, Sweep, Join}
+use Rattle.gr_script.specs.declared.line.Line.TheVariants.{Step, Deliver, Report, Hear, Sweep, Join, Depart}
 use Rattle.gr_script.specs.Limits.{most_members, most_shards, most_inbox, most_trouble, most_clients, most_reports, most_hears}
 use Rattle.gr_script.specs.Limits.{most_sweeps, most_moment, most_opens, most_queries}
 use Rattle.gr_script.specs.Rests.{IsRest, IsRest-prop}
-use Rattle.gr_script.specs.Steps.{step_count, reports_of, joins_of, opens, queries, reports, hears, sweeps}
+use Rattle.gr_script.specs.Steps.{step_count, reports_of, joins_of, joins_from, opens, queries, reports, hears, sweeps}
+use Rattle.gr_script.specs.Steps.{departed, is_gone}
 
 -- what stands before the lines
 pub record Heading : Type 0 where
@@ -114,17 +115,40 @@ StandsAfter h past (Report member) = IsMember h member × (reports past < most_r
 StandsAfter h past (Hear by of number) =
     IsMember h by × IsMember h of × IsWithin 1 (reports_of of past) number × Differ by of × (hears past < most_hears)
 StandsAfter h past (Sweep member moment) = IsMember h member × (moment ≤ most_moment) × (sweeps past < most_sweeps)
+    × (hears past + length (departed past) ≤ most_hears)
 StandsAfter h past (Join member from) =
     (h.founders < member) × (member ≤ h.members) × IsWithin 1 h.founders from × (joins_of member past ≡ 0)
+StandsAfter h past (Depart member) = IsMember h member × (joins_from member past ≡ 0)
+
+abbrev pub Stays : List Line → ℕ → Type 0
+Stays past member = is_gone (departed past) member ≡ false
+
+-- A line names no member that departed on an earlier one, but for the maker of what is delivered and of a report that is heard.
+abbrev pub NamesStaying : Heading → List Line → Line → Type 0
+NamesStaying h past (Step client seq act) = Stays past (home_of h client)
+NamesStaying h past (Deliver to client seq) = Stays past to
+NamesStaying h past (Report member) = Stays past member
+NamesStaying h past (Hear by of number) = Stays past by
+NamesStaying h past (Sweep member moment) = Stays past member
+NamesStaying h past (Join member from) = Stays past member × Stays past from
+NamesStaying h past (Depart member) = Stays past member
+
+-- So it is of each line behind those before it.
+abbrev pub AllBehind : (List Line → Line → Type 0) → List Line → Type 0
+AllBehind Each [] = Unit {0}
+AllBehind Each (line ∷ past) = Each past line × AllBehind Each past
 
 abbrev pub AllStand : Heading → List Line → Type 0
-AllStand h [] = Unit {0}
-AllStand h (line ∷ past) = StandsAfter h past line × AllStand h past
+AllStand h lines = AllBehind (StandsAfter h) lines
+
+abbrev pub AllNameStaying : Heading → List Line → Type 0
+AllNameStaying h lines = AllBehind (NamesStaying h) lines
 
 -- A script is a heading and lines, each of which may stand where it does.
 pub record IsScript (h : Heading) (lines : List Line) : Type 0 where
   pub heading : IsHeading h
   pub lines_stand : AllStand h (reverse lines)
+  pub names_staying : AllNameStaying h (reverse lines)
 
 AreWithin-prop : (least most : ℕ) (numbers : List ℕ) → IsProp (AreWithin least most numbers)
 AreWithin-prop least most [] = hlevel
@@ -151,11 +175,28 @@ StandsAfter-prop h past (Report member) = hlevel (le_prop, Coded-set, codes)
 StandsAfter-prop h past (Hear by of number) = hlevel (le_prop, Coded-set, codes)
 StandsAfter-prop h past (Sweep member moment) = hlevel (le_prop, Coded-set, codes)
 StandsAfter-prop h past (Join member from) = hlevel (le_prop, Coded-set, codes)
+StandsAfter-prop h past (Depart member) = hlevel (le_prop, Coded-set, codes)
 
-AllStand-prop : (h : Heading) (past : List Line) → IsProp (AllStand h past)
-AllStand-prop h [] = hlevel
-AllStand-prop h (line ∷ past) = hlevel (StandsAfter-prop h past line, AllStand-prop h past)
+AllBehind-prop : (Each : List Line → Line → Type 0) → ((past : List Line) (line : Line) → IsProp (Each past line)) → (past : List Line)
+    → IsProp (AllBehind Each past)
+AllBehind-prop Each one [] = hlevel
+AllBehind-prop Each one (line ∷ past) = hlevel (one past line, AllBehind-prop Each one past)
+
+NamesStaying-prop : (h : Heading) (past : List Line) (line : Line) → IsProp (NamesStaying h past line)
+NamesStaying-prop h past (Step client seq act) = hlevel (Coded-set, codes)
+NamesStaying-prop h past (Deliver to client seq) = hlevel (Coded-set, codes)
+NamesStaying-prop h past (Report member) = hlevel (Coded-set, codes)
+NamesStaying-prop h past (Hear by of number) = hlevel (Coded-set, codes)
+NamesStaying-prop h past (Sweep member moment) = hlevel (Coded-set, codes)
+NamesStaying-prop h past (Join member from) = hlevel (Coded-set, codes)
+NamesStaying-prop h past (Depart member) = hlevel (Coded-set, codes)
 
 -- A script keeps its rules in one way.
 pub IsScript-prop : (h : Heading) (lines : List Line) → IsProp (IsScript h lines)
-IsScript-prop h lines = hlevel (IsHeading-prop h, AllStand-prop h (reverse lines))
+IsScript-prop h lines =
+    hlevel (
+      IsHeading-prop h,
+      AllBehind-prop (StandsAfter h) (StandsAfter-prop h) (reverse lines),
+      AllBehind-prop (NamesStaying h)
+          (NamesStaying-prop h) (reverse lines),
+    )

@@ -80,6 +80,7 @@ other_said kind.Report items = Some (line.Report (number 0 items))
 other_said kind.Hear items = Some (line.Hear (number 0 items) (number 1 items) (number 2 items))
 other_said kind.Sweep items = Some (line.Sweep (number 0 items) (number 1 items))
 other_said kind.Join items = Some (line.Join (number 0 items) (number 1 items))
+other_said kind.Depart items = Some (line.Depart (number 0 items))
 other_said _ items = None
 
 -- the line that is said behind earlier ones; a client's steps are numbered from 1

@@ -30,6 +30,7 @@ pub(crate) enum LineKind {
     Hear,
     Sweep,
     Join,
+    Depart,
 }
 
 /// What a field of a line is.
@@ -76,7 +77,7 @@ const STEP_KINDS: [LineKind; 13] = [
     LineKind::Fetch,
 ];
 
-const OTHER_KINDS: [LineKind; 13] = [
+const OTHER_KINDS: [LineKind; 14] = [
     LineKind::Georep,
     LineKind::Region,
     LineKind::Members,
@@ -90,6 +91,7 @@ const OTHER_KINDS: [LineKind; 13] = [
     LineKind::Hear,
     LineKind::Sweep,
     LineKind::Join,
+    LineKind::Depart,
 ];
 
 impl LineKind {
@@ -124,6 +126,7 @@ impl LineKind {
             LineKind::Hear => b"hear",
             LineKind::Sweep => b"sweep",
             LineKind::Join => b"join",
+            LineKind::Depart => b"depart",
         }
     }
 
@@ -228,6 +231,7 @@ impl LineKind {
                 },
             ],
             LineKind::Join => &[FieldKind::Word, FieldKind::Member, FieldKind::Member],
+            LineKind::Depart => &[FieldKind::Word, FieldKind::Member],
         }
     }
 }
@@ -302,6 +306,7 @@ fn place(kind: LineKind) -> u8
         LineKind::Hear => 23,
         LineKind::Sweep => 24,
         LineKind::Join => 25,
+        LineKind::Depart => 26,
     }
 }
 

@@ -48,6 +48,8 @@ pub enum Line {
     Sweep { member: u8, moment: u64 },
     /// The member joins, and is given an image by a founder.
     Join { member: u8, from: u8 },
+    /// The member departs for good.
+    Depart { member: u8 },
 }
 
 pub type LineList = ItemList<Line>;
@@ -79,6 +81,7 @@ impl Copied for Line {
                 member: *member,
                 from: *from,
             }),
+            Line::Depart { member } => Ok(Line::Depart { member: *member }),
         }
     }
 }

@@ -1,7 +1,8 @@
-ghost use Rattle.std.specs.Prelude.{◌≡◌, ◌+◌, ◌++◌, ◌∷◌, [], ◌<◌, ◌^◌, IfOk, if◌then◌else◌};
+ghost use Rattle.std.specs.Prelude.{◌≡◌, ◌+◌, ◌++◌, ◌∷◌, [], ◌<◌, ◌≤◌, ◌^◌, List, IfOk, if◌then◌else◌};
 ghost use Rattle.gr_script.specs.declared.forms.LineKind.TheVariants as kind;
 ghost use Rattle.gr_script.specs.Forms.{is_kind};
-ghost use Rattle.gr_script.specs.Past.{next_rank, number, key_in, is_query};
+ghost use Rattle.gr_script.specs.declared.saying.Saying.{Saying as ASaying};
+ghost use Rattle.gr_script.specs.Past.{count_of, heard_on, next_rank, number, key_in, is_query};
 
 use crate::forms::{LineKind, is_kind, rank};
 use crate::items::Item;
@@ -74,6 +75,20 @@ pub(crate) fn is_query(kind: LineKind) -> bool
         || is_kind(LineKind::Stop, kind)
         || is_kind(LineKind::Close, kind)
         || is_kind(LineKind::Fetch, kind)
+}
+
+/// How many reports are heard on a line of this kind, behind lines on which so many members departed.
+pub(crate) fn heard_on(form: LineKind, departs: u32) -> u64
+    ensures exact { (past : List ASaying) → departs ≡ count_of kind.Depart past → result ≡ heard_on past form }
+    ensures within { result ≤ departs + 1 }
+{
+    if is_kind(LineKind::Hear, form) {
+        1
+    } else if is_kind(LineKind::Sweep, form) {
+        u64::from(departs)
+    } else {
+        0
+    }
 }
 
 /// One more, where the test holds.

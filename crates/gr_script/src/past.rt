@@ -1,27 +1,27 @@
-ghost use Rattle.std.specs.Prelude.{◌≡◌, ◌<◌, ◌≤◌, ◌+◌, ◌^◌, ℕ, ◌∷◌, List, length, IfOk, OnOk, MatchOption, [], option_copied};
+ghost use Rattle.std.specs.Prelude.{◌≡◌, ◌<◌, ◌≤◌, ◌+◌, ◌^◌, ℕ, ◌∷◌, List, true, length, IfOk, OnOk, MatchOption, [], option_copied};
 ghost use Rattle.std.specs.List.{cons_option};
-ghost use Rattle.gr_script.specs.Tallies.{count_in, CountsOne};
 ghost use Rattle.gr_script.specs.declared.forms.LineKind.TheVariants as kind;
-ghost use Rattle.gr_script.specs.Forms.{is_kind, is_step, rank};
+ghost use Rattle.gr_script.specs.Forms.{is_kind, rank};
 ghost use Rattle.gr_script.specs.Index.{counted};
 ghost use Rattle.gr_script.specs.Plain.{IsPlain};
 ghost use Rattle.gr_script.specs.Printed.{act_saying, saying_in};
 ghost use Rattle.gr_script.specs.Said.{line_of as line_said};
 ghost use Rattle.gr_script.specs.declared.saying.Saying.{Saying};
-ghost use Rattle.gr_script.specs.Past.{stage, region, members, founders, clients, steps, reports, joins};
+ghost use Rattle.gr_script.specs.Past.{stage, region, members, founders, clients, steps, reports, joins, gifts, hears, heard_on};
+ghost use Rattle.gr_script.specs.Refusals.{is_gone};
 ghost use Rattle.gr_script.specs.Past.{homes as homes_of, home, number as number_in, setting, sizes};
 ghost use Rattle.gr_script.specs.Taken.{IsNext, IsTaken, advanced, ahead, lines_taken, said};
 ghost use Rattle.gr_script.specs.Texts.{lines_of};
 ghost use Rattle.gr_script.specs.Limits.{most_lines};
 
 use crate::Line;
-use crate::forms::{LineKind, is_kind, is_step, rank};
+use crate::forms::{LineKind, is_kind, rank};
 use crate::items::Setting;
-use crate::note::{counted, homes_with, is_query, next_rank, region_with, stated_with};
+use crate::note::{counted, heard_on, homes_with, is_query, next_rank, region_with, stated_with};
 use crate::plain::PlainStep;
 use crate::said::line_of;
 use crate::saying::{Saying, number};
-use crate::tally::Counts;
+use crate::tally::Tallies;
 use crate::text::next_line;
 use gr_value::{Copied, ItemList, Key, Memory};
 use std::alloc::Global;
@@ -38,10 +38,12 @@ const LAST_RANK: u8 = 8;
 #[derive(Clone, Copy)]
 pub(crate) struct Counted {
     pub(crate) reports: u32,
-    pub(crate) hears: u32,
+    /// Reports that are heard, closing ones among them.
+    pub(crate) hears: u64,
     pub(crate) sweeps: u32,
     pub(crate) opens: u32,
     pub(crate) queries: u32,
+    pub(crate) departs: u32,
 }
 
 /// Numbers of the heading that no line is compared with.
@@ -67,9 +69,7 @@ pub(crate) struct Past<'a> {
     founders: u128,
     sizes: Sizes,
     homes: ItemList<u128>,
-    steps: Counts,
-    reports: Counts,
-    joins: Counts,
+    tallies: Tallies,
     counted: Counted,
 }
 
@@ -91,8 +91,8 @@ impl<'a> Model for Past<'a> {
 
     ghost view = { λ past. record { runs = past.runs; text = past.text.now; count = past.count } };
 
-    ghost invariant = { λ past. IsIndex past.stage past.setting past.founders past.sizes past.homes past.steps past.reports
-        past.joins past.counted (said (record { runs = past.runs; text = past.text.now; count = past.count }))
+    ghost invariant = { λ past. IsIndex past.stage past.setting past.founders past.sizes past.homes past.tallies past.counted
+        (said (record { runs = past.runs; text = past.text.now; count = past.count }))
         × IsTaken (record { runs = past.runs; text = past.text.now; count = past.count })
         × (ahead (record { runs = past.runs; text = past.text.now; count = past.count }) ≡ lines_of past.rest.now) };
 }
@@ -114,6 +114,7 @@ impl<'a> Past<'a> {
             sweeps: 0,
             opens: 0,
             queries: 0,
+            departs: 0,
         };
         let sizes = Sizes {
             shards: 0,
@@ -131,9 +132,7 @@ impl<'a> Past<'a> {
             founders: 0,
             sizes,
             homes: ItemList::new(alloc)?,
-            steps: Counts::new(),
-            reports: Counts::new(),
-            joins: Counts::new(),
+            tallies: Tallies::new(),
             counted,
         })
     }
@@ -182,19 +181,33 @@ impl<'a> Past<'a> {
     pub(crate) fn steps(&self, client: u128) -> u32
         ensures { result ≡ steps client (said self.now) }
     {
-        self.steps.of(client)
+        self.tallies.steps.of(client)
     }
 
     pub(crate) fn reports(&self, member: u128) -> u32
         ensures { result ≡ reports member (said self.now) }
     {
-        self.reports.of(member)
+        self.tallies.reports.of(member)
     }
 
     pub(crate) fn joins(&self, member: u128) -> u32
         ensures { result ≡ joins member (said self.now) }
     {
-        self.joins.of(member)
+        self.tallies.joins.of(member)
+    }
+
+    /// How often the member gives a joiner its image.
+    pub(crate) fn gifts(&self, provider: u128) -> u32
+        ensures { result ≡ gifts provider (said self.now) }
+    {
+        self.tallies.gifts.of(provider)
+    }
+
+    /// Whether the member departed.
+    pub(crate) fn is_gone(&self, member: u128) -> bool
+        ensures { result ≡ is_gone member (said self.now) }
+    {
+        self.tallies.departs.of(member) != 0
     }
 
     pub(crate) fn counted(&self) -> Counted
@@ -293,10 +306,11 @@ impl<'a> Past<'a> {
         ensures line { lines_taken self.new ≡ result ∷ lines_taken self.old }
     {
         let kind = saying.kind;
-        let first = number(0, saying.items.as_slice());
-        let seq = self.steps.of(first) + 1;
+        let items = saying.items.as_slice();
+        let (first, second) = (number(0, items), number(1, items));
+        let seq = self.tallies.steps.of(first) + 1;
         let line = line_of(seq, saying).unwrap();
-        self.put(kind, first, after);
+        self.put(kind, first, second, after);
         line
     }
 
@@ -310,28 +324,24 @@ impl<'a> Past<'a> {
     {
         let PlainStep { kind, client, act } = step;
         let first = u128::from(client);
-        let seq = self.steps.of(first) + 1;
-        self.put(kind, first, after);
+        let seq = self.tallies.steps.of(first) + 1;
+        self.put(kind, first, 0, after);
         Line::Step { client, seq, act }
     }
 
-    // Takes in the next line, which has this kind and this number first, behind the heading.
+    // Takes in the next line, which has this kind and this number first, behind the heading. The second number
+    // is that of the member that a joiner gets its image from.
     #[inline(always)]
-    fn put(&mut self, kind: LineKind, first: u128, after: &'a [u8])
-        requires late { 8 ≤ rank kind }
+    fn put(&mut self, form: LineKind, first: u128, second: u128, after: &'a [u8])
+        requires late { 8 ≤ rank form }
         requires narrow { first < 2 ^ 8 }
-        requires next { (saying : Saying) × (kind ≡ saying.kind) × (first ≡ number_in 0 saying.items)
-            × IsNext self.old (saying ∷ said self.old) after.now }
+        requires joined { is_kind kind.Join form ≡ true → second < 2 ^ 8 }
+        requires next { (saying : Saying) × (form ≡ saying.kind) × (first ≡ number_in 0 saying.items)
+            × (is_kind kind.Join saying.kind ≡ true → second ≡ number_in 1 saying.items) × IsNext self.old (saying ∷ said self.old) after.now }
         ensures { self.new ≡ advanced self.old }
     {
-        let counted = counted_with(kind, self.counted);
-        count_line(
-            kind,
-            first,
-            &mut self.steps,
-            &mut self.reports,
-            &mut self.joins,
-        );
+        let counted = counted_with(form, self.counted);
+        self.tallies.count_line(form, first, second);
         self.stage = LAST_RANK;
         self.counted = counted;
         self.rest = after;
@@ -360,36 +370,9 @@ impl<'a> Past<'a> {
             founders,
             sizes,
             homes,
-            steps: self.steps,
-            reports: self.reports,
-            joins: self.joins,
+            tallies: self.tallies,
             counted,
         })
-    }
-}
-
-// Counts a line of this kind at its first number.
-fn count_line(
-    form: LineKind,
-    first: u128,
-    steps: &mut Counts,
-    reports: &mut Counts,
-    joins: &mut Counts,
-)
-    requires narrow { first < 2 ^ 8 }
-    requires steps { count_in steps.old first + 1 < 2 ^ 32 }
-    requires reports { count_in reports.old first + 1 < 2 ^ 32 }
-    requires joins { count_in joins.old first + 1 < 2 ^ 32 }
-    ensures steps { CountsOne (is_step form) first steps.old steps.new }
-    ensures reports { CountsOne (is_kind kind.Report form) first reports.old reports.new }
-    ensures joins { CountsOne (is_kind kind.Join form) first joins.old joins.new }
-{
-    if is_step(form) {
-        steps.count_up(first);
-    } else if is_kind(LineKind::Report, form) {
-        reports.count_up(first);
-    } else if is_kind(LineKind::Join, form) {
-        joins.count_up(first);
     }
 }
 
@@ -410,16 +393,24 @@ fn setting_with(
     })
 }
 
+fn hears_with(kind: LineKind, counts: Counted) -> u64
+    requires { (past : List Saying) × (counts ≡ counted past) × (length past < most_lines) }
+    ensures { (past : List Saying) → counts ≡ counted past → result ≡ heard_on past kind + hears past }
+{
+    heard_on(kind, counts.departs) + counts.hears
+}
+
 fn counted_with(kind: LineKind, counts: Counted) -> Counted
     requires { (past : List Saying) × (counts ≡ counted past) × (length past < most_lines) }
     ensures { (past : List Saying) → (line : Saying) → counts ≡ counted past → kind ≡ line.kind → result ≡ counted (line ∷ past) }
 {
     Counted {
         reports: counted(is_kind(LineKind::Report, kind), counts.reports),
-        hears: counted(is_kind(LineKind::Hear, kind), counts.hears),
+        hears: hears_with(kind, counts),
         sweeps: counted(is_kind(LineKind::Sweep, kind), counts.sweeps),
         opens: counted(is_kind(LineKind::Open, kind), counts.opens),
         queries: counted(is_query(kind), counts.queries),
+        departs: counted(is_kind(LineKind::Depart, kind), counts.departs),
     }
 }
 

@@ -91,6 +91,16 @@ fn joined_kind_in(text: &[u8]) -> Option<(LineKind, &[u8])>
     }
 }
 
+// The kind whose word, a longer one, stands in front, and what stands behind the space that follows it.
+fn longer_kind_in(text: &[u8]) -> Option<(LineKind, &[u8])>
+    ensures { IfSome result (λ parts. text.now ≡ word parts.0 ++ 0x20 ∷ parts.1.now) }
+{
+    match behind_front(b"invalidate ", text) {
+        Some(rest) => Some((LineKind::Invalidate, rest)),
+        None => joined_kind_in(text),
+    }
+}
+
 // The kind whose word stands in front, and what stands behind the space that follows it. To look at
 // the bytes themselves costs less than to compare with each word.
 fn kind_in(text: &[u8]) -> Option<(LineKind, &[u8])>
@@ -107,21 +117,7 @@ fn kind_in(text: &[u8]) -> Option<(LineKind, &[u8])>
         [b'd', b'e', b's', b't', b'r', b'o', b'y', b' ', rest @ ..] => {
             Some((LineKind::Destroy, rest))
         }
-        [
-            b'i',
-            b'n',
-            b'v',
-            b'a',
-            b'l',
-            b'i',
-            b'd',
-            b'a',
-            b't',
-            b'e',
-            b' ',
-            rest @ ..,
-        ] => { Some((LineKind::Invalidate, rest)) }
-        _ => joined_kind_in(text),
+        _ => longer_kind_in(text),
     }
 }
 

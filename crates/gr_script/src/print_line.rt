@@ -240,6 +240,7 @@ fn put_unended(alloc: Global, line: &Line, out: &mut Vec<u8>) -> Result<(), Memo
             put_other(LineKind::Join, u64::from(*member), out)?;
             put_number_field(u64::from(*from), out)?;
         }
+        Line::Depart { member } => put_other(LineKind::Depart, u64::from(*member), out)?,
     }
     Ok(())
 }

@@ -30,6 +30,10 @@ pub enum Reason {
     Itself,
     Count,
     NotInRun,
+    /// It names a member that departed.
+    Gone,
+    /// The member that would depart gave a joiner its image.
+    Provider,
 }
 
 impl Reason {
@@ -55,6 +59,8 @@ impl Reason {
             Reason::Itself => 16,
             Reason::Count => 17,
             Reason::NotInRun => 18,
+            Reason::Gone => 19,
+            Reason::Provider => 20,
         }
     }
 
@@ -80,6 +86,8 @@ impl Reason {
             Reason::Itself => "Self",
             Reason::Count => "Count",
             Reason::NotInRun => "NotInRun",
+            Reason::Gone => "Gone",
+            Reason::Provider => "Provider",
         }
     }
 }

@@ -1,10 +1,11 @@
-ghost use Rattle.std.specs.Prelude.{◌≡◌, ◌<◌, ◌∷◌, [], if◌then◌else◌, Some, None};
+ghost use Rattle.std.specs.Prelude.{◌≡◌, ◌<◌, ◌+◌, ◌==◌, ◌||◌, ◌∷◌, [], nat_lt, not};
 ghost use Rattle.std.specs.Bool.{OnTrue};
 ghost use Rattle.gr_script.specs.declared.forms.LineKind.TheVariants as kind;
-ghost use Rattle.gr_script.specs.declared.reason.Reason.TheVariants.{Later, Itself, Count};
+ghost use Rattle.gr_script.specs.Limits.{most_hears, most_sweeps};
+ghost use Rattle.gr_script.specs.Past.{count_of, gifts, hears, home, number, reports, steps};
 ghost use Rattle.gr_script.specs.Halts.{Yields};
-ghost use Rattle.gr_script.specs.Refusals.{is_begun, lacks, is_missing, is_full, is_no_join, is_replayed, tests, refusal, form_at};
-ghost use Rattle.gr_script.specs.Refusals.{saying_at};
+ghost use Rattle.gr_script.specs.Refusals.{is_begun, lacks, is_missing, is_full, is_no_join, is_gone, is_replayed, query_tests, tests};
+ghost use Rattle.gr_script.specs.Refusals.{refusal, form_at, saying_at};
 ghost use Rattle.gr_script.specs.Taken.{said};
 
 use crate::forms::{LineKind, is_kind, rank};
@@ -27,7 +28,7 @@ const REQUIRED: [LineKind; 4] = [
 /// The most lines of some kinds.
 const MOST_REPORTS: u32 = 200;
 
-const MOST_HEARS: u32 = 1400;
+const MOST_HEARS: u64 = 1400;
 
 const MOST_SWEEPS: u32 = 10000;
 
@@ -77,63 +78,152 @@ fn is_no_join(past: &Past, member: u128, provider: u128) -> bool
 
 // The reason, where the test holds.
 fn reason_where(test: bool, why: Reason) -> Option<Reason>
-    ensures { result ≡ (if test then Some why else None) }
+    ensures { result ≡ refusal ((test, why) ∷ []) }
 {
     if test { Some(why) } else { None }
+}
+
+// The reason of the first test that holds, of these two.
+fn reason_of(test: bool, why: Reason, other: bool, then: Reason) -> Option<Reason>
+    ensures { result ≡ refusal ((test, why) ∷ (other, then) ∷ []) }
+{
+    if test {
+        Some(why)
+    } else {
+        reason_where(other, then)
+    }
+}
+
+// Whether the member departed that the line names at this place among its numbers.
+fn names_gone(past: &Past, place: usize, items: &[Item]) -> bool
+    ensures { result ≡ is_gone (number place items.now) (said past.now) }
+{
+    past.is_gone(number(place, items))
+}
+
+// Whether the client's member departed.
+fn is_home_gone(past: &Past, items: &[Item]) -> bool
+    ensures { result ≡ is_gone (home (number 0 items.now) (said past.now)) (said past.now) }
+{
+    past.is_gone(past.home(number(0, items)))
+}
+
+// Whether the step that is delivered is one of the member's own.
+fn is_own_step(past: &Past, items: &[Item]) -> bool
+    ensures { result ≡ (number 0 items.now == home (number 1 items.now) (said past.now)) }
+{
+    number(0, items) == past.home(number(1, items))
+}
+
+fn is_late_step(past: &Past, items: &[Item]) -> bool
+    ensures { result ≡ is_missing (number 2 items.now) (steps (number 1 items.now) (said past.now)) }
+{
+    is_missing(number(2, items), past.steps(number(1, items)))
 }
 
 fn delivery_refusal(past: &Past, items: &[Item]) -> Option<Reason>
     ensures { result ≡ refusal (tests (said past.now) kind.Deliver items.now) }
 {
-    let client = number(1, items);
-    if is_missing(number(2, items), past.steps(client)) {
-        Some(Reason::Later)
-    } else if number(0, items) == past.home(client) {
-        Some(Reason::Itself)
-    } else {
-        None
+    if is_late_step(past, items) {
+        return Some(Reason::Later);
     }
+    let own = is_own_step(past, items);
+    reason_of(
+        own,
+        Reason::Itself,
+        names_gone(past, 0, items),
+        Reason::Gone,
+    )
 }
 
-// The reason of the first test that holds, of these three.
-fn refusal_of(late: bool, own: bool, full: bool) -> Option<Reason>
-    ensures { result ≡ refusal ((late, Later) ∷ (own, Itself) ∷ (full, Count) ∷ []) }
+fn is_late_report(past: &Past, items: &[Item]) -> bool
+    ensures { result ≡ is_missing (number 2 items.now) (reports (number 1 items.now) (said past.now)) }
 {
-    if late {
-        Some(Reason::Later)
-    } else if own {
-        Some(Reason::Itself)
-    } else {
-        reason_where(full, Reason::Count)
-    }
+    is_missing(number(2, items), past.reports(number(1, items)))
+}
+
+// Whether no more reports may be heard.
+fn is_deaf(past: &Past) -> bool
+    ensures { result ≡ is_full most_hears (hears (said past.now)) }
+{
+    MOST_HEARS <= past.counted().hears
 }
 
 fn hearing_refusal(past: &Past, items: &[Item]) -> Option<Reason>
     ensures { result ≡ refusal (tests (said past.now) kind.Hear items.now) }
 {
-    let of = number(1, items);
-    let late = is_missing(number(2, items), past.reports(of));
-    let full = is_full(MOST_HEARS, past.counted().hears);
-    refusal_of(late, number(0, items) == of, full)
+    if is_late_report(past, items) {
+        Some(Reason::Later)
+    } else if number(0, items) == number(1, items) {
+        Some(Reason::Itself)
+    } else {
+        let gone = names_gone(past, 0, items);
+        reason_of(gone, Reason::Gone, is_deaf(past), Reason::Count)
+    }
+}
+
+fn cannot_join(past: &Past, items: &[Item]) -> bool
+    ensures { result ≡ is_no_join (number 0 items.now) (number 1 items.now) (said past.now) }
+{
+    is_no_join(past, number(0, items), number(1, items))
 }
 
 fn joining_refusal(past: &Past, items: &[Item]) -> Option<Reason>
     ensures { result ≡ refusal (tests (said past.now) kind.Join items.now) }
 {
-    let (member, provider) = (number(0, items), number(1, items));
-    if is_no_join(past, member, provider) {
-        Some(Reason::Join)
-    } else {
-        None
-    }
+    let gone = names_gone(past, 0, items) || names_gone(past, 1, items);
+    reason_of(cannot_join(past, items), Reason::Join, gone, Reason::Gone)
+}
+
+// Whether no more sweeps may go through, or no more reports be heard than closing ones at this sweep.
+fn is_swept_out(past: &Past) -> bool
+    ensures { result ≡ (is_full most_sweeps (count_of kind.Sweep (said past.now))
+        || nat_lt most_hears (hears (said past.now) + count_of kind.Depart (said past.now))) }
+{
+    let counted = past.counted();
+    let heard = u128::from(counted.hears) + u128::from(counted.departs);
+    is_full(MOST_SWEEPS, counted.sweeps) || u128::from(MOST_HEARS) < heard
+}
+
+fn sweep_refusal(past: &Past, items: &[Item]) -> Option<Reason>
+    ensures { result ≡ refusal (tests (said past.now) kind.Sweep items.now) }
+{
+    let gone = names_gone(past, 0, items);
+    reason_of(gone, Reason::Gone, is_swept_out(past), Reason::Count)
+}
+
+// Whether the member gave a joiner its image.
+fn has_provided(past: &Past, items: &[Item]) -> bool
+    ensures { result ≡ not (gifts (number 0 items.now) (said past.now) == 0) }
+{
+    past.gifts(number(0, items)) != 0
+}
+
+fn departure_refusal(past: &Past, items: &[Item]) -> Option<Reason>
+    ensures { result ≡ refusal (tests (said past.now) kind.Depart items.now) }
+{
+    let gone = names_gone(past, 0, items);
+    reason_of(
+        gone,
+        Reason::Gone,
+        has_provided(past, items),
+        Reason::Provider,
+    )
+}
+
+fn query_refusal(past: &Past, items: &[Item], full: bool) -> Option<Reason>
+    ensures { result ≡ refusal (query_tests (said past.now) full items.now) }
+{
+    reason_of(is_home_gone(past, items), Reason::Gone, full, Reason::Count)
 }
 
 // The reason against a line with good fields.
-fn refusal(past: &Past, kind: LineKind, items: &[Item]) -> Option<Reason>
-    ensures { result ≡ refusal (tests (said past.now) kind items.now) }
+fn refusal(past: &Past, form: LineKind, items: &[Item]) -> Option<Reason>
+    ensures { result ≡ refusal (tests (said past.now) form items.now) }
 {
     let counted = past.counted();
-    match kind {
+    let asked = is_full(MOST_QUERIES, counted.queries);
+    match form {
         LineKind::Members => reason_where(number(0, items) < number(1, items), Reason::Range),
         LineKind::Client => {
             let client = number(0, items);
@@ -142,23 +232,37 @@ fn refusal(past: &Past, kind: LineKind, items: &[Item]) -> Option<Reason>
         LineKind::Deliver => delivery_refusal(past, items),
         LineKind::Hear => hearing_refusal(past, items),
         LineKind::Join => joining_refusal(past, items),
-        LineKind::Report => reason_where(is_full(MOST_REPORTS, counted.reports), Reason::Count),
-        LineKind::Sweep => reason_where(is_full(MOST_SWEEPS, counted.sweeps), Reason::Count),
-        LineKind::Open => reason_where(
-            is_full(MOST_OPENS, counted.opens) || is_full(MOST_QUERIES, counted.queries),
-            Reason::Count,
-        ),
-        LineKind::Stop | LineKind::Close | LineKind::Fetch => {
-            reason_where(is_full(MOST_QUERIES, counted.queries), Reason::Count)
+        LineKind::Report => {
+            let full = is_full(MOST_REPORTS, counted.reports);
+            reason_of(
+                names_gone(past, 0, items),
+                Reason::Gone,
+                full,
+                Reason::Count,
+            )
         }
-        _ => None,
+        LineKind::Sweep => sweep_refusal(past, items),
+        LineKind::Depart => departure_refusal(past, items),
+        LineKind::Open => {
+            query_refusal(past, items, is_full(MOST_OPENS, counted.opens) || asked)
+        }
+        LineKind::Stop | LineKind::Close | LineKind::Fetch => query_refusal(past, items, asked),
+        LineKind::Georep
+        | LineKind::Region
+        | LineKind::Shards
+        | LineKind::Inbox
+        | LineKind::Trouble
+        | LineKind::Floor => None,
+        _ => reason_where(is_home_gone(past, items), Reason::Gone),
     }
 }
 
 fn is_replayed(kind: LineKind) -> bool
     ensures { result ≡ is_replayed kind }
 {
-    is_kind(LineKind::Deliver, kind) || is_kind(LineKind::Hear, kind)
+    is_kind(LineKind::Deliver, kind)
+        || is_kind(LineKind::Hear, kind)
+        || is_kind(LineKind::Depart, kind)
 }
 
 // Which form a line has, at the least rank that it may have now.

@@ -102,6 +102,9 @@ fn other_said(kind: LineKind, items: &[Item]) -> Option<Line>
             member: number(0, items) as u8,
             from: number(1, items) as u8,
         }),
+        LineKind::Depart => Some(Line::Depart {
+            member: number(0, items) as u8,
+        }),
         _ => None,
     }
 }

@@ -1,8 +1,11 @@
-ghost use Rattle.std.specs.Prelude.{◌≡◌, ◌+◌, ◌∷◌, [], IfOk, IfSome, IfNone, OnOk};
+ghost use Rattle.std.specs.Prelude.{◌≡◌, ◌+◌, ◌∷◌, [], false, IfOk, IfSome, IfNone, OnOk};
+ghost use Rattle.std.specs.Bool.{OnTrue};
 ghost use Rattle.std.specs.List.{cons_option};
 ghost use Rattle.gr_script.specs.Halts.{Yields};
-ghost use Rattle.gr_script.specs.Refusals.{past_with};
+ghost use Rattle.gr_script.specs.Past.{home, setting};
+ghost use Rattle.gr_script.specs.Refusals.{is_gone, past_with};
 ghost use Rattle.gr_script.specs.Sayings.{Gives, ended, end_of};
+ghost use Rattle.gr_script.specs.Suiting.{IsClient};
 ghost use Rattle.gr_script.specs.Taken.{IsStep, advanced, ahead, lines_taken, said};
 ghost use Rattle.gr_script.specs.Texts.{lines_of};
 
@@ -21,6 +24,14 @@ use std::alloc::Global;
 /// How many lines the heading cannot lack.
 const REQUIRED_LINES: u8 = 4;
 
+// Whether a line has stated the client, and its member hasn't departed.
+fn serves(past: &Past, client: u8) -> bool
+    ensures stated { OnTrue result (IsClient (setting (said past.now)) client) }
+    ensures staying { OnTrue result (is_gone (home client (said past.now)) (said past.now) ≡ false) }
+{
+    is_stated(past.setting(), client) && !past.is_gone(past.home(u128::from(client)))
+}
+
 // Takes in the next line, where it is printed for a client's call or peek, and hands it out.
 fn take_step<'a>(
     alloc: Global,
@@ -35,9 +46,7 @@ fn take_step<'a>(
         return Ok(None);
     }
     match step_in(alloc, next.line)? {
-        Some(step) if is_stated(past.setting(), step.client) => {
-            Ok(Some(past.push_step(step, next.after)))
-        }
+        Some(step) if serves(past, step.client) => Ok(Some(past.push_step(step, next.after))),
         _ => Ok(None),
     }
 }

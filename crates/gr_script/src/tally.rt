@@ -1,6 +1,9 @@
 ghost use Rattle.std.specs.Prelude.{◌≡◌, ℕ, ◌+◌, ◌<◌, ◌^◌, true};
-ghost use Rattle.gr_script.specs.Tallies.{count_in, CountsOne};
+ghost use Rattle.gr_script.specs.declared.forms.LineKind.TheVariants as kind;
+ghost use Rattle.gr_script.specs.Forms.{is_kind};
+ghost use Rattle.gr_script.specs.Tallies.{count_in, AreNone, CountsLine, CountsOne, HasRoom};
 
+use crate::forms::{LineKind, is_kind, is_step};
 use std::marker::Model;
 
 /// The numbers of members and clients are below this.
@@ -18,6 +21,51 @@ impl Model for Counts {
     ghost Value = { List ℕ };
 
     ghost view = { λ counts. counts.counts };
+}
+
+/// How many lines of some kinds have each number: steps by their clients, reports and departures by their
+/// members, and joins by the joiner and by the member that gives its image.
+#[derive(Drop)]
+pub(crate) struct Tallies {
+    pub(crate) steps: Counts,
+    pub(crate) reports: Counts,
+    pub(crate) joins: Counts,
+    pub(crate) gifts: Counts,
+    pub(crate) departs: Counts,
+}
+
+impl Tallies {
+    /// Of no lines.
+    pub(crate) fn new() -> Tallies
+        ensures { (n : ℕ) → AreNone n result }
+    {
+        Tallies {
+            steps: Counts::new(),
+            reports: Counts::new(),
+            joins: Counts::new(),
+            gifts: Counts::new(),
+            departs: Counts::new(),
+        }
+    }
+
+    /// Counts a line of this kind at its numbers.
+    pub(crate) fn count_line(&mut self, form: LineKind, first: u128, second: u128)
+        requires first { first < 2 ^ 8 }
+        requires second { is_kind kind.Join form ≡ true → second < 2 ^ 8 }
+        requires room { (n : ℕ) → HasRoom n self.old }
+        ensures { CountsLine form first second self.old self.new }
+    {
+        if is_step(form) {
+            self.steps.count_up(first);
+        } else if is_kind(LineKind::Report, form) {
+            self.reports.count_up(first);
+        } else if is_kind(LineKind::Join, form) {
+            self.joins.count_up(first);
+            self.gifts.count_up(second);
+        } else if is_kind(LineKind::Depart, form) {
+            self.departs.count_up(first);
+        }
+    }
 }
 
 impl Counts {

@@ -10,10 +10,10 @@ use crate::giving::{cause_of, script_from, text_from};
 use crate::handing::{Played, ended, hand_out, report_outcome};
 use crate::words::{Mode, mode_of};
 use crate::{Cause, Outcome};
+use gr_depart::play_text;
 use gr_io::{Sink, Source};
 use gr_script::{Form, print};
 use gr_value::Memory;
-use gr_world::play_text;
 use std::alloc::Global;
 
 // Prints the script that the source has.

@@ -59,7 +59,7 @@ asked_next heading client seq ask n replies reply first now next member is withi
 pub query_plays : (heading : Heading) (old mid new : World) (client seq : ℕ) (ask : QueryAsk) (replies : List QueryReply)
     → IsStated client heading → AreAsked heading client seq ask heading.shards replies old mid
     → new.grid ≡ mid.grid → new.tellings ≡ told_also mid.tellings client (answer.Asked replies) → new.made ≡ mid.made
-    → Plays heading (after heading (Step client seq (act.Query ask))) old new
+    → Plays heading (after heading [] (Step client seq (act.Query ask))) old new
 query_plays heading old mid new client seq ask replies stated asked grid_same tells made_same events world =
     let now = asks_at_each heading client seq ask heading.shards events in
     let left = asked.plays events world in

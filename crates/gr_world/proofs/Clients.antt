@@ -5,30 +5,26 @@ use Rattle.std.specs.Prelude.{Option, Some, None, nat_lt}
 use Rattle.std.proofs.lemmas.Bool.Decides.{nat_tests}
 use Rattle.gr_value.specs.Shard.{shard_of}
 use Rattle.gr_stamp.specs.declared.change.Change.{Change}
-use Rattle.gr_vector.specs.declared.report.Report.{Report}
 use Rattle.gr_history.specs.declared.reply.Reply.{Reply}
-use Rattle.gr_history.specs.declared.image.What.{What}
-use Rattle.gr_history.specs.declared.image.What.TheVariants as what
 use Rattle.gr_history.specs.declared.deed.Deed.TheVariants.{Call, Asked}
 use Rattle.gr_history.specs.declared.query_ask.QueryAsk.{QueryAsk}
 use Rattle.gr_history.specs.declared.query_reply.QueryReply.{QueryReply}
 use Rattle.gr_history.specs.declared.record.Answer.{Answer}
 use Rattle.gr_history.specs.Asks.{key_of}
 use Rattle.gr_history.specs.Made.{made}
-use Rattle.gr_history.specs.Gifts.{own_changes, image_of}
 use Rattle.gr_script.specs.declared.line.Act.TheVariants as act
 use Rattle.gr_script.specs.declared.line.Line.{Line}
-use Rattle.gr_script.specs.declared.line.Line.TheVariants.{Step, Deliver, Hear, Sweep, Join}
+use Rattle.gr_script.specs.declared.line.Line.TheVariants.{Step, Deliver, Hear, Sweep, Join, Depart}
 use Rattle.gr_script.specs.declared.line.Line.TheVariants as line
 use Rattle.gr_script.specs.Rules.{Heading, home_of}
+use Rattle.gr_script.specs.Steps.{departed}
 use Rattle.gr_world.specs.Events.{Event, put_if, history}
 use Rattle.gr_world.specs.Doings.{Doing, Calls, Takes, Gives, Merges, Reports, Hears, Sweeps, Asks}
-use Rattle.gr_world.specs.Named.{made_by, reports, numbered}
 use Rattle.gr_world.specs.Clients.{Asking, OfKey, OfQuery}
-use Rattle.gr_world.specs.Courses.{does, asks_at_each, for_each, delivers, hears, takes_all, gives_unless, what_from, after, course}
+use Rattle.gr_world.specs.Courses.{does, asks_at_each, after, course}
 use Rattle.gr_world.specs.Clients.{add_some, askings, asked_at, asked, Numbered, told}
 use Rattle.gr_world.proofs.Events.{at_put}
-use Rattle.gr_world.proofs.Causes.{each_keeps}
+use Rattle.gr_world.proofs.Walks.{each_keep, IsNoStep, IsOf, rest_keeps}
 use Rattle.gr_world.proofs.Numbers.{number_at, numbers}
 
 -- all but a call and a step on a query
@@ -42,64 +38,24 @@ IsQuiet (Hears report) = Unit {0}
 IsQuiet (Sweeps moment) = Unit {0}
 IsQuiet (Asks client number ask) = ⊥
 
-abbrev pub IsNoStep : Line → Type 0
-IsNoStep (Step client number act) = ⊥
-IsNoStep (Deliver member client number) = Unit {0}
-IsNoStep (line.Report member) = Unit {0}
-IsNoStep (Hear member of number) = Unit {0}
-IsNoStep (Sweep member moment) = Unit {0}
-IsNoStep (Join joiner provider) = Unit {0}
+abbrev pub QuietKeep : Heading → (List Event → Type 0) → Type 0
+QuietKeep heading P = (m s : ℕ) (doing : Doing) (now : List Event) → IsQuiet doing → P now → P (does heading m s doing now)
 
-abbrev pub Keeps : Heading → (List Event → Type 0) → Type 0
-Keeps heading P = (m s : ℕ) (doing : Doing) (now : List Event) → IsQuiet doing → P now → P (does heading m s doing now)
-
-takes_keep : (heading : Heading) (P : List Event → Type 0) → Keeps heading P → (m s : ℕ) (changes : List Change) (now : List Event)
-    → P now → P (takes_all heading m s changes now)
-takes_keep heading P keeps m s [] now h = h
-takes_keep heading P keeps m s (change ∷ rest) now h =
-    takes_keep heading P keeps m s rest (does heading m s (Takes change) now) (keeps m s (Takes change) now tt h)
-
-gives_keep : (heading : Heading) (P : List Event → Type 0) → Keeps heading P
-    → (joiner shard giver : ℕ) (stays : Bool) (gift : What) (now : List Event) → P now
-    → P (gives_unless stays heading joiner shard giver gift now)
-gives_keep heading P keeps joiner shard giver true gift now h = h
-gives_keep heading P keeps joiner shard giver false what.Image now h =
-    keeps joiner shard (Merges (image_of giver heading.floor (history giver shard now)))
-    (does heading giver shard (Gives joiner what.Image) now) tt (keeps giver shard (Gives joiner what.Image) now tt h)
-gives_keep heading P keeps joiner shard giver false what.Own now h =
-    takes_keep heading P keeps joiner shard (own_changes (history giver shard now)) (does heading giver shard (Gives joiner what.Own) now)
-    (keeps giver shard (Gives joiner what.Own) now tt h)
+quiet_of : (at : Line) (m : ℕ) (doing : Doing) → IsOf at m doing → IsQuiet doing
+quiet_of at m (Calls client number ask) of = of
+quiet_of at m (Takes change) of = tt
+quiet_of at m (Gives to what) of = tt
+quiet_of at m (Merges image) of = tt
+quiet_of at m Reports of = tt
+quiet_of at m (Hears report) of = tt
+quiet_of at m (Sweeps moment) of = tt
+quiet_of at m (Asks client number ask) of = of
 
 -- what each deed but a client's keeps, each line but a step keeps
-pub rest_keeps : (heading : Heading) (P : List Event → Type 0) → Keeps heading P → (line : Line) (before : List Event) → IsNoStep line
-    → P before → P (after heading line before)
-rest_keeps heading P keeps (Step client number act) before quiet h = absurd quiet
-rest_keeps heading P keeps (Deliver member client number) before quiet h = at_change (made_by client number before)
-  where
-    at_change : (o : Option Change) → P (delivers heading member o before)
-    at_change None = h
-    at_change (Some change) = keeps member (shard_of change.key heading.shards) (Takes change) before tt h
-rest_keeps heading P keeps (line.Report member) before quiet h =
-    each_keeps (λ n now. P now) heading.shards (λ shard. does heading member shard Reports) before h
-    (λ shard now less k. keeps member shard Reports now tt k)
-rest_keeps heading P keeps (Hear member of number) before quiet h =
-    each_keeps (λ n now. P now) heading.shards
-    (λ shard now. hears heading member shard (numbered number (reports (history of shard now))) now) before h
-    (λ shard now less k. at_report shard now k (numbered number (reports (history of shard now))))
-  where
-    at_report : (shard : ℕ) (now : List Event) → P now → (o : Option Report) → P (hears heading member shard o now)
-    at_report shard now k None = k
-    at_report shard now k (Some report) = keeps member shard (Hears report) now tt k
-rest_keeps heading P keeps (Sweep member moment) before quiet h =
-    each_keeps (λ n now. P now) heading.shards (λ shard. does heading member shard (Sweeps moment)) before h
-    (λ shard now less k. keeps member shard (Sweeps moment) now tt k)
-rest_keeps heading P keeps (Join joiner provider) before quiet h =
-    each_keeps (λ n now. P now) heading.shards
-    (λ shard. for_each heading.members
-    (λ n. gives_unless (suc n == joiner) heading joiner shard (suc n) (what_from (suc n == provider)))) before h
-    (λ shard now less k. each_keeps (λ n mid. P mid) heading.members
-    (λ n. gives_unless (suc n == joiner) heading joiner shard (suc n) (what_from (suc n == provider))) now k
-    (λ n mid within j. gives_keep heading P keeps joiner shard (suc n) (suc n == joiner) (what_from (suc n == provider)) mid j))
+pub quiet_keeps : (heading : Heading) (gone : List ℕ) (P : List Event → Type 0) → QuietKeep heading P → (line : Line) (before : List Event)
+    → IsNoStep line → P before → P (after heading gone line before)
+quiet_keeps heading gone P keeps line before quiet h =
+    rest_keeps heading gone P line (λ m s doing of now k. keeps m s doing now (quiet_of line m doing of) k) quiet before h
 
 quiet_deed : (heading : Heading) (i t m s : ℕ) (doing : Doing) (now : List Event) → IsQuiet doing
     → askings (history i t (does heading m s doing now)) ≡ askings (history i t now)
@@ -118,10 +74,10 @@ quiet_deed heading i t m s (Sweeps moment) now quiet =
     at_put (λ past. askings past ≡ askings (history i t now)) (t == s && i == m) _ (history i t now) refl (λ e. e)
 quiet_deed heading i t m s (Asks client number ask) now quiet = absurd quiet
 
-rest_asks : (heading : Heading) (line : Line) (before : List Event) (i t : ℕ) → IsNoStep line
-    → askings (history i t (after heading line before)) ≡ askings (history i t before)
-rest_asks heading line before i t quiet =
-    rest_keeps heading (λ now. askings (history i t now) ≡ askings (history i t before))
+rest_asks : (heading : Heading) (gone : List ℕ) (line : Line) (before : List Event) (i t : ℕ) → IsNoStep line
+    → askings (history i t (after heading gone line before)) ≡ askings (history i t before)
+rest_asks heading gone line before i t quiet =
+    quiet_keeps heading gone (λ now. askings (history i t now) ≡ askings (history i t before))
     (λ m s doing now not e. quiet_deed heading i t m s doing now not ∙ e) line before quiet refl
 
 abbrev asking_for : ℕ → ℕ → QueryAsk → Asking
@@ -167,9 +123,9 @@ query_asks heading client number ask (suc n) before i t =
         rw p (drop_if (nat_lt t n) false (asking_for client number ask) _ _ lt.1 next)
     at_shard false e b reply next = let s = there t n e in rw s next
 
-line_asks : (heading : Heading) (line : Line) (before : List Event) (i t : ℕ)
-    → askings (history i t (after heading line before)) ≡ add_some (asked_at heading i t line) (askings (history i t before))
-line_asks heading (Step client number (act.Call ask)) before i t =
+line_asks : (heading : Heading) (gone : List ℕ) (line : Line) (before : List Event) (i t : ℕ)
+    → askings (history i t (after heading gone line before)) ≡ add_some (asked_at heading i t line) (askings (history i t before))
+line_asks heading gone (Step client number (act.Call ask)) before i t =
     at_test (t == shard_of (key_of ask) heading.shards && i == home_of heading client) _ _ _
   where
     at_test : (b : Bool) (reply : Reply) (made : Option Change) (to : ℕ)
@@ -178,20 +134,21 @@ line_asks heading (Step client number (act.Call ask)) before i t =
         before))
     at_test true reply made to = refl
     at_test false reply made to = refl
-line_asks heading (Step client number (act.Query ask)) before i t = query_asks heading client number ask heading.shards before i t
-line_asks heading (Step client number (act.Peek key)) before i t = refl
-line_asks heading (Deliver member client number) before i t = rest_asks heading (Deliver member client number) before i t tt
-line_asks heading (line.Report member) before i t = rest_asks heading (line.Report member) before i t tt
-line_asks heading (Hear member of number) before i t = rest_asks heading (Hear member of number) before i t tt
-line_asks heading (Sweep member moment) before i t = rest_asks heading (Sweep member moment) before i t tt
-line_asks heading (Join joiner provider) before i t = rest_asks heading (Join joiner provider) before i t tt
+line_asks heading gone (Step client number (act.Query ask)) before i t = query_asks heading client number ask heading.shards before i t
+line_asks heading gone (Step client number (act.Peek key)) before i t = refl
+line_asks heading gone (Deliver member client number) before i t = rest_asks heading gone (Deliver member client number) before i t tt
+line_asks heading gone (line.Report member) before i t = rest_asks heading gone (line.Report member) before i t tt
+line_asks heading gone (Hear member of number) before i t = rest_asks heading gone (Hear member of number) before i t tt
+line_asks heading gone (Sweep member moment) before i t = rest_asks heading gone (Sweep member moment) before i t tt
+line_asks heading gone (Join joiner provider) before i t = rest_asks heading gone (Join joiner provider) before i t tt
+line_asks heading gone (Depart member) before i t = rest_asks heading gone (Depart member) before i t tt
 
 -- The steps of a history are just those that the lines ask there, each once and in order.
 pub calls_stand-holds : (heading : Heading) (past : List Line) (i t : ℕ)
     → askings (history i t (course heading past)) ≡ asked heading i t past
 calls_stand-holds heading [] i t = refl
 calls_stand-holds heading (line ∷ past) i t =
-    line_asks heading line (course heading past) i t ∙ ap (add_some (asked_at heading i t line)) (calls_stand-holds heading past i t)
+    line_asks heading (departed past) line (course heading past) i t ∙ ap (add_some (asked_at heading i t line)) (calls_stand-holds heading past i t)
 
 quiet_told : (heading : Heading) (client m s : ℕ) (doing : Doing) (now : List Event) → IsQuiet doing
     → told client (does heading m s doing now) ≡ told client now
@@ -204,10 +161,10 @@ quiet_told heading client m s (Hears report) now quiet = refl
 quiet_told heading client m s (Sweeps moment) now quiet = refl
 quiet_told heading client m s (Asks own number ask) now quiet = absurd quiet
 
-pub rest_tells : (heading : Heading) (line : Line) (before : List Event) (client : ℕ) → IsNoStep line
-    → told client (after heading line before) ≡ told client before
-rest_tells heading line before client quiet =
-    rest_keeps heading (λ now. told client now ≡ told client before)
+pub rest_tells : (heading : Heading) (gone : List ℕ) (line : Line) (before : List Event) (client : ℕ) → IsNoStep line
+    → told client (after heading gone line before) ≡ told client before
+rest_tells heading gone line before client quiet =
+    quiet_keeps heading gone (λ now. told client now ≡ told client before)
     (λ m s doing now not e. quiet_told heading client m s doing now not ∙ e) line before quiet refl
 
 abbrev pub counted : List Numbered → List ℕ
@@ -222,26 +179,27 @@ count_one false number answer all = refl
 pub told_asks : (heading : Heading) (client number : ℕ) (ask : QueryAsk) (n : ℕ) (before : List Event) (who : ℕ)
     → told who (asks_at_each heading client number ask n before) ≡ told who before
 told_asks heading client number ask n before who =
-    each_keeps (λ k now. told who now ≡ told who before) n
-    (λ shard. does heading (home_of heading client) shard (Asks client number ask)) before refl (λ k now less e. e)
+    each_keep (λ now. told who now ≡ told who before) n
+    (λ shard. does heading (home_of heading client) shard (Asks client number ask)) (λ k less now e. e) before refl
 
-line_tells : (heading : Heading) (line : Line) (before : List Event) (client : ℕ)
-    → counted (told client (after heading line before)) ≡ add_some (number_at client line) (counted (told client before))
-line_tells heading (Step who number (act.Call ask)) before client = count_one (who == client) number _ (told client before)
-line_tells heading (Step who number (act.Query ask)) before client =
+line_tells : (heading : Heading) (gone : List ℕ) (line : Line) (before : List Event) (client : ℕ)
+    → counted (told client (after heading gone line before)) ≡ add_some (number_at client line) (counted (told client before))
+line_tells heading gone (Step who number (act.Call ask)) before client = count_one (who == client) number _ (told client before)
+line_tells heading gone (Step who number (act.Query ask)) before client =
     count_one (who == client) number _ (told client (asks_at_each heading who number ask heading.shards before))
     ∙ ap (λ all. add_some (if who == client then Some number else None) (counted all))
     (told_asks heading who number ask heading.shards before client)
-line_tells heading (Step who number (act.Peek key)) before client = count_one (who == client) number _ (told client before)
-line_tells heading (Deliver member of number) before client = ap counted (rest_tells heading (Deliver member of number) before client tt)
-line_tells heading (line.Report member) before client = ap counted (rest_tells heading (line.Report member) before client tt)
-line_tells heading (Hear member of number) before client = ap counted (rest_tells heading (Hear member of number) before client tt)
-line_tells heading (Sweep member moment) before client = ap counted (rest_tells heading (Sweep member moment) before client tt)
-line_tells heading (Join joiner provider) before client = ap counted (rest_tells heading (Join joiner provider) before client tt)
+line_tells heading gone (Step who number (act.Peek key)) before client = count_one (who == client) number _ (told client before)
+line_tells heading gone (Deliver member of number) before client = ap counted (rest_tells heading gone (Deliver member of number) before client tt)
+line_tells heading gone (line.Report member) before client = ap counted (rest_tells heading gone (line.Report member) before client tt)
+line_tells heading gone (Hear member of number) before client = ap counted (rest_tells heading gone (Hear member of number) before client tt)
+line_tells heading gone (Sweep member moment) before client = ap counted (rest_tells heading gone (Sweep member moment) before client tt)
+line_tells heading gone (Join joiner provider) before client = ap counted (rest_tells heading gone (Join joiner provider) before client tt)
+line_tells heading gone (Depart member) before client = ap counted (rest_tells heading gone (Depart member) before client tt)
 
 -- A client has one answer for each step, in order.
 pub answers_stand-holds : (heading : Heading) (past : List Line) (client : ℕ)
     → counted (told client (course heading past)) ≡ numbers client past
 answers_stand-holds heading [] client = refl
 answers_stand-holds heading (line ∷ past) client =
-    line_tells heading line (course heading past) client ∙ ap (add_some (number_at client line)) (answers_stand-holds heading past client)
+    line_tells heading (departed past) line (course heading past) client ∙ ap (add_some (number_at client line)) (answers_stand-holds heading past client)

@@ -12,9 +12,10 @@ use Rattle.gr_history.specs.declared.deed.Deed.TheVariants.{Call, Asked, Taken, 
 use Rattle.gr_law.specs.Grids.{Among, Older}
 use Rattle.gr_script.specs.declared.line.Act.TheVariants as act
 use Rattle.gr_script.specs.declared.line.Line.{Line}
-use Rattle.gr_script.specs.declared.line.Line.TheVariants.{Step, Deliver, Hear, Sweep, Join}
+use Rattle.gr_script.specs.declared.line.Line.TheVariants.{Step, Deliver, Hear, Sweep, Join, Depart}
 use Rattle.gr_script.specs.declared.line.Line.TheVariants as line
 use Rattle.gr_script.specs.Rules.{Heading, IsHeading, home_of, AllStand}
+use Rattle.gr_script.specs.Steps.{departed}
 use Rattle.gr_world.specs.Events.{Event, Did, Peek, Peeked, Gathered, put_if, history}
 use Rattle.gr_world.specs.Courses.{does, asks_at_each, course}
 use Rattle.gr_world.specs.Doings.{Doing, Calls, Takes, Gives, Merges, Reports, Hears, Sweeps, Asks}
@@ -22,7 +23,7 @@ use Rattle.gr_world.specs.Causes.{IsNextEvent, IsCausal}
 use Rattle.gr_world.specs.Clients.{add_some, Numbered, told_by_deed, told_by, told}
 use Rattle.gr_world.specs.Served.{number_in}
 use Rattle.gr_world.proofs.Causal.{course_causal}
-use Rattle.gr_world.proofs.Clients.{IsQuiet, rest_keeps, counted, answers_stand-holds}
+use Rattle.gr_world.proofs.Clients.{IsQuiet, quiet_keeps, counted, answers_stand-holds}
 use Rattle.gr_world.proofs.Events.{equal_numbers}
 use Rattle.gr_world.proofs.Numbers.{numbers, AllBelow, Descends, numbers_descend-holds}
 use Rattle.gr_world.proofs.Peeks.{older_length, seen_at}
@@ -123,16 +124,19 @@ all_follow heading (Step client number (act.Query ask) ∷ past) stand =
     below : AllBelow number (numbers client past)
     below = at_head (numbers_descend-holds heading client (Step client number (act.Query ask) ∷ past) stand)
 all_follow heading (Deliver to client number ∷ past) stand =
-    rest_keeps heading AllFollow (quiet_follow heading) (Deliver to client number) (course heading past) tt
+    quiet_keeps heading (departed past) AllFollow (quiet_follow heading) (Deliver to client number) (course heading past) tt
     (all_follow heading past stand.1)
 all_follow heading (line.Report member ∷ past) stand =
-    rest_keeps heading AllFollow (quiet_follow heading) (line.Report member) (course heading past) tt (all_follow heading past stand.1)
+    quiet_keeps heading (departed past) AllFollow (quiet_follow heading) (line.Report member) (course heading past) tt (all_follow heading past stand.1)
 all_follow heading (Hear by of number ∷ past) stand =
-    rest_keeps heading AllFollow (quiet_follow heading) (Hear by of number) (course heading past) tt (all_follow heading past stand.1)
+    quiet_keeps heading (departed past) AllFollow (quiet_follow heading) (Hear by of number) (course heading past) tt (all_follow heading past stand.1)
 all_follow heading (Sweep member moment ∷ past) stand =
-    rest_keeps heading AllFollow (quiet_follow heading) (Sweep member moment) (course heading past) tt (all_follow heading past stand.1)
+    quiet_keeps heading (departed past) AllFollow (quiet_follow heading) (Sweep member moment) (course heading past) tt (all_follow heading past stand.1)
 all_follow heading (Join joiner provider ∷ past) stand =
-    rest_keeps heading AllFollow (quiet_follow heading) (Join joiner provider) (course heading past) tt
+    quiet_keeps heading (departed past) AllFollow (quiet_follow heading) (Join joiner provider) (course heading past) tt
+    (all_follow heading past stand.1)
+all_follow heading (Depart member ∷ past) stand =
+    quiet_keeps heading (departed past) AllFollow (quiet_follow heading) (Depart member) (course heading past) tt
     (all_follow heading past stand.1)
 
 -- ---- a deed of a client's step that is newer than a peek has a greater number
@@ -170,31 +174,31 @@ newer client number earlier peek before (Reported report) is follows desc a = ab
 newer client number earlier peek before (Heard report) is follows desc a = absurd (none_isnt_some earlier is)
 newer client number earlier peek before (Swept moment expired) is follows desc a = absurd (none_isnt_some earlier is)
 
-late : (heading : Heading) (events : List Event) → IsCausal heading events → AllFollow events
+late : (heading : Heading) (gone : List ℕ) (events : List Event) → IsCausal heading gone events → AllFollow events
     → (client number : ℕ) (peek : Peek)
     → Descends (counted (told client events)) → Among (Peeked client number peek) events
     → (earlier : ℕ) (deed : Deed) (past : List Deed) → number_in client deed ≡ Some earlier
     → Older (deed ∷ past) (history (home_of heading client) (shard_of peek.key heading.shards) events)
     → earlier < number → suc (length past) ≤ peek.at
-late heading [] h follow client number peek desc a earlier deed past is o less = absurd a
-late heading (Peeked own seq which ∷ before) h follow client number peek desc (inl told) earlier deed past is o less =
-    let next : IsNextEvent heading (Peeked client number peek) before = subst (λ e. IsNextEvent heading e before) (sym told) h.0 in
+late heading gone [] h follow client number peek desc a earlier deed past is o less = absurd a
+late heading gone (Peeked own seq which ∷ before) h follow client number peek desc (inl told) earlier deed past is o less =
+    let next : IsNextEvent heading gone (Peeked client number peek) before = subst (λ e. IsNextEvent heading gone e before) (sym told) h.0 in
     let long = older_length (deed ∷ past) (history (home_of heading client) (shard_of peek.key heading.shards) before) o in
     omega (arith, long, next.1)
-late heading (Peeked own seq which ∷ before) h follow client number peek desc (inr a) earlier deed past is o less =
-    late heading before h.1 follow client number peek
+late heading gone (Peeked own seq which ∷ before) h follow client number peek desc (inr a) earlier deed past is o less =
+    late heading gone before h.1 follow client number peek
     (descends_rest (told_by client (Peeked own seq which)) (told client before) desc) a earlier deed past is o less
-late heading (Gathered own seq replies ∷ before) h follow client number peek desc (inl told) earlier deed past is o less =
+late heading gone (Gathered own seq replies ∷ before) h follow client number peek desc (inl told) earlier deed past is o less =
     absurd (no told)
   where
     no : Peeked client number peek ≡ Gathered own seq replies → ⊥
     no e = cc
-late heading (Gathered own seq replies ∷ before) h follow client number peek desc (inr a) earlier deed past is o less =
-    late heading before h.1 follow client number peek
+late heading gone (Gathered own seq replies ∷ before) h follow client number peek desc (inr a) earlier deed past is o less =
+    late heading gone before h.1 follow client number peek
     (descends_rest (told_by client (Gathered own seq replies)) (told client before) desc) a earlier deed past is o less
-late heading (Did m s did ∷ before) h follow client number peek desc a earlier deed past is o less =
+late heading gone (Did m s did ∷ before) h follow client number peek desc a earlier deed past is o less =
     at_test (shard_of peek.key heading.shards == s && home_of heading client == m)
-    (λ o. late heading before h.1 follow.1 client number peek
+    (λ o. late heading gone before h.1 follow.1 client number peek
     (descends_rest (told_by_deed client did) (told client before) desc) earlier_peek earlier deed past is o less) o
   where
     earlier_peek : Among (Peeked client number peek) before
@@ -221,31 +225,31 @@ pub peeks_late : (heading : Heading) (past : List Line) → IsHeading heading �
     → Older (deed ∷ before) (history (home_of heading client) (shard_of peek.key heading.shards) (course heading past))
     → earlier < number → suc (length before) ≤ peek.at
 peeks_late heading past is_heading stand client number peek a earlier deed before is o less =
-    late heading (course heading past) (course_causal heading past is_heading stand) (all_follow heading past stand) client
+    late heading (departed past) (course heading past) (course_causal heading past is_heading stand) (all_follow heading past stand) client
     number peek
     (subst Descends (sym (answers_stand-holds heading past client))
     (numbers_descend-holds heading client past stand)) a earlier deed before is o less
 
-grows : (heading : Heading) (events : List Event) → IsCausal heading events
+grows : (heading : Heading) (gone : List ℕ) (events : List Event) → IsCausal heading gone events
     → (client number earlier : ℕ) (peek other : Peek)
     → Descends (counted (told client events)) → Among (Peeked client number peek) events
     → Among (Peeked client earlier other) events
     → shard_of other.key heading.shards ≡ shard_of peek.key heading.shards → earlier < number → other.at ≤ peek.at
-grows heading [] h client number earlier peek other desc a b shard less = absurd a
-grows heading (event ∷ before) h client number earlier peek other desc (inl is) (inl also) shard less =
+grows heading gone [] h client number earlier peek other desc a b shard less = absurd a
+grows heading gone (event ∷ before) h client number earlier peek other desc (inl is) (inl also) shard less =
     let same : number ≡ earlier = numbers_same (is ∙ sym also) in absurd (omega (arith, same, less))
   where
     numbers_same : Peeked client number peek ≡ Peeked client earlier other → number ≡ earlier
     numbers_same e = cc
-grows heading (event ∷ before) h client number earlier peek other desc (inl is) (inr b) shard less =
-    let next : IsNextEvent heading (Peeked client number peek) before = subst (λ e. IsNextEvent heading e before) (sym is) h.0 in
-    let found = seen_at heading before h.1 client earlier other b in
+grows heading gone (event ∷ before) h client number earlier peek other desc (inl is) (inr b) shard less =
+    let next : IsNextEvent heading gone (Peeked client number peek) before = subst (λ e. IsNextEvent heading gone e before) (sym is) h.0 in
+    let found = seen_at heading gone before h.1 client earlier other b in
     let long = older_length found.0 (history (home_of heading client) (shard_of other.key heading.shards) before) found.1.older in
     let here : length (history (home_of heading client) (shard_of other.key heading.shards) before) ≡ length
     (history (home_of heading client) (shard_of peek.key heading.shards) before) =
     ap (λ s. length (history (home_of heading client) s before)) shard in
     omega (arith, long, found.1.at_is, here, next.1)
-grows heading (event ∷ before) h client number earlier peek other desc (inr a) (inl also) shard less =
+grows heading gone (event ∷ before) h client number earlier peek other desc (inr a) (inl also) shard less =
     absurd (late_number (subst (λ e. Descends (counted (add_some (told_by client e) (told client before)))) (sym also) desc))
   where
     itself : (client == client) ≡ true
@@ -256,8 +260,8 @@ grows heading (event ∷ before) h client number earlier peek other desc (inr a)
         let all : AllBelow earlier (counted (told client before)) = (rw itself at d).0 in
         let k = below_among earlier number (counted (told client before)) all (peek_counted client number peek before a) in
         omega (arith, k, less)
-grows heading (event ∷ before) h client number earlier peek other desc (inr a) (inr b) shard less =
-    grows heading before h.1 client number earlier peek other
+grows heading gone (event ∷ before) h client number earlier peek other desc (inr a) (inr b) shard less =
+    grows heading gone before h.1 client number earlier peek other
     (descends_rest (told_by client event) (told client before) desc) a b shard less
 
 -- Nor does it name one before a place that an earlier peek of the client at that shard named.
@@ -266,5 +270,5 @@ pub peeks_grow : (heading : Heading) (past : List Line) → IsHeading heading �
     → Among (Peeked client number peek) (course heading past) → Among (Peeked client earlier other) (course heading past)
     → shard_of other.key heading.shards ≡ shard_of peek.key heading.shards → earlier < number → other.at ≤ peek.at
 peeks_grow heading past is_heading stand client number earlier peek other a b shard less =
-    grows heading (course heading past) (course_causal heading past is_heading stand) client number earlier peek other
+    grows heading (departed past) (course heading past) (course_causal heading past is_heading stand) client number earlier peek other
     (subst Descends (sym (answers_stand-holds heading past client)) (numbers_descend-holds heading client past stand)) a b shard less

@@ -14,11 +14,13 @@ use Rattle.gr_world.specs.Causes.{grid_at, IsCausal}
 use Rattle.std.proofs.lemmas.List.{reverse-reverse}
 use Rattle.gr_history.specs.declared.record.Record.{Record}
 use Rattle.gr_script.specs.Rules.{IsScript}
+use Rattle.gr_script.specs.Steps.{departed}
 use Rattle.gr_world.specs.Numbered.{numbers_from}
 use Rattle.gr_world.specs.Records.{member_left, members_left, clients_left, IsReplayed}
 use Rattle.gr_world.specs.Served.{histories_in, AreServed, HasServed, FollowsLines}
 use Rattle.gr_world.specs.Histories.{deeds_at, history_at, grid_of, IsLawAbiding, KeepsLaws}
-use Rattle.gr_world.proofs.Whole.{whole_course}
+use Rattle.gr_world.proofs.Playable.{none_departs}
+use Rattle.gr_world.proofs.Whole.{sound_course}
 use Rattle.gr_world.proofs.Served.{script_causal, script_abiding, script_served, script_follows, histories_at, served_same, follow_same}
 
 deeds_from : (f : ℕ → List Deed) (from n shard place : ℕ) → shard < n → place ≡ from + shard
@@ -64,9 +66,9 @@ history_outside heading course shard from (suc n) member far =
     further (inl h) = inl (omega (arith, h))
     further (inr h) = inr (omega (arith, h))
 
-pub one_grid : (heading : Heading) (course : List Event) → heading.members ≤ 8 → IsCausal heading course → (shard : ℕ) → shard < heading.shards
-    → grid_at heading shard course ≡ grid_of heading shard (members_left heading course)
-one_grid heading course few h shard within =
+pub one_grid : (heading : Heading) (gone : List ℕ) (course : List Event) → heading.members ≤ 8 → IsCausal heading gone course
+    → (shard : ℕ) → shard < heading.shards → grid_at heading shard course ≡ grid_of heading shard (members_left heading course)
+one_grid heading gone course few h shard within =
     same_grid (grid_at heading shard course) (history_at shard (members_left heading course))
     (λ member. sym (at_member member (cases member heading.members)))
   where
@@ -85,15 +87,22 @@ one_grid heading course few h shard within =
     at_member member (inl is) = history_from heading course shard 1 heading.members member within is.0 is.1
     at_member member (inr far) =
         history_outside heading course shard 1 heading.members member far
-        ∙ sym (none member far ((whole_course heading course few h shard).sound.outside member))
+        ∙ sym (none member far ((sound_course heading gone course few h shard).outside member))
 
 -- What is left of a script keeps the laws.
 pub left_abiding : (heading : Heading) (lines : List Line) → IsScript heading lines → (left : Record) → IsReplayed heading lines left
-    → KeepsLaws heading left
+    → KeepsLaws heading (departed (reverse lines)) left
 left_abiding heading lines is left replayed shard within =
     let events = course heading (reverse lines) in
-    subst IsLawAbiding (one_grid heading events is.heading.members.1 (script_causal heading lines is) shard within
+    let gone = departed (reverse lines) in
+    subst (IsLawAbiding gone) (one_grid heading gone events is.heading.members.1 (script_causal heading lines is) shard within
     ∙ ap (grid_of heading shard) (sym replayed.members)) (script_abiding heading lines is shard)
+
+-- So it is where nobody departs.
+pub plain_abiding : (heading : Heading) (lines : List Line) → IsScript heading lines → departed lines ≡ [] → (left : Record)
+    → IsReplayed heading lines left → KeepsLaws heading [] left
+plain_abiding heading lines is none left replayed =
+    subst (λ (gone : List ℕ). KeepsLaws heading gone left) (none_departs lines none) (left_abiding heading lines is left replayed)
 
 -- Its histories are those of the course.
 left_histories : (heading : Heading) (lines : List Line) → IsScript heading lines → (left : Record) → IsReplayed heading lines left
@@ -101,7 +110,9 @@ left_histories : (heading : Heading) (lines : List Line) → IsScript heading li
     → histories_at (course heading (reverse lines)) member shard ≡ histories_in left member shard
 left_histories heading lines is left replayed member shard within =
     let events = course heading (reverse lines) in
-    ap (λ (grid : Grid). grid.history member) (one_grid heading events is.heading.members.1 (script_causal heading lines is) shard within)
+    let gone = departed (reverse lines) in
+    ap (λ (grid : Grid). grid.history member)
+    (one_grid heading gone events is.heading.members.1 (script_causal heading lines is) shard within)
     ∙ ap (λ all. history_at shard all member) (sym replayed.members)
 
 -- So its clients were served, in the order of the lines.

@@ -1,5 +1,8 @@
 pub mod Events
+pub mod Walks
+pub mod SoundGrowth
 pub mod Whole
+pub mod Abiding
 pub mod Causes
 pub mod Handing
 pub mod Asking
@@ -20,4 +23,13 @@ pub mod Playable
 pub mod Scripts
 pub mod Numbering
 pub mod Kept
-pub mod WhileRead
+pub mod Opened
+pub mod Growing
+pub mod Handed
+pub mod Lines
+pub mod FromTaken
+pub mod Providers
+pub mod Still
+pub mod Departed
+pub mod Closing
+pub mod Parted

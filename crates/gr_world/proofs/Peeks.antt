@@ -10,6 +10,7 @@ use Rattle.gr_law.specs.Grids.{Among, Older, at_place}
 use Rattle.gr_law.proofs.Made.{older_itself, older_trans}
 use Rattle.gr_script.specs.declared.line.Line.{Line}
 use Rattle.gr_script.specs.Rules.{Heading, IsHeading, home_of, AllStand}
+use Rattle.gr_script.specs.Steps.{departed}
 use Rattle.gr_world.specs.Events.{Event, Did, Peek, Peeked, Gathered, history}
 use Rattle.gr_world.specs.Courses.{course}
 use Rattle.gr_world.specs.Causes.{IsNextEvent, IsCausal}
@@ -47,12 +48,12 @@ pub record IsSeen (heading : Heading) (course : List Event) (client : ℕ) (peek
   pub value_is : peek.value ≡ present peek.key past
   pub at_is : peek.at ≡ length past
 
-pub seen_at : (heading : Heading) (course : List Event) → IsCausal heading course
+pub seen_at : (heading : Heading) (gone : List ℕ) (course : List Event) → IsCausal heading gone course
     → (client number : ℕ) (peek : Peek)
     → Among (Peeked client number peek) course → (past : List Deed) × IsSeen heading course client peek past
-seen_at heading [] h client number peek a = absurd a
-seen_at heading (event ∷ before) h client number peek (inl is) =
-    let next : IsNextEvent heading (Peeked client number peek) before = subst (λ e. IsNextEvent heading e before) (sym is) h.0 in (
+seen_at heading gone [] h client number peek a = absurd a
+seen_at heading gone (event ∷ before) h client number peek (inl is) =
+    let next : IsNextEvent heading gone (Peeked client number peek) before = subst (λ e. IsNextEvent heading gone e before) (sym is) h.0 in (
       history (home_of heading client) (shard_of peek.key heading.shards) before,
       record {
         older = older_event (home_of heading client) (shard_of peek.key heading.shards) event before;
@@ -60,8 +61,8 @@ seen_at heading (event ∷ before) h client number peek (inl is) =
         at_is = next.1;
       },
     )
-seen_at heading (event ∷ before) h client number peek (inr a) =
-    let earlier = seen_at heading before h.1 client number peek a in (
+seen_at heading gone (event ∷ before) h client number peek (inr a) =
+    let earlier = seen_at heading gone before h.1 client number peek a in (
       earlier.0,
       record {
         older = older_trans earlier.0 _ _ earlier.1.older
@@ -82,7 +83,7 @@ pub peeks_stand : (heading : Heading) (past : List Line) → IsHeading heading �
     → Among (Peeked client number peek) (course heading past) → IsPlace heading (course heading past) client peek
 peeks_stand heading past is_heading stand client number peek a =
     let now : List Deed = history (home_of heading client) (shard_of peek.key heading.shards) (course heading past) in
-    let found = seen_at heading (course heading past) (course_causal heading past is_heading stand) client number peek a in
+    let found = seen_at heading (departed past) (course heading past) (course_causal heading past is_heading stand) client number peek a in
     record {
       value_is = found.1.value_is ∙ ap (present peek.key) (sym (ap (λ n. at_place n now) found.1.at_is ∙ place_of found.0 now found.1.older));
       within = let l : length found.0 ≤ length now = older_length found.0 now found.1.older in omega (arith, l, found.1.at_is);

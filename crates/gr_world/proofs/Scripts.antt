@@ -1,6 +1,6 @@
 -- The rows are scripts.
 use Rattle.std.proofs.Common.{ℕ, ◌≤◌, List, [], ◌∷◌, length, codes, refl, arith, reverse}
-use Rattle.gr_script.specs.Rules.{heading, IsHeading, IsScript, IsWithin, AreWithin, AllStand}
+use Rattle.gr_script.specs.Rules.{heading, IsHeading, IsScript, IsWithin, AreWithin, AllStand, AllNameStaying}
 use Rattle.gr_world.specs.Rows.{two_members, three_members, concurrent, repeated, joining}
 
 -- two facts as one
@@ -51,7 +51,7 @@ joining-stand : AllStand three_members joining
 joining-stand =
     ((omega arith, omega arith), refl, tt)
     & (omega arith, omega arith, (omega arith, omega arith), refl)
-    & ((omega arith, omega arith), omega arith, omega arith)
+    & ((omega arith, omega arith), omega arith, omega arith, omega arith)
     & ((omega arith, omega arith), (omega arith, omega arith), (omega arith, omega arith), refl, omega arith)
     & ((omega arith, omega arith), (omega arith, omega arith), (omega arith, omega arith), refl, omega arith)
     & ((omega arith, omega arith), omega arith)
@@ -63,11 +63,21 @@ joining-stand =
     & ((omega arith, omega arith), refl, tt)
     & tt
 
+-- nobody departs
+concurrent-staying : AllNameStaying two_members concurrent
+concurrent-staying = refl & refl & refl & refl & refl & tt
+
+repeated-staying : AllNameStaying two_members repeated
+repeated-staying = refl & refl & refl & tt
+
+joining-staying : AllNameStaying three_members joining
+joining-staying = refl & (refl & refl) & refl & refl & refl & refl & refl & refl & refl & refl & refl & refl & tt
+
 pub concurrent-script : IsScript two_members (reverse concurrent)
-concurrent-script = record { heading = two-heading; lines_stand = concurrent-stand }
+concurrent-script = record { heading = two-heading; lines_stand = concurrent-stand; names_staying = concurrent-staying }
 
 pub repeated-script : IsScript two_members (reverse repeated)
-repeated-script = record { heading = two-heading; lines_stand = repeated-stand }
+repeated-script = record { heading = two-heading; lines_stand = repeated-stand; names_staying = repeated-staying }
 
 pub joining-script : IsScript three_members (reverse joining)
-joining-script = record { heading = three-heading; lines_stand = joining-stand }
+joining-script = record { heading = three-heading; lines_stand = joining-stand; names_staying = joining-staying }

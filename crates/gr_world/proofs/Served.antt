@@ -10,13 +10,13 @@ use Rattle.gr_history.specs.declared.deed.Deed.{Deed}
 use Rattle.gr_history.specs.declared.deed.Deed.TheVariants.{Call, Asked, Taken, Gave, Imaged, Reported, Heard, Swept}
 use Rattle.gr_history.specs.declared.record.Answer.{Answer}
 use Rattle.gr_history.specs.declared.record.ClientRecord.{ClientRecord}
-use Rattle.gr_law.specs.Grids.{Among, Grid}
-use Rattle.gr_law.specs.Integrity.{IsWhole}
+use Rattle.gr_law.specs.Grids.{Among}
 use Rattle.gr_script.specs.declared.line.Act.TheVariants as act
 use Rattle.gr_script.specs.declared.line.Line.{Line}
-use Rattle.gr_script.specs.declared.line.Line.TheVariants.{Step, Deliver, Hear, Sweep, Join}
+use Rattle.gr_script.specs.declared.line.Line.TheVariants.{Step, Deliver, Hear, Sweep, Join, Depart}
 use Rattle.gr_script.specs.declared.line.Line.TheVariants as line
 use Rattle.gr_script.specs.Rules.{Heading, IsHeading, IsScript, IsStated, AllStand, StandsAfter, home_of}
+use Rattle.gr_script.specs.Steps.{departed}
 use Rattle.gr_world.specs.Courses.{course}
 use Rattle.gr_world.specs.Causes.{grid_at, IsCausal}
 use Rattle.gr_world.specs.Clients.{add_some, Wish, OfKey, OfQuery, Asking, asking_of, askings, asked_at, asked}
@@ -25,11 +25,9 @@ use Rattle.gr_world.specs.Histories.{IsLawAbiding}
 use Rattle.gr_world.specs.Records.{client_left, clients_left}
 use Rattle.gr_world.specs.Grids.{Histories}
 use Rattle.gr_world.specs.Served.{number_in, IsPeek, IsServed, ArePlaced, client_of, AreServed, FollowsLines}
-use Rattle.gr_law.proofs.Reached.{law_0-holds}
-use Rattle.gr_law.proofs.Took.{law_1-holds}
-use Rattle.gr_law.proofs.Late.{law_2-holds}
-use Rattle.gr_law.proofs.Queries.{law_queries-holds}
-use Rattle.gr_law.proofs.Held.{law_3-holds, law_4-holds, law_5-holds, same_value-holds, same_entry-holds}
+use Rattle.gr_world.proofs.Abiding.{parted_abiding}
+use Rattle.gr_world.proofs.Whole.{heard_course}
+use Rattle.gr_world.proofs.Parted.{parted_course}
 use Rattle.gr_world.proofs.Causal.{course_causal}
 use Rattle.gr_world.proofs.Clients.{calls_stand-holds}
 use Rattle.gr_world.proofs.Events.{equal_numbers}
@@ -37,29 +35,17 @@ use Rattle.gr_world.proofs.Late.{peeks_late, peeks_grow}
 use Rattle.gr_world.proofs.Lists.{numbers_same}
 use Rattle.gr_world.proofs.Peeks.{peeks_stand}
 use Rattle.gr_world.proofs.Serving.{served_in, served_steps, served_replies, served_answers, served_deeds, peek_stood}
-use Rattle.gr_world.proofs.Whole.{whole_course}
 
-pub script_causal : (heading : Heading) (lines : List Line) → IsScript heading lines → IsCausal heading (course heading (reverse lines))
+pub script_causal : (heading : Heading) (lines : List Line) → IsScript heading lines
+    → IsCausal heading (departed (reverse lines)) (course heading (reverse lines))
 script_causal heading lines is = course_causal heading (reverse lines) is.heading is.lines_stand
 
-pub whole_abiding : (grid : Grid) → IsWhole grid → IsLawAbiding grid
-whole_abiding grid whole = record {
-  whole = whole;
-  reached = law_0-holds grid whole.sound;
-  greater = law_1-holds grid whole.sound;
-  late = law_2-holds grid whole;
-  held = law_3-holds grid whole;
-  same = same_value-holds grid whole;
-  one_entry = same_entry-holds grid whole;
-  no_removed = law_4-holds grid whole;
-  one_history = law_5-holds grid whole.sound;
-  queries = law_queries-holds grid whole.sound;
-}
-
 pub script_abiding : (heading : Heading) (lines : List Line) → IsScript heading lines → (shard : ℕ)
-    → IsLawAbiding (grid_at heading shard (course heading (reverse lines)))
+    → IsLawAbiding (departed (reverse lines)) (grid_at heading shard (course heading (reverse lines)))
 script_abiding heading lines is shard =
-    whole_abiding _ (whole_course heading (course heading (reverse lines)) is.heading.members.1 (script_causal heading lines is) shard)
+    parted_abiding (departed (reverse lines)) (grid_at heading shard (course heading (reverse lines)))
+    (parted_course heading (reverse lines) is.heading is.lines_stand is.names_staying shard)
+    (λ member. heard_course heading (departed (reverse lines)) (course heading (reverse lines)) (script_causal heading lines is) shard member)
 
 -- ---- clients
 
@@ -160,6 +146,7 @@ asked_stated heading member shard (last ∷ past) stand asking a =
     at_line (Hear to of number) stands next (inl is) = absurd (no_asking asking is)
     at_line (Sweep of moment) stands next (inl is) = absurd (no_asking asking is)
     at_line (Join joiner provider) stands next (inl is) = absurd (no_asking asking is)
+    at_line (Depart of) stands next (inl is) = absurd (no_asking asking is)
 
 course_placed : (heading : Heading) (past : List Line) → AllStand heading past → ArePlaced heading (histories_at (course heading past))
 course_placed heading past stand member shard client number deed within a is =

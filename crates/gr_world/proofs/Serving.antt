@@ -25,19 +25,19 @@ use Rattle.gr_law.specs.Grids.{Among}
 use Rattle.gr_law.proofs.Lists.{among_either}
 use Rattle.gr_script.specs.declared.line.Act.TheVariants as act
 use Rattle.gr_script.specs.declared.line.Line.{Line}
-use Rattle.gr_script.specs.declared.line.Line.TheVariants.{Step, Deliver, Hear, Sweep, Join}
+use Rattle.gr_script.specs.declared.line.Line.TheVariants.{Step, Deliver, Hear, Sweep, Join, Depart}
 use Rattle.gr_script.specs.declared.line.Line.TheVariants as line
 use Rattle.gr_script.specs.declared.line.Step.{Step as StepOf}
 use Rattle.gr_script.specs.Rules.{Heading, home_of}
-use Rattle.gr_script.specs.Steps.{step_of as step_on, steps_of}
+use Rattle.gr_script.specs.Steps.{step_of as step_on, steps_of, departed}
 use Rattle.gr_world.specs.Clients.{add_some, Numbered, told}
 use Rattle.gr_world.specs.Courses.{identity_at, does, asks_at_each, replies_to, after, course}
 use Rattle.gr_world.specs.Doings.{Doing, Calls, Takes, Gives, Merges, Reports, Hears, Sweeps, Asks, deed_of}
 use Rattle.gr_world.specs.Events.{Event, Peek, Peeked, put_if, history}
 use Rattle.gr_world.specs.Served.{Served, Called, Queried, Looked, step_of, answer_of, deeds_of, all_deeds_of, HasReplies}
 use Rattle.gr_world.proofs.Asking.{answer_at, asked_there}
-use Rattle.gr_world.proofs.Causes.{each_keeps}
-use Rattle.gr_world.proofs.Clients.{IsQuiet, IsNoStep, rest_keeps, rest_tells, told_asks}
+use Rattle.gr_world.proofs.Walks.{each_keep, IsNoStep}
+use Rattle.gr_world.proofs.Clients.{IsQuiet, quiet_keeps, rest_tells, told_asks}
 use Rattle.gr_world.proofs.Events.{equal_numbers, same_number}
 use Rattle.gr_world.proofs.Lists.{numbers_length, numbers_get}
 
@@ -67,11 +67,7 @@ served_at heading client (Step own number (act.Query ask)) before =
     if_own (own == client) (Queried number ask (replies_to heading own ask before))
 served_at heading client (Step own number (act.Peek key)) before =
     if_own (own == client) (looked number key (history (home_of heading own) (shard_of key heading.shards) before))
-served_at heading client (Deliver to of number) before = None
-served_at heading client (line.Report of) before = None
-served_at heading client (Hear to of number) before = None
-served_at heading client (Sweep of moment) before = None
-served_at heading client (Join joiner provider) before = None
+served_at heading client _ before = None
 
 -- all that came of the client's steps, the first one first
 abbrev pub served_in : Heading → ℕ → List Line → List Served
@@ -93,11 +89,7 @@ line_steps heading client (Step own number (act.Query ask)) before =
     one_step (own == client) (Queried number ask (replies_to heading own ask before))
 line_steps heading client (Step own number (act.Peek key)) before =
     one_step (own == client) (looked number key (history (home_of heading own) (shard_of key heading.shards) before))
-line_steps heading client (Deliver to of number) before = refl
-line_steps heading client (line.Report of) before = refl
-line_steps heading client (Hear to of number) before = refl
-line_steps heading client (Sweep of moment) before = refl
-line_steps heading client (Join joiner provider) before = refl
+line_steps heading client _ before = refl
 
 pub served_steps : (heading : Heading) (client : ℕ) (past : List Line)
     → map step_of (served_in heading client past) ≡ steps_of client (reverse past)
@@ -138,6 +130,7 @@ served_replies heading client (last ∷ past) =
     at_line (Hear to of number) = tt
     at_line (Sweep of moment) = tt
     at_line (Join joiner provider) = tt
+    at_line (Depart of) = tt
 
 -- ---- the answers
 
@@ -153,30 +146,31 @@ one_answer false number one all = sym (append-nil (said all))
 no_answer : (all now : List Numbered) → now ≡ all → said now ≡ said all ++ []
 no_answer all now is = ap said is ∙ sym (append-nil (said all))
 
-line_answers : (heading : Heading) (client : ℕ) (line : Line) (before : List Event)
-    → said (told client (after heading line before))
+line_answers : (heading : Heading) (gone : List ℕ) (client : ℕ) (line : Line) (before : List Event)
+    → said (told client (after heading gone line before))
     ≡ said (told client before) ++ map answer_of (option_to_list (served_at heading client line before))
-line_answers heading client (Step own number (act.Call ask)) before =
+line_answers heading gone client (Step own number (act.Call ask)) before =
     one_answer (own == client) number (called number ask (done_at heading own ask before)) (told client before)
-line_answers heading client (Step own number (act.Query ask)) before =
+line_answers heading gone client (Step own number (act.Query ask)) before =
     let one : Served = Queried number ask (replies_to heading own ask before) in
     one_answer (own == client) number one (told client (asks_at_each heading own number ask heading.shards before))
     ∙ ap (λ all. said all ++ map answer_of (option_to_list (if_own (own == client) one)))
     (told_asks heading own number ask heading.shards before client)
-line_answers heading client (Step own number (act.Peek key)) before =
+line_answers heading gone client (Step own number (act.Peek key)) before =
     one_answer (own == client) number (looked number key (history (home_of heading own) (shard_of key heading.shards) before))
     (told client before)
-line_answers heading client (Deliver to of number) before = no_answer (told client before) _ (rest_tells heading (Deliver to of number) before client tt)
-line_answers heading client (line.Report of) before = no_answer (told client before) _ (rest_tells heading (line.Report of) before client tt)
-line_answers heading client (Hear to of number) before = no_answer (told client before) _ (rest_tells heading (Hear to of number) before client tt)
-line_answers heading client (Sweep of moment) before = no_answer (told client before) _ (rest_tells heading (Sweep of moment) before client tt)
-line_answers heading client (Join joiner provider) before = no_answer (told client before) _ (rest_tells heading (Join joiner provider) before client tt)
+line_answers heading gone client (Deliver to of number) before = no_answer (told client before) _ (rest_tells heading gone (Deliver to of number) before client tt)
+line_answers heading gone client (line.Report of) before = no_answer (told client before) _ (rest_tells heading gone (line.Report of) before client tt)
+line_answers heading gone client (Hear to of number) before = no_answer (told client before) _ (rest_tells heading gone (Hear to of number) before client tt)
+line_answers heading gone client (Sweep of moment) before = no_answer (told client before) _ (rest_tells heading gone (Sweep of moment) before client tt)
+line_answers heading gone client (Join joiner provider) before = no_answer (told client before) _ (rest_tells heading gone (Join joiner provider) before client tt)
+line_answers heading gone client (Depart of) before = no_answer (told client before) _ (rest_tells heading gone (Depart of) before client tt)
 
 pub served_answers : (heading : Heading) (client : ℕ) (past : List Line)
     → reverse (map (λ one. one.answer) (told client (course heading past))) ≡ map answer_of (served_in heading client past)
 served_answers heading client [] = refl
 served_answers heading client (line ∷ past) =
-    line_answers heading client line (course heading past)
+    line_answers heading (departed past) client line (course heading past)
     ∙ ap (λ (all : List Answer). all ++ map answer_of (option_to_list (served_at heading client line (course heading past))))
     (served_answers heading client past)
     ∙ sym (map-append answer_of (served_in heading client past) (option_to_list (served_at heading client line (course heading past))))
@@ -218,9 +212,9 @@ module _ (heading : Heading) (client : ℕ) (shard : ℕ) (within : shard < head
   abbrev There : List Event → List Deed
   There now = history (home_of heading client) shard now
 
-  rest_same : (line : Line) (before : List Event) → IsNoStep line → Own (There (after heading line before)) ≡ Own (There before) ++ []
-  rest_same line before quiet =
-      rest_keeps heading (λ now. Own (There now) ≡ Own (There before))
+  rest_same : (gone : List ℕ) (line : Line) (before : List Event) → IsNoStep line → Own (There (after heading gone line before)) ≡ Own (There before) ++ []
+  rest_same gone line before quiet =
+      quiet_keeps heading gone (λ now. Own (There now) ≡ Own (There before))
       (λ m s doing now not e. same_deeds (shard == s && home_of heading client == m) _ (There now) (quiet_other m s doing now not) ∙ e)
       line before quiet refl
       ∙ sym (append-nil (Own (There before)))
@@ -265,31 +259,32 @@ module _ (heading : Heading) (client : ℕ) (shard : ℕ) (within : shard < head
           (same_number client)
           ∙ ap (λ reply. Own (There before) ++ Asked client number ask reply ∷ []) (sym reply_there)
   one_query own number ask before false is =
-      each_keeps (λ k now. Own (There now) ≡ Own (There before)) heading.shards
-      (λ s. does heading (home_of heading own) s (Asks own number ask)) before refl
-      (λ s now less e. same_deeds (shard == s && home_of heading client == home_of heading own) _ (There now) is ∙ e)
+      each_keep (λ now. Own (There now) ≡ Own (There before)) heading.shards
+      (λ s. does heading (home_of heading own) s (Asks own number ask))
+      (λ s less now e. same_deeds (shard == s && home_of heading client == home_of heading own) _ (There now) is ∙ e) before refl
       ∙ sym (append-nil (Own (There before)))
 
-  line_deeds : (line : Line) (before : List Event)
-      → Own (There (after heading line before)) ≡ Own (There before) ++ Left (served_at heading client line before)
-  line_deeds (Step own number (act.Call ask)) before =
+  line_deeds : (gone : List ℕ) (line : Line) (before : List Event)
+      → Own (There (after heading gone line before)) ≡ Own (There before) ++ Left (served_at heading client line before)
+  line_deeds gone (Step own number (act.Call ask)) before =
       let done = done_at heading own ask before in
       one_call own number ask done.reply done.made done.to (There before) (shard == shard_of (key_of ask) heading.shards)
       (home_of heading client == home_of heading own) (own == client) refl refl
       (λ same. ap (λ c. home_of heading client == home_of heading c) same ∙ same_number (home_of heading client))
-  line_deeds (Step own number (act.Query ask)) before = one_query own number ask before (own == client) refl
-  line_deeds (Step own number (act.Peek key)) before = at_own (own == client)
+  line_deeds gone (Step own number (act.Query ask)) before = one_query own number ask before (own == client) refl
+  line_deeds gone (Step own number (act.Peek key)) before = at_own (own == client)
     where
       at_own : (b : Bool)
           → Own (There before)
           ≡ Own (There before) ++ Left (if_own b (looked number key (history (home_of heading own) (shard_of key heading.shards) before)))
       at_own true = sym (append-nil (Own (There before)))
       at_own false = sym (append-nil (Own (There before)))
-  line_deeds (Deliver to of number) before = rest_same (Deliver to of number) before tt
-  line_deeds (line.Report of) before = rest_same (line.Report of) before tt
-  line_deeds (Hear to of number) before = rest_same (Hear to of number) before tt
-  line_deeds (Sweep of moment) before = rest_same (Sweep of moment) before tt
-  line_deeds (Join joiner provider) before = rest_same (Join joiner provider) before tt
+  line_deeds gone (Deliver to of number) before = rest_same gone (Deliver to of number) before tt
+  line_deeds gone (line.Report of) before = rest_same gone (line.Report of) before tt
+  line_deeds gone (Hear to of number) before = rest_same gone (Hear to of number) before tt
+  line_deeds gone (Sweep of moment) before = rest_same gone (Sweep of moment) before tt
+  line_deeds gone (Join joiner provider) before = rest_same gone (Join joiner provider) before tt
+  line_deeds gone (Depart of) before = rest_same gone (Depart of) before tt
 
   -- The member's history has the deeds of the client's steps, each once and in order.
   pub served_deeds : (past : List Line)
@@ -297,30 +292,32 @@ module _ (heading : Heading) (client : ℕ) (shard : ℕ) (within : shard < head
       ≡ all_deeds_of client heading.shards shard (served_in heading client past)
   served_deeds [] = refl
   served_deeds (line ∷ past) =
-      line_deeds line (course heading past)
+      line_deeds (departed past) line (course heading past)
       ∙ ap (λ (all : List Deed). all ++ Left (served_at heading client line (course heading past))) (served_deeds past)
       ∙ sym (flat_map-append (deeds_of client heading.shards shard) (served_in heading client past)
       (option_to_list (served_at heading client line (course heading past))))
 
 -- ---- the peeks
 
-more_events : (heading : Heading) (one : Event) (line : Line) (before : List Event) → Among one before
-    → Among one (after heading line before)
-more_events heading one (Step own number (act.Call ask)) before a = inr a
-more_events heading one (Step own number (act.Query ask)) before a =
-    inr (each_keeps (λ k now. Among one now) heading.shards (λ s. does heading (home_of heading own) s (Asks own number ask)) before a
-    (λ s now less e. inr e))
-more_events heading one (Step own number (act.Peek key)) before a = inr a
-more_events heading one (Deliver to of number) before a =
-    rest_keeps heading (Among one) (λ m s doing now quiet e. inr e) (Deliver to of number) before tt a
-more_events heading one (line.Report of) before a =
-    rest_keeps heading (Among one) (λ m s doing now quiet e. inr e) (line.Report of) before tt a
-more_events heading one (Hear to of number) before a =
-    rest_keeps heading (Among one) (λ m s doing now quiet e. inr e) (Hear to of number) before tt a
-more_events heading one (Sweep of moment) before a =
-    rest_keeps heading (Among one) (λ m s doing now quiet e. inr e) (Sweep of moment) before tt a
-more_events heading one (Join joiner provider) before a =
-    rest_keeps heading (Among one) (λ m s doing now quiet e. inr e) (Join joiner provider) before tt a
+more_events : (heading : Heading) (gone : List ℕ) (one : Event) (line : Line) (before : List Event) → Among one before
+    → Among one (after heading gone line before)
+more_events heading gone one (Step own number (act.Call ask)) before a = inr a
+more_events heading gone one (Step own number (act.Query ask)) before a =
+    inr (each_keep (Among one) heading.shards (λ s. does heading (home_of heading own) s (Asks own number ask)) (λ s less now e. inr e)
+    before a)
+more_events heading gone one (Step own number (act.Peek key)) before a = inr a
+more_events heading gone one (Deliver to of number) before a =
+    quiet_keeps heading gone (Among one) (λ m s doing now quiet e. inr e) (Deliver to of number) before tt a
+more_events heading gone one (line.Report of) before a =
+    quiet_keeps heading gone (Among one) (λ m s doing now quiet e. inr e) (line.Report of) before tt a
+more_events heading gone one (Hear to of number) before a =
+    quiet_keeps heading gone (Among one) (λ m s doing now quiet e. inr e) (Hear to of number) before tt a
+more_events heading gone one (Sweep of moment) before a =
+    quiet_keeps heading gone (Among one) (λ m s doing now quiet e. inr e) (Sweep of moment) before tt a
+more_events heading gone one (Join joiner provider) before a =
+    quiet_keeps heading gone (Among one) (λ m s doing now quiet e. inr e) (Join joiner provider) before tt a
+more_events heading gone one (Depart of) before a =
+    quiet_keeps heading gone (Among one) (λ m s doing now quiet e. inr e) (Depart of) before tt a
 
 module _ (heading : Heading) (client number : ℕ) (peek : Peek) where
   -- another step is no peek
@@ -330,14 +327,14 @@ module _ (heading : Heading) (client number : ℕ) (peek : Peek) where
   no_peek true one apart (inr a) = a
   no_peek false one apart a = a
 
-  peek_at : (line : Line) (before : List Event)
+  peek_at : (gone : List ℕ) (line : Line) (before : List Event)
       → Among (Looked number peek) (option_to_list (served_at heading client line before))
-      → Among (Peeked client number peek) (after heading line before)
-  peek_at (Step own seq (act.Call ask)) before a =
+      → Among (Peeked client number peek) (after heading gone line before)
+  peek_at gone (Step own seq (act.Call ask)) before a =
       absurd (no_peek (own == client) (called seq ask (done_at heading own ask before)) (λ e. cc) a)
-  peek_at (Step own seq (act.Query ask)) before a =
+  peek_at gone (Step own seq (act.Query ask)) before a =
       absurd (no_peek (own == client) (Queried seq ask (replies_to heading own ask before)) (λ e. cc) a)
-  peek_at (Step own seq (act.Peek which)) before a = at_own (own == client) refl a
+  peek_at gone (Step own seq (act.Peek which)) before a = at_own (own == client) refl a
     where
       same : (other : Peek) → own ≡ client → Looked number peek ≡ Looked seq other → Peeked client number peek ≡ Peeked own seq other
       same other own_is e = cc
@@ -345,23 +342,24 @@ module _ (heading : Heading) (client number : ℕ) (peek : Peek) where
       at_own : (b : Bool) → (own == client) ≡ b
           → Among (Looked number peek) (option_to_list (if_own b (looked seq which (history (home_of heading own) (shard_of which
           heading.shards) before))))
-          → Among (Peeked client number peek) (after heading (Step own seq (act.Peek which)) before)
+          → Among (Peeked client number peek) (after heading gone (Step own seq (act.Peek which)) before)
       at_own true e (inl is) = inl (same (seen_in which (history (home_of heading own) (shard_of which heading.shards) before))
           (equal_numbers own client e) is)
       at_own true e (inr a) = absurd a
       at_own false e a = absurd a
-  peek_at (Deliver to of seq) before a = absurd a
-  peek_at (line.Report of) before a = absurd a
-  peek_at (Hear to of seq) before a = absurd a
-  peek_at (Sweep of moment) before a = absurd a
-  peek_at (Join joiner provider) before a = absurd a
+  peek_at gone (Deliver to of seq) before a = absurd a
+  peek_at gone (line.Report of) before a = absurd a
+  peek_at gone (Hear to of seq) before a = absurd a
+  peek_at gone (Sweep of moment) before a = absurd a
+  peek_at gone (Join joiner provider) before a = absurd a
+  peek_at gone (Depart of) before a = absurd a
 
   -- What the client looked at is an event of the course.
   pub peek_stood : (past : List Line) → Among (Looked number peek) (served_in heading client past)
       → Among (Peeked client number peek) (course heading past)
   peek_stood [] a = absurd a
   peek_stood (line ∷ past) a =
-      ⊎_elim (λ earlier. more_events heading (Peeked client number peek) line (course heading past) (peek_stood past earlier))
-      (λ here. peek_at line (course heading past) here)
+      ⊎_elim (λ earlier. more_events heading (departed past) (Peeked client number peek) line (course heading past) (peek_stood past earlier))
+      (λ here. peek_at (departed past) line (course heading past) here)
       (among_either (Looked number peek) (served_in heading client past)
       (option_to_list (served_at heading client line (course heading past))) a)

@@ -1,5 +1,5 @@
 -- One event more leaves one deed and one answer more.
-use Rattle.std.proofs.Common.{◌≡◌, ◌∙◌, ap, sym, subst, refl, ℕ, ◌+◌, ◌-◌, ◌≤◌, ◌<◌, List, [], ◌∷◌, ◌++◌, length, reverse, map}
+use Rattle.std.proofs.Common.{zero, suc, ◌≡◌, ◌∙◌, ap, sym, subst, refl, ℕ, ◌+◌, ◌-◌, ◌≤◌, ◌<◌, List, [], ◌∷◌, ◌++◌, length, reverse, map}
 use Rattle.std.proofs.Common.{Bool, true, false, ◌&&◌, ◌==◌, add-one, arith, get_or, set, if◌then◌else◌}
 use Rattle.std.specs.Prelude.{Option, Some, None, is_some, option_and_then, option_map, slice_get}
 use Rattle.std.proofs.lemmas.Bool.Decides.{nat_tests}
@@ -27,12 +27,12 @@ use Rattle.gr_world.specs.Clients.{Numbered, add_some, told, told_by, told_by_de
 use Rattle.gr_world.specs.Noted.{Notes, place_of}
 use Rattle.gr_world.specs.Numbered.{numbers_from}
 use Rattle.gr_world.specs.Records.{answers}
-use Rattle.gr_world.specs.Doings.{Doing, Calls, Takes, deed_of}
+use Rattle.gr_world.specs.Doings.{Doing, Calls, Takes, Sweeps, deed_of}
 use Rattle.gr_world.specs.Named.{made_by, made_by_deed, numbered, or_else, reports}
 use Rattle.gr_world.specs.Tasks.{doing_of}
 use Rattle.gr_world.specs.declared.task.Task.{Task}
 use Rattle.gr_world.specs.declared.task.Task.TheVariants as task
-use Rattle.gr_world.specs.Courses.{identity_at, does, delivers, for_each, hears, hears_of, after}
+use Rattle.gr_world.specs.Courses.{identity_at, closes_all, does, delivers, for_each, hears, hears_of, after, sweeps_at, unless, closes}
 use Rattle.gr_world.specs.declared.place.DeedPlace.{DeedPlace}
 use Rattle.gr_world.specs.Worlds.{HasMade, IsAtWork, IsCell, IsDone, IsFound, IsWorld, Plays, StandsAt, account_at, account_in}
 use Rattle.gr_world.specs.Worlds.{account_left, deed_at, grid_left, grid_with, longer, no_account, row_with, tellings_left, told_also}
@@ -243,7 +243,7 @@ pub call_plays : (heading : Heading) (old new : World) (member shard at client s
     → (1 < heading.members
     → Notes client seq (option_map (λ _. record { site = record { member = member; shard = shard }; at = at }) done.made) old.made new.made)
     → new.tellings ≡ told_also old.tellings client (answer.Reply done.reply)
-    → Plays heading (after heading (Step client seq (act.Call ask))) old new
+    → Plays heading (after heading [] (Step client seq (act.Call ask))) old new
 call_plays heading old new member shard at client seq ask done is stated at_home at_shard within called behind notes tells events world =
     let doing = Calls client seq ask in
     let past = history member shard events in
@@ -363,9 +363,9 @@ pub deliver_plays : (heading : Heading) (old new : World) (to client seq shard :
     → IsChangeOf heading old client seq (Some change)
     → shard ≡ shard_of change.key heading.shards
     → Plays heading (does heading to shard (Takes change)) old new
-    → Plays heading (after heading (Deliver to client seq)) old new
+    → Plays heading (after heading [] (Deliver to client seq)) old new
 deliver_plays heading old new to client seq shard change is_made at_shard plays events world =
-    subst (λ o. IsWorld heading (delivers heading to o events) new) (is_made events world)
+    subst (λ o. IsWorld heading (delivers heading [] to o events) new) (is_made events world)
     (subst (λ s. IsWorld heading (does heading to s (Takes change) events) new) at_shard (plays events world))
 
 -- The report of the number is heard, where there is one.
@@ -390,7 +390,7 @@ pub peek_plays : (heading : Heading) (old new : World) (member shard client seq 
     → seen ≡ answer.Peeked (present key (reverse (account_at old.grid member shard).deeds))
     (length (account_at old.grid member shard).deeds)
     → new.grid ≡ old.grid → new.tellings ≡ told_also old.tellings client seen → new.made ≡ old.made
-    → Plays heading (after heading (Step client seq (act.Peek key))) old new
+    → Plays heading (after heading [] (Step client seq (act.Peek key))) old new
 peek_plays heading old new member shard client seq key seen is stated at_home at_shard within is_seen grid_is tells made_is events world =
     let past = history member shard events in
     let looked : ℕ → ℕ → List Event =
@@ -413,6 +413,20 @@ peek_plays heading old new member shard client seq key seen is stated at_home at
     } in
     subst (λ s. IsWorld heading (looked (home_of heading client) s) new) at_shard
     (subst (λ m. IsWorld heading (looked m shard) new) at_home here)
+
+-- Where nobody departed no closing report is heard at a sweep.
+none_close : (heading : Heading) (member shard n : ℕ) (now : List Event)
+    → for_each n (λ k. unless true (closes heading member shard (suc k))) now ≡ now
+none_close heading member shard zero now = refl
+none_close heading member shard (suc n) now = none_close heading member shard n now
+
+pub sweeps_alone : (heading : Heading) (member moment n : ℕ) (now : List Event)
+    → for_each n (λ shard. does heading member shard (Sweeps moment)) now ≡ for_each n (sweeps_at heading [] member moment) now
+sweeps_alone heading member moment zero now = refl
+sweeps_alone heading member moment (suc n) now =
+    ap (does heading member n (Sweeps moment))
+    (sweeps_alone heading member moment n now
+    ∙ sym (none_close heading member n heading.members (for_each n (sweeps_at heading [] member moment) now)))
 
 -- ---- what a world that is at work has
 

@@ -1,8 +1,9 @@
 -- The course of a script: all that its lines do, in one order.
-use Rattle.std.specs.Prelude.{ℕ, zero, suc, List, [], ◌∷◌, Bool, true, false, ◌==◌, Option, Some, None, length}
+use Rattle.std.specs.Prelude.{ℕ, zero, suc, List, [], ◌∷◌, Bool, true, false, ◌&&◌, ◌||◌, ◌==◌, not, Option, Some, None, length, reverse}
 use Rattle.gr_value.specs.Shard.{shard_of}
 use Rattle.gr_stamp.specs.declared.change.Change.{Change}
 use Rattle.gr_vector.specs.declared.report.Report.{Report}
+use Rattle.gr_vector.specs.Ids.{has_id}
 use Rattle.gr_history.specs.declared.identity.Identity.{Identity}
 use Rattle.gr_history.specs.declared.image.Gift.{Gift}
 use Rattle.gr_history.specs.declared.image.Gift.TheVariants as gift
@@ -13,13 +14,16 @@ use Rattle.gr_history.specs.declared.query_reply.QueryReply.{QueryReply}
 use Rattle.gr_history.specs.Asks.{key_of}
 use Rattle.gr_history.specs.Queries.{query_gives}
 use Rattle.gr_history.specs.Gifts.{own_changes, image_of}
+use Rattle.gr_history.specs.Ids.{id_of, ids}
 use Rattle.gr_history.specs.Standing.{present}
 use Rattle.gr_script.specs.declared.line.Act.TheVariants as act
 use Rattle.gr_script.specs.declared.line.Line.{Line}
-use Rattle.gr_script.specs.declared.line.Line.TheVariants.{Step, Deliver, Hear, Sweep, Join}
+use Rattle.gr_script.specs.declared.line.Line.TheVariants.{Step, Deliver, Hear, Sweep, Join, Depart}
 use Rattle.gr_script.specs.declared.line.Line.TheVariants as line
 use Rattle.gr_script.specs.Rules.{Heading, home_of}
+use Rattle.gr_script.specs.Steps.{departed, is_gone}
 use Rattle.gr_world.specs.Events.{Event, Did, Peeked, Gathered, history}
+use Rattle.gr_world.specs.Departures.{taken_of, closing_report}
 use Rattle.gr_world.specs.Doings.{Doing, Calls, Takes, Gives, Merges, Reports, Hears, Sweeps, Asks, deed_of}
 use Rattle.gr_world.specs.Named.{made_by, reports, numbered}
 use Rattle.gr_world.specs.Numbered.{numbers_from}
@@ -64,10 +68,18 @@ abbrev pub asks : Heading → ℕ → ℕ → QueryAsk → List Event → List E
 asks heading client number ask before =
     Gathered client number (replies_to heading client ask before) ∷ asks_at_each heading client number ask heading.shards before
 
--- A member takes in a change, if there is one, in the shard of its key.
-abbrev pub delivers : Heading → ℕ → Option Change → List Event → List Event
-delivers heading member None before = before
-delivers heading member (Some change) before = does heading member (shard_of change.key heading.shards) (Takes change) before
+-- an act, unless something is so
+abbrev pub unless : Bool → (List Event → List Event) → List Event → List Event
+unless true act before = before
+unless false act before = act before
+
+-- A member takes in a change, if there is one, in the shard of its key, but no new one of a member that departed.
+abbrev pub delivers : Heading → List ℕ → ℕ → Option Change → List Event → List Event
+delivers heading gone member None before = before
+delivers heading gone member (Some change) before =
+    unless (is_gone gone change.stamp.member
+    && not (has_id (id_of change) (ids (history member (shard_of change.key heading.shards) before))))
+    (does heading member (shard_of change.key heading.shards) (Takes change)) before
 
 abbrev pub hears : Heading → ℕ → ℕ → Option Report → List Event → List Event
 hears heading member shard None before = before
@@ -105,25 +117,69 @@ abbrev pub what_from : Bool → What
 what_from true = what.Image
 what_from false = what.Own
 
--- all members' gifts at one shard
-abbrev pub joins_at : Heading → ℕ → ℕ → ℕ → List Event → List Event
-joins_at heading joiner provider shard =
-    for_each heading.members (λ n. gives_unless (suc n == joiner) heading joiner shard (suc n) (what_from (suc n == provider)))
+-- the gifts of all members that haven't departed, at one shard
+abbrev pub joins_at : Heading → List ℕ → ℕ → ℕ → ℕ → List Event → List Event
+joins_at heading gone joiner provider shard =
+    for_each heading.members
+    (λ n. gives_unless (is_gone gone (suc n) || suc n == joiner) heading joiner shard (suc n) (what_from (suc n == provider)))
 
--- The table: what is done on each kind of line.
-abbrev pub after : Heading → Line → List Event → List Event
-after heading (Step client number (act.Call ask)) before =
+-- ---- departures
+
+-- A member hears the closing report of one that departed,
+abbrev pub closes : Heading → ℕ → ℕ → ℕ → List Event → List Event
+closes heading member shard of now = does heading member shard (Hears (closing_report of (history member shard now))) now
+
+-- and of each that did.
+abbrev pub closes_all : Heading → List ℕ → ℕ → ℕ → List Event → List Event
+closes_all heading gone member shard =
+    for_each heading.members (λ n. unless (not (is_gone gone (suc n))) (closes heading member shard (suc n)))
+
+-- A sweep goes through behind these.
+abbrev pub sweeps_at : Heading → List ℕ → ℕ → ℕ → ℕ → List Event → List Event
+sweeps_at heading gone member moment shard now = does heading member shard (Sweeps moment) (closes_all heading gone member shard now)
+
+-- A member takes in a change that it doesn't know yet.
+abbrev pub takes_new : Heading → ℕ → ℕ → Change → List Event → List Event
+takes_new heading member shard change before =
+    unless (has_id (id_of change) (ids (history member shard before))) (does heading member shard (Takes change)) before
+
+-- the same of each of these, in order
+abbrev pub takes_new_all : Heading → ℕ → ℕ → List Change → List Event → List Event
+takes_new_all heading member shard [] before = before
+takes_new_all heading member shard (change ∷ rest) before =
+    takes_new_all heading member shard rest (takes_new heading member shard change before)
+
+-- A member takes in the departed member's changes that another one took in, the oldest first.
+abbrev pub copies : Heading → ℕ → ℕ → ℕ → ℕ → List Event → List Event
+copies heading of shard taker giver before =
+    takes_new_all heading taker shard (reverse (taken_of of (history giver shard before))) before
+
+-- those of each other member that stays
+abbrev pub copies_all : Heading → List ℕ → ℕ → ℕ → ℕ → List Event → List Event
+copies_all heading gone of shard taker =
+    for_each heading.members (λ n. unless (suc n == taker || is_gone gone (suc n)) (copies heading of shard taker (suc n)))
+
+-- each member that stays does so
+abbrev pub hands_over : Heading → List ℕ → ℕ → ℕ → List Event → List Event
+hands_over heading gone of shard =
+    for_each heading.members (λ n. unless (is_gone gone (suc n)) (copies_all heading gone of shard (suc n)))
+
+-- ---- the lines
+
+-- The table: what is done on each kind of line, where these members have departed.
+abbrev pub after : Heading → List ℕ → Line → List Event → List Event
+after heading gone (Step client number (act.Call ask)) before =
     does heading (home_of heading client) (shard_of (key_of ask) heading.shards) (Calls client number ask) before
-after heading (Step client number (act.Query ask)) before = asks heading client number ask before
-after heading (Step client number (act.Peek key)) before = looks heading client number key before
-after heading (Deliver member client number) before = delivers heading member (made_by client number before) before
-after heading (line.Report member) before = for_each heading.shards (λ shard. does heading member shard Reports) before
-after heading (Hear member of number) before =
-    for_each heading.shards (hears_of heading member of number) before
-after heading (Sweep member moment) before = for_each heading.shards (λ shard. does heading member shard (Sweeps moment)) before
-after heading (Join joiner provider) before = for_each heading.shards (joins_at heading joiner provider) before
+after heading gone (Step client number (act.Query ask)) before = asks heading client number ask before
+after heading gone (Step client number (act.Peek key)) before = looks heading client number key before
+after heading gone (Deliver member client number) before = delivers heading gone member (made_by client number before) before
+after heading gone (line.Report member) before = for_each heading.shards (λ shard. does heading member shard Reports) before
+after heading gone (Hear member of number) before = for_each heading.shards (hears_of heading member of number) before
+after heading gone (Sweep member moment) before = for_each heading.shards (sweeps_at heading gone member moment) before
+after heading gone (Join joiner provider) before = for_each heading.shards (joins_at heading gone joiner provider) before
+after heading gone (Depart member) before = for_each heading.shards (hands_over heading (member ∷ gone) member) before
 
 -- all that the lines do, which are listed the last one first
 abbrev pub course : Heading → List Line → List Event
 course heading [] = []
-course heading (line ∷ past) = after heading line (course heading past)
+course heading (line ∷ past) = after heading (departed past) line (course heading past)

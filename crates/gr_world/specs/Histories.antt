@@ -1,12 +1,13 @@
 -- The histories of a record, shard by shard, and the laws that they keep.
-use Rattle.std.specs.Prelude.{ℕ, zero, suc, ◌<◌, ◌==◌, List, [], ◌∷◌, reverse, map, if◌then◌else◌}
+use Rattle.std.specs.Prelude.{◌⊎◌, ℕ, zero, suc, ◌<◌, ◌==◌, List, [], ◌∷◌, reverse, map, if◌then◌else◌}
 use Rattle.gr_history.specs.declared.deed.Deed.{Deed}
 use Rattle.gr_history.specs.declared.record.Record.{Record}
 use Rattle.gr_law.specs.Grids.{Grid}
-use Rattle.gr_law.specs.Integrity.{IsWhole}
+use Rattle.gr_law.specs.Integrity.{IsHeardDeed, IsSound}
 use Rattle.gr_law.specs.QueryMaps.{law_queries}
 use Rattle.gr_law.specs.Laws.{law_0, law_1, law_2, law_3, same_value, same_entry, law_4, law_5}
 use Rattle.gr_script.specs.Rules.{Heading}
+use Rattle.gr_world.specs.Departures.{IsClosing}
 use Rattle.gr_world.specs.Grids.{grid_from}
 use Rattle.gr_world.specs.Records.{MemberHistories, histories_of}
 
@@ -26,9 +27,15 @@ history_at shard (first ∷ rest) member =
 abbrev pub grid_of : Heading → ℕ → List MemberHistories → Grid
 grid_of heading shard all = grid_from heading (λ member shard. history_at shard all member) shard
 
--- What was taken in was made, and the laws of records hold of the histories.
-pub record IsLawAbiding (grid : Grid) : Type 0 where
-  pub whole : IsWhole grid
+-- A report that is heard was made, or it closes one of these members.
+abbrev pub AreHeardOrClosing : List ℕ → Grid → List Deed → Type 0
+AreHeardOrClosing gone grid [] = Unit {0}
+AreHeardOrClosing gone grid (deed ∷ past) = (IsHeardDeed grid deed ⊎ IsClosing gone deed past) × AreHeardOrClosing gone grid past
+
+-- Where these members departed: what was taken in was made, and the laws of records hold of the histories.
+pub record IsLawAbiding (gone : List ℕ) (grid : Grid) : Type 0 where
+  pub sound : IsSound grid
+  pub heard : (member : ℕ) → AreHeardOrClosing gone grid (grid.history member)
   pub reached : law_0 grid
   pub greater : law_1 grid
   pub late : law_2 grid
@@ -40,5 +47,6 @@ pub record IsLawAbiding (grid : Grid) : Type 0 where
   pub queries : law_queries grid
 
 -- So it is at each shard of a record.
-abbrev pub KeepsLaws : Heading → Record → Type 0
-KeepsLaws heading left = (shard : ℕ) → shard < heading.shards → IsLawAbiding (grid_of heading shard (map histories_of left.members))
+abbrev pub KeepsLaws : Heading → List ℕ → Record → Type 0
+KeepsLaws heading gone left =
+    (shard : ℕ) → shard < heading.shards → IsLawAbiding gone (grid_of heading shard (map histories_of left.members))

@@ -1,6 +1,7 @@
 pub mod Causes
 pub mod Clients
 pub mod Courses
+pub mod Departures
 pub mod Doings
 pub mod Events
 pub mod Grids
@@ -12,5 +13,7 @@ pub mod Played
 pub mod Records
 pub mod Rows
 pub mod Served
+pub mod Shut
+pub mod Stages
 pub mod Tasks
 pub mod Worlds

@@ -1,12 +1,12 @@
-ghost use Rattle.std.specs.Prelude.{◌≡◌, ◌<◌, IfOk};
+ghost use Rattle.std.specs.Prelude.{◌≡◌, ◌<◌, [], IfOk};
 ghost use Rattle.std.specs.List.{AllByRecursion};
 ghost use Rattle.gr_value.specs.Shard.{shard_of};
 ghost use Rattle.gr_script.specs.declared.line.Line.TheVariants as line;
 ghost use Rattle.gr_script.specs.Rules.{IsMember};
-ghost use Rattle.gr_script.specs.Scripts.{heading_of};
 ghost use Rattle.gr_shard.specs.Merges.{IsGiftFor};
 ghost use Rattle.gr_world.specs.Courses.{after, gives, identity_at, joins_at, takes_all, takes_gift, what_from};
-ghost use Rattle.gr_world.specs.Worlds.{IsAtWork, Plays};
+ghost use Rattle.gr_world.specs.Stages.{PlaysAt, heading_at};
+ghost use Rattle.gr_world.specs.Worlds.{IsAtWork};
 
 use crate::site::Site;
 use crate::stage::Stage;
@@ -26,13 +26,12 @@ fn what_from(is_provider: bool) -> What
 impl World {
     // A member takes in changes of one shard, in their order.
     fn take_all(&mut self, stage: Stage, site: Site, changes: &[Change]) -> Result<(), Memory>
-        requires work { IsAtWork (heading_of stage.script.now) self.old }
-        requires member { IsMember (heading_of stage.script.now) site.member }
+        requires work { IsAtWork (heading_at stage) self.old }
+        requires member { IsMember (heading_at stage) site.member }
         requires shard { site.shard < stage.script.now.shards }
         requires here { AllByRecursion (λ change. shard_of change.key stage.script.now.shards ≡ site.shard) changes.now }
         ensures { IfOk result
-            (λ _. Plays (heading_of stage.entry.script.now)
-            (takes_all (heading_of stage.entry.script.now) site.member site.shard changes.now) self.old self.new) }
+            (λ _. PlaysAt stage.entry (λ heading. takes_all heading site.member site.shard changes.now) self.old self.new) }
     {
         for change in changes {
             self.grid.does(stage.alloc, site, Task::Take(change))?;
@@ -42,13 +41,11 @@ impl World {
 
     // A joiner takes in what it was given of a shard.
     fn take_gift(&mut self, stage: Stage, site: Site, gift: &Gift) -> Result<(), Memory>
-        requires work { IsAtWork (heading_of stage.script.now) self.old }
-        requires joiner { IsMember (heading_of stage.script.now) site.member }
+        requires work { IsAtWork (heading_at stage) self.old }
+        requires joiner { IsMember (heading_at stage) site.member }
         requires shard { site.shard < stage.script.now.shards }
-        requires fits { IsGiftFor (identity_at (heading_of stage.script.now) site.member site.shard) gift.now }
-        ensures { IfOk result
-            (λ _. Plays (heading_of stage.entry.script.now)
-            (takes_gift (heading_of stage.entry.script.now) site.member site.shard gift.now) self.old self.new) }
+        requires fits { IsGiftFor (identity_at (heading_at stage) site.member site.shard) gift.now }
+        ensures { IfOk result (λ _. PlaysAt stage.entry (λ heading. takes_gift heading site.member site.shard gift.now) self.old self.new) }
     {
         match gift {
             Gift::Image(image) => Ok(self.grid.does(stage.alloc, site, Task::Merge(image))?),
@@ -56,15 +53,19 @@ impl World {
         }
     }
 
-    // A member gives the joiner an image of a shard, or its own changes, and the joiner takes it in at once.
-    fn hand_over(&mut self, stage: Stage, site: Site, giver: u8, what: What) -> Result<(), Memory>
-        requires work { IsAtWork (heading_of stage.script.now) self.old }
-        requires joiner { IsMember (heading_of stage.script.now) site.member }
-        requires giver { IsMember (heading_of stage.script.now) giver }
+    /// A member gives the joiner an image of a shard, or its own changes, and the joiner takes it in at once.
+    pub fn hand_over(
+        &mut self,
+        stage: Stage,
+        site: Site,
+        giver: u8,
+        what: What,
+    ) -> Result<(), Memory>
+        requires work { IsAtWork (heading_at stage) self.old }
+        requires joiner { IsMember (heading_at stage) site.member }
+        requires giver { IsMember (heading_at stage) giver }
         requires shard { site.shard < stage.script.now.shards }
-        ensures { IfOk result
-            (λ _. Plays (heading_of stage.entry.script.now)
-            (gives (heading_of stage.entry.script.now) site.member site.shard giver what) self.old self.new) }
+        ensures { IfOk result (λ _. PlaysAt stage.entry (λ heading. gives heading site.member site.shard giver what) self.old self.new) }
     {
         let from = Site {
             member: giver,
@@ -76,12 +77,10 @@ impl World {
 
     // All other members' gifts at one shard.
     fn join_at(&mut self, stage: Stage, site: Site, provider: u8) -> Result<(), Memory>
-        requires work { IsAtWork (heading_of stage.script.now) self.old }
-        requires joiner { IsMember (heading_of stage.script.now) site.member }
+        requires work { IsAtWork (heading_at stage) self.old }
+        requires joiner { IsMember (heading_at stage) site.member }
         requires shard { site.shard < stage.script.now.shards }
-        ensures { IfOk result
-            (λ _. Plays (heading_of stage.entry.script.now)
-            (joins_at (heading_of stage.entry.script.now) site.member provider site.shard) self.old self.new) }
+        ensures { IfOk result (λ _. PlaysAt stage.entry (λ heading. joins_at heading [] site.member provider site.shard) self.old self.new) }
     {
         for below in 0..stage.script.members {
             let giver = below + 1;
@@ -94,11 +93,9 @@ impl World {
 
     /// A member joins: of each shard the provider gives it an image, and the other members what they made.
     pub(crate) fn join(&mut self, stage: Stage, member: u8, provider: u8) -> Result<(), Memory>
-        requires work { IsAtWork (heading_of stage.script.now) self.old }
-        requires member { IsMember (heading_of stage.script.now) member }
-        ensures { IfOk result
-            (λ _. Plays (heading_of stage.entry.script.now)
-            (after (heading_of stage.entry.script.now) (line.Join member provider)) self.old self.new) }
+        requires work { IsAtWork (heading_at stage) self.old }
+        requires member { IsMember (heading_at stage) member }
+        ensures { IfOk result (λ _. PlaysAt stage.entry (λ heading. after heading [] (line.Join member provider)) self.old self.new) }
     {
         for shard in 0..stage.script.shards {
             self.join_at(stage, Site { member, shard }, provider)?;

@@ -8,7 +8,6 @@ mod laws;
 mod made;
 mod noted;
 mod place;
-mod playing;
 mod querying;
 mod replaying;
 mod row;
@@ -20,10 +19,13 @@ mod task;
 mod tellings;
 mod world;
 
-pub use laws::laws_of_courses;
-pub use playing::play_text;
+pub use laws::{laws_of_courses, records_keep_the_laws};
 pub use replaying::replay;
 pub use rows::{
     a_joiner_that_never_joined_is_not_waited_for, a_joiner_that_was_given_to_is_waited_for,
     a_repeat_is_told, an_image_drops_a_tombstone, concurrent_puts_meet,
 };
+pub use site::Site;
+pub use stage::Stage;
+pub use task::Task;
+pub use world::World;

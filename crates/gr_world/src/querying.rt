@@ -1,8 +1,8 @@
 ghost use Rattle.std.specs.Prelude.{IfOk};
 ghost use Rattle.gr_script.specs.Rules.{IsStated};
-ghost use Rattle.gr_script.specs.Scripts.{heading_of};
 ghost use Rattle.gr_world.specs.Courses.{asks};
-ghost use Rattle.gr_world.specs.Worlds.{IsAtWork, Plays};
+ghost use Rattle.gr_world.specs.Stages.{PlaysAt, heading_at};
+ghost use Rattle.gr_world.specs.Worlds.{IsAtWork};
 
 use crate::site::Site;
 use crate::stage::Stage;
@@ -20,11 +20,9 @@ impl World {
         step: StepName,
         ask: &QueryAsk,
     ) -> Result<(), Memory>
-        requires work { IsAtWork (heading_of stage.script.now) self.old }
-        requires stated { IsStated step.client (heading_of stage.script.now) }
-        ensures { IfOk result
-            (λ _. Plays (heading_of stage.entry.script.now)
-            (asks (heading_of stage.entry.script.now) step.client step.seq ask.now) self.old self.new) }
+        requires work { IsAtWork (heading_at stage) self.old }
+        requires stated { IsStated step.client (heading_at stage) }
+        ensures { IfOk result (λ _. PlaysAt stage.entry (λ heading. asks heading step.client step.seq ask.now) self.old self.new) }
     {
         let member = home(stage.script, step.client);
         let mut replies = QueryReplyList::new(stage.alloc)?;

@@ -12,7 +12,8 @@ ghost use Rattle.gr_world.specs.Events.{Event};
 ghost use Rattle.gr_world.specs.Named.{made_by};
 ghost use Rattle.gr_world.specs.Records.{IsLeft};
 ghost use Rattle.gr_world.specs.Noted.{Notes};
-ghost use Rattle.gr_world.specs.Worlds.{CanPlay, IsAtWork, IsWorld, Plays};
+ghost use Rattle.gr_world.specs.Stages.{PlaysAt, heading_at};
+ghost use Rattle.gr_world.specs.Worlds.{CanPlay, IsAtWork, IsWorld, account_left};
 ghost use Rattle.gr_history.specs.Made.{made_in};
 
 use crate::grid::Grid;
@@ -30,7 +31,8 @@ use gr_stamp::Change;
 use gr_value::{Copied, Key, Memory};
 use std::alloc::Global;
 
-/// All members' shards, what each client was told, and where what each step made stands.
+/// All members' shards, what each client was told, and where what each step made stands. What is done to
+/// it is told by the courses that leave it.
 #[derive(Drop)]
 pub struct World {
     pub grid: Grid,
@@ -47,8 +49,7 @@ fn note(
     made: bool,
 ) -> Result<(), Memory>
     requires { 1 ≤ place.site.member }
-    ensures { IfOk result
-        (λ _. 1 < members → Notes step.client step.seq (if made then Some place else None) noted.old noted.new) }
+    ensures { IfOk result (λ _. 1 < members → Notes step.client step.seq (if made then Some place else None) noted.old noted.new) }
 {
     if made && members > 1 {
         noted.note(step, place)?;
@@ -106,12 +107,34 @@ impl World {
         })
     }
 
-    fn call(&mut self, stage: Stage, step: StepName, ask: Ask) -> Result<(), Memory>
-        requires work { IsAtWork (heading_of stage.script.now) self.old }
-        requires stated { IsStated step.client (heading_of stage.script.now) }
+    /// A member's shard.
+    pub fn view(&self, stage: Stage, site: Site) -> &Shard
+        requires work { IsAtWork (heading_at stage) self.now }
+        requires member { IsMember (heading_at stage) site.member }
+        requires shard { site.shard < stage.script.now.shards }
+        ensures { (events : List Event) → IsWorld (heading_at stage.entry) events self.now
+            → result.now ≡ account_left (heading_at stage.entry) events site.member site.shard }
+    {
+        self.grid.cell(site).shard()
+    }
+
+    /// Does one thing at a member's shard, and nothing else.
+    pub fn does(&mut self, stage: Stage, site: Site, task: Task) -> Result<(), Memory>
+        requires work { IsAtWork (heading_at stage) self.old }
+        requires member { IsMember (heading_at stage) site.member }
+        requires shard { site.shard < stage.script.now.shards }
+        requires here { BelongsTo (account_left (heading_at stage) [] site.member site.shard) (doing_of task) }
         ensures { IfOk result
-            (λ _. Plays (heading_of stage.entry.script.now)
-            (after (heading_of stage.entry.script.now) (line.Step step.client step.seq (act.Call ask))) self.old self.new) }
+            (λ _. PlaysAt stage.entry (λ heading. does heading site.member site.shard (doing_of task.entry)) self.old self.new) }
+    {
+        Ok(self.grid.does(stage.alloc, site, task)?)
+    }
+
+    fn call(&mut self, stage: Stage, step: StepName, ask: Ask) -> Result<(), Memory>
+        requires work { IsAtWork (heading_at stage) self.old }
+        requires stated { IsStated step.client (heading_at stage) }
+        ensures { IfOk result
+            (λ _. PlaysAt stage.entry (λ heading. after heading [] (line.Step step.client step.seq (act.Call ask))) self.old self.new) }
     {
         let member = home(stage.script, step.client);
         let shard = ask.key().shard(stage.script.shards);
@@ -124,12 +147,11 @@ impl World {
     }
 
     fn peek(&mut self, stage: Stage, client: u8, key: &Key) -> Result<(), Memory>
-        requires work { IsAtWork (heading_of stage.script.now) self.old }
-        requires stated { IsStated client (heading_of stage.script.now) }
+        requires work { IsAtWork (heading_at stage) self.old }
+        requires stated { IsStated client (heading_at stage) }
         ensures { IfOk result
             (λ _. (seq : ℕ)
-            → Plays (heading_of stage.entry.script.now)
-            (after (heading_of stage.entry.script.now) (line.Step client seq (act.Peek key.now))) self.old self.new) }
+            → PlaysAt stage.entry (λ heading. after heading [] (line.Step client seq (act.Peek key.now))) self.old self.new) }
     {
         let member = home(stage.script, client);
         let shard = key.shard(stage.script.shards);
@@ -139,11 +161,9 @@ impl World {
     }
 
     fn step(&mut self, stage: Stage, step: StepName, act: Act) -> Result<(), Memory>
-        requires work { IsAtWork (heading_of stage.script.now) self.old }
-        requires stated { IsStated step.client (heading_of stage.script.now) }
-        ensures { IfOk result
-            (λ _. Plays (heading_of stage.entry.script.now)
-            (after (heading_of stage.entry.script.now) (line.Step step.client step.seq act)) self.old self.new) }
+        requires work { IsAtWork (heading_at stage) self.old }
+        requires stated { IsStated step.client (heading_at stage) }
+        ensures { IfOk result (λ _. PlaysAt stage.entry (λ heading. after heading [] (line.Step step.client step.seq act)) self.old self.new) }
     {
         match act {
             Act::Call(ask) => Ok(self.call(stage, step, ask)?),
@@ -152,12 +172,12 @@ impl World {
         }
     }
 
-    // What a step made, if it made anything.
-    fn change_of(&self, stage: Stage, client: u8, seq: u32) -> Result<Option<Change>, Memory>
-        requires work { IsAtWork (heading_of stage.script.now) self.now }
+    /// What a step made, if it made anything.
+    pub fn change_of(&self, stage: Stage, client: u8, seq: u32) -> Result<Option<Change>, Memory>
+        requires work { IsAtWork (heading_at stage) self.now }
         requires many { 1 < stage.script.now.members }
         ensures { IfOk result (λ made. (events : List Event)
-            → IsWorld (heading_of stage.entry.script.now) events self.now → made ≡ made_by client seq events) }
+            → IsWorld (heading_at stage.entry) events self.now → made ≡ made_by client seq events) }
     {
         let Some(place) = self.made.find(client, seq) else {
             return Ok(None);
@@ -167,12 +187,10 @@ impl World {
     }
 
     fn deliver(&mut self, stage: Stage, to: u8, client: u8, seq: u32) -> Result<(), Memory>
-        requires work { IsAtWork (heading_of stage.script.now) self.old }
-        requires member { IsMember (heading_of stage.script.now) to }
+        requires work { IsAtWork (heading_at stage) self.old }
+        requires member { IsMember (heading_at stage) to }
         requires many { 1 < stage.script.now.members }
-        ensures { IfOk result
-            (λ _. Plays (heading_of stage.entry.script.now)
-            (after (heading_of stage.entry.script.now) (line.Deliver to client seq)) self.old self.new) }
+        ensures { IfOk result (λ _. PlaysAt stage.entry (λ heading. after heading [] (line.Deliver to client seq)) self.old self.new) }
     {
         if let Some(change) = self.change_of(stage, client, seq)? {
             let shard = change.key.shard(stage.script.shards);
@@ -184,12 +202,12 @@ impl World {
 
     // Does one thing at each of a member's shards.
     fn at_each_shard(&mut self, stage: Stage, member: u8, task: Task) -> Result<(), Memory>
-        requires work { IsAtWork (heading_of stage.script.now) self.old }
-        requires member { IsMember (heading_of stage.script.now) member }
+        requires work { IsAtWork (heading_at stage) self.old }
+        requires member { IsMember (heading_at stage) member }
         requires any { (account : Account) → BelongsTo account (doing_of task) }
-        ensures { IfOk result (λ _. Plays (heading_of stage.entry.script.now)
-            (for_each stage.entry.script.now.shards (λ shard. does (heading_of stage.entry.script.now) member shard (doing_of task.entry)))
-            self.old self.new) }
+        ensures { IfOk result
+            (λ _. PlaysAt stage.entry
+            (λ heading. for_each heading.shards (λ shard. does heading member shard (doing_of task.entry))) self.old self.new) }
     {
         for shard in 0..stage.script.shards {
             let site = Site { member, shard };
@@ -200,12 +218,10 @@ impl World {
 
     // Hears the report of a number at each shard, where there is one.
     fn hear(&mut self, stage: Stage, by: u8, of: u8, number: u32) -> Result<(), Memory>
-        requires work { IsAtWork (heading_of stage.script.now) self.old }
-        requires by { IsMember (heading_of stage.script.now) by }
-        requires of { IsMember (heading_of stage.script.now) of }
-        ensures { IfOk result
-            (λ _. Plays (heading_of stage.entry.script.now)
-            (after (heading_of stage.entry.script.now) (line.Hear by of number)) self.old self.new) }
+        requires work { IsAtWork (heading_at stage) self.old }
+        requires by { IsMember (heading_at stage) by }
+        requires of { IsMember (heading_at stage) of }
+        ensures { IfOk result (λ _. PlaysAt stage.entry (λ heading. after heading [] (line.Hear by of number)) self.old self.new) }
     {
         for shard in 0..stage.script.shards {
             if let Some(report) = self.grid.cell(Site { member: of, shard }).reported(number) {
@@ -219,10 +235,9 @@ impl World {
 
     /// Does what a line names.
     pub fn play(&mut self, stage: Stage, line: Line) -> Result<(), Memory>
-        requires work { IsAtWork (heading_of stage.script.now) self.old }
-        requires stated { CanPlay (heading_of stage.script.now) line }
-        ensures { IfOk result
-            (λ _. Plays (heading_of stage.entry.script.now) (after (heading_of stage.entry.script.now) line) self.old self.new) }
+        requires work { IsAtWork (heading_at stage) self.old }
+        requires stated { CanPlay (heading_at stage) line }
+        ensures { IfOk result (λ _. PlaysAt stage.entry (λ heading. after heading [] line) self.old self.new) }
     {
         match line {
             Line::Step { client, seq, act } => {
@@ -235,11 +250,12 @@ impl World {
                 Ok(self.at_each_shard(stage, member, Task::Sweep(moment))?)
             }
             Line::Join { member, from } => Ok(self.join(stage, member, from)?),
+            Line::Depart { .. } => unreachable!(),
         }
     }
 
     /// What is left behind the last line.
-    pub fn into_record(self, alloc: Global, script: &Script) -> Result<Record, Memory>
+    pub fn finish(self, alloc: Global, script: &Script) -> Result<Record, Memory>
         requires { IsAtWork (heading_of script.now) self }
         ensures { IfOk result
             (λ left. (events : List Event) → IsWorld (heading_of script.now) events self

@@ -1,4 +1,4 @@
-use Rattle.std.proofs.Common.{◌∙◌, ◌≤◌, List, ◌∷◌, Option, Ok, Result, IfSome, ap, sym, subst, arith}
+use Rattle.std.proofs.Common.{◌∙◌, ◌≤◌, List, ◌∷◌, Option, Ok, Result, IfSome, refl, ap, sym, subst, arith}
 use Rattle.gr_script.specs.declared.plain.PlainStep.{PlainStep}
 use Rattle.gr_script.specs.declared.reason.Reason.{Reason}
 use Rattle.gr_script.specs.declared.saying.Saying.{Saying}
@@ -21,7 +21,7 @@ push_step-requires-clause-next c =
     record {
       line = c.args.next.line.now;
       ahead_is = c.requires;
-      reads = printed_says t.runs (said t) c.args.next.line.now step _ printed whole c.setting.ensures c.if-is_stated.ensures;
+      reads = printed_says t.runs (said t) c.args.next.line.now step _ printed whole refl c.if-serves.ensures.stated c.if-serves.ensures.staying;
     }
 
 pub returns-in-Some-clause-some : goal.returns-in-Some-clause-some
@@ -33,7 +33,7 @@ returns-in-Some-clause-some c =
     let next : IsNext t (act_saying step.client step.act ∷ said t) c.args.next.after.now = record {
       line = c.args.next.line.now;
       ahead_is = c.requires;
-      reads = printed_says t.runs (said t) c.args.next.line.now step _ printed whole c.setting.ensures c.if-is_stated.ensures;
+      reads = printed_says t.runs (said t) c.args.next.line.now step _ printed whole refl c.if-serves.ensures.stated c.if-serves.ensures.staying;
     } in
     record {
       taken = c.push_step.ensures.taken;

@@ -11,7 +11,7 @@ returns-clause-line c =
     let t = c.args.self.now in
     let client = c.args.step.client in
     let stepped = subst (λ (s : Taken). c.of-seq.result ≡ steps c.from-first.result (said s)) c.self.view_is
-    (c.of-seq.ensures ∙ c.self.invariant.0.stepped c.from-first.result) in
+    (c.of-seq.ensures ∙ c.self.invariant.0.tallied.steps c.from-first.result) in
     let counted = stepped ∙ ap (λ (n : ℕ). steps n (said t)) c.from-first.ensures in
     ap lines_taken c.put.ensures
     ∙ line_next t (act_saying client c.args.step.act) _ c.args.after.now c.requires.next

@@ -1,12 +1,11 @@
-use Rattle.std.proofs.Common.{◌≡◌, ◌∙◌, ℕ, List, [], ◌∷◌, ◌++◌, false, cond, refl, sym, ap, subst, arith}
+use Rattle.std.proofs.Common.{◌≡◌, ◌∙◌, ℕ, List, [], ◌∷◌, ◌++◌, cond, refl, sym, ap, subst, arith}
 use Rattle.gr_script.specs.declared.forms.LineKind.TheVariants as kind
 use Rattle.gr_script.specs.declared.saying.Saying.{Saying}
-use Rattle.gr_script.specs.Forms.{is_step, is_kind}
+use Rattle.gr_script.specs.Forms.{is_kind}
 use Rattle.gr_script.specs.Index.{IsIndex}
 use Rattle.gr_script.specs.Past.{number}
 use Rattle.gr_script.specs.Taken.{Taken, said, IsNext}
-use Rattle.gr_script.proofs.Keeping.{uncounted}
-use Rattle.gr_script.proofs.Standing.{early}
+use Rattle.gr_script.proofs.LineTallied.{none_tallied}
 use Rattle.gr_script.proofs.Taking.{ahead_next, room_left, said_next, taken_next}
 use Rattle.gr_script.proofs.past.Past.with.Goals as goal
 
@@ -21,14 +20,11 @@ invariant_of-result c =
     let old = c.self.invariant.0 in
     let room = room_left t (line ∷ past) after c.self.invariant.1 next in
     let homed = c.in_ok-homes.ensures ∙ ap (λ (hs : List ℕ). cond (is_kind kind.Client line.kind) (hs ++ number 1 line.items ∷ []) hs) old.homed in
-    let founded = c.stated_with-founders.ensures ∙ ap (λ (f : ℕ). cond (is_kind kind.Members line.kind) (number 1 line.items) f) old.founded in
-    let no_step = early (λ f. is_step f ≡ false) refl refl refl refl refl refl refl refl line.kind c.requires.early in
-    let no_report = early (λ f. is_kind kind.Report f ≡ false) refl refl refl refl refl refl refl refl line.kind c.requires.early in
-    let no_join = early (λ f. is_kind kind.Join f ≡ false) refl refl refl refl refl refl refl refl line.kind c.requires.early in (
+    let founded = c.stated_with-founders.ensures ∙ ap (λ (f : ℕ). cond (is_kind kind.Members line.kind) (number 1 line.items) f) old.founded in (
       subst
           (λ (p : List Saying).
           IsIndex c.next_rank.result c.in_ok-setting.setting c.stated_with-founders.result c.sizes_with-sizes.result
-          c.in_ok-homes.homes held.steps held.reports held.joins c.counted_with-counted.result p)
+          c.in_ok-homes.homes held.tallies c.counted_with-counted.result p)
           (sym (said_next t (line ∷ past) after next)) (
           record {
             staged = c.next_rank.ensures;
@@ -36,9 +32,7 @@ invariant_of-result c =
             founded = founded;
             sized = c.sizes_with-sizes.ensures past old.sized;
             homed = homed;
-            stepped = λ n. old.stepped n ∙ uncounted is_step n past line no_step;
-            reported = λ n. old.reported n ∙ uncounted (is_kind kind.Report) n past line no_report;
-            joined = λ n. old.joined n ∙ uncounted (is_kind kind.Join) n past line no_join;
+            tallied = none_tallied past line held.tallies c.requires.early old.tallied;
             counts = c.counted_with-counted.ensures past line old.counts refl;
             few = omega (arith, room);
           }

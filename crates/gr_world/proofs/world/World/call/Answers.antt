@@ -4,6 +4,7 @@ use Rattle.gr_history.specs.Asks.{key_of}
 use Rattle.gr_script.specs.Scripts.{heading_of}
 use Rattle.gr_history.specs.declared.record.Answer.TheVariants.{Reply}
 use Rattle.gr_shard.specs.Calls.{served}
+use Rattle.gr_world.specs.Stages.{heading_at}
 use Rattle.gr_world.specs.declared.place.DeedPlace.{DeedPlace}
 use Rattle.gr_world.specs.Noted.{Notes}
 use Rattle.gr_world.specs.Worlds.{account_at, gives_at, told_also}
@@ -27,7 +28,7 @@ call-requires-clause-here c =
 
 pub tell-requires-clause-stated : goal.tell-requires-clause-stated
 tell-requires-clause-stated c =
-    stated_told (heading_of c.args.stage.script.now) c.args.self.now c.args.step.client c.requires.work c.requires.stated
+    stated_told (heading_at c.args.stage) c.args.self.now c.args.step.client c.requires.work c.requires.stated
 
 pub returns : goal.returns
 returns c =

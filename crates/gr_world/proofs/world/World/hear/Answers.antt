@@ -1,8 +1,8 @@
 use Rattle.std.proofs.Common.{◌∙◌, ap, subst, sym, refl, reverse, Some, None}
-use Rattle.gr_script.specs.Scripts.{heading_of}
 use Rattle.gr_world.specs.Courses.{for_each, hears_of}
 use Rattle.gr_world.specs.Doings.{Hears}
 use Rattle.gr_world.specs.Named.{numbered, reports}
+use Rattle.gr_world.specs.Stages.{heading_at}
 use Rattle.gr_world.specs.Worlds.{IsDone, Plays, account_at, deed_at}
 use Rattle.gr_world.specs.declared.task.Task.TheVariants.{Hear}
 use Rattle.gr_world.proofs.Worlds.{for_each_plays, hear_plays, task_plays, work_cell, work_on}
@@ -11,7 +11,7 @@ use Rattle.gr_world.proofs.world.World.hear.Goals.{in-Some+in_ok-report+in_ok-do
 
 pub cell-requires : goal.cell-requires
 cell-requires c =
-    let heading = heading_of c.args.stage.script.now in
+    let heading = heading_at c.args.stage in
     work_cell heading c.loop-shard.self c.args.of c.loop-shard.shard
     (work_on heading (for_each c.loop-shard.shard (hears_of heading c.args.by c.args.of c.args.number)) c.args.self.now c.loop-shard.self
     c.requires.work c.loop-shard.invariant)
@@ -19,7 +19,7 @@ cell-requires c =
 
 pub does-requires-clause-cell : goal.does-requires-clause-cell
 does-requires-clause-cell c =
-    let heading = heading_of c.args.stage.script.now in
+    let heading = heading_at c.args.stage in
     work_cell heading c.loop-shard.self c.args.by c.loop-shard.shard
     (work_on heading (for_each c.loop-shard.shard (hears_of heading c.args.by c.args.of c.args.number)) c.args.self.now c.loop-shard.self
     c.requires.work c.loop-shard.invariant)
@@ -27,7 +27,7 @@ does-requires-clause-cell c =
 
 pub loop-shard-preserved : goal.loop-shard-preserved
 loop-shard-preserved c =
-    let heading = heading_of c.args.stage.script.now in
+    let heading = heading_at c.args.stage in
     let now = c.loop-shard.self in
     let shard = c.loop-shard.shard in
     let act = hears_of heading c.args.by c.args.of c.args.number in

@@ -1,8 +1,8 @@
 use Rattle.std.proofs.Common.{suc, ◌≡◌, ◌+◌, ◌==◌, Bool, true, false, ℕ, List, subst, sym, arith}
 use Rattle.std.proofs.lemmas.Bool.Decides.{nat_tests}
-use Rattle.gr_script.specs.Scripts.{heading_of}
 use Rattle.gr_world.specs.Courses.{for_each, gives, gives_unless, what_from}
 use Rattle.gr_world.specs.Events.{Event}
+use Rattle.gr_world.specs.Stages.{heading_at}
 use Rattle.gr_world.specs.Worlds.{Plays}
 use Rattle.gr_world.proofs.Worlds.{for_each_plays}
 use Rattle.gr_world.proofs.world.World.join_at.Goals as goal
@@ -10,7 +10,7 @@ use Rattle.gr_world.proofs.world.World.join_at.Goals.{then-giver-site+in_ok-hand
 
 pub loop-below-preserved : goal.loop-below-preserved
 loop-below-preserved c =
-    let heading = heading_of c.args.stage.script.now in
+    let heading = heading_at c.args.stage in
     let below = c.loop-below.below in
     let now = c.loop-below.self in
     let joiner = c.args.site.member in
@@ -36,7 +36,7 @@ loop-below-preserved c =
 
 pub returns : goal.returns
 returns c =
-    let heading = heading_of c.args.stage.script.now in
+    let heading = heading_at c.args.stage in
     let whole : c.loop-below.below ≡ c.args.stage.script.now.members =
     omega (arith, c.loop-below-test.false, c.loop-below.auto.below-end) in
     subst (λ n. Plays heading (for_each n (λ k. gives_unless (suc k == c.args.site.member) heading c.args.site.member

@@ -2,6 +2,7 @@ use Rattle.std.proofs.Common.{◌∙◌, ap, length, refl, reverse}
 use Rattle.gr_history.specs.declared.record.Answer.TheVariants as answer
 use Rattle.gr_history.specs.Standing.{present}
 use Rattle.gr_script.specs.Scripts.{heading_of}
+use Rattle.gr_world.specs.Stages.{heading_at}
 use Rattle.gr_world.proofs.Worlds.{key_cell, peek_plays, shard_within, stated_told}
 use Rattle.gr_world.proofs.world.World.peek.Goals as goal
 
@@ -11,7 +12,7 @@ cell-requires c =
 
 pub tell-requires-clause-stated : goal.tell-requires-clause-stated
 tell-requires-clause-stated c =
-    stated_told (heading_of c.args.stage.script.now) c.args.self.now c.args.client c.requires.work c.requires.stated
+    stated_told (heading_at c.args.stage) c.args.self.now c.args.client c.requires.work c.requires.stated
 
 pub returns : goal.returns
 returns c seq =

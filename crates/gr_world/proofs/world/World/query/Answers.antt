@@ -1,6 +1,6 @@
 use Rattle.std.proofs.Common.{◌≡◌, ◌+◌, arith, refl, subst, sym}
-use Rattle.gr_script.specs.Scripts.{heading_of}
 use Rattle.gr_world.specs.Courses.{asks_at_each}
+use Rattle.gr_world.specs.Stages.{heading_at}
 use Rattle.gr_world.specs.Worlds.{AreAsked}
 use Rattle.gr_world.specs.declared.world.World.{World}
 use Rattle.gr_world.proofs.Asked.{asked_next, asked_none, query_plays}
@@ -9,7 +9,7 @@ use Rattle.gr_world.proofs.world.World.query.Goals as goal
 
 pub query-requires : goal.query-requires
 query-requires c =
-    let heading = heading_of c.args.stage.script.now in
+    let heading = heading_at c.args.stage in
     let step = c.args.step in
     work_cell heading c.loop-shard.self c.home-member.result c.loop-shard.shard
     (work_on heading (asks_at_each heading step.client step.seq c.args.ask.now c.loop-shard.shard) c.args.self.now c.loop-shard.self
@@ -19,11 +19,11 @@ query-requires c =
 pub loop-shard-init : goal.loop-shard-init
 loop-shard-init c =
     let step = c.args.step in
-    asked_none (heading_of c.args.stage.script.now) step.client step.seq c.args.ask.now _ c.args.self.now c.in_ok-replies.ensures
+    asked_none (heading_at c.args.stage) step.client step.seq c.args.ask.now _ c.args.self.now c.in_ok-replies.ensures
 
 pub loop-shard-preserved : goal.loop-shard-preserved
 loop-shard-preserved c =
-    let heading = heading_of c.args.stage.script.now in
+    let heading = heading_at c.args.stage in
     let step = c.args.step in
     let first = c.args.self.now in
     let now = c.loop-shard.self in
@@ -37,7 +37,7 @@ loop-shard-preserved c =
 
 pub tell-requires-clause-stated : goal.tell-requires-clause-stated
 tell-requires-clause-stated c =
-    let heading = heading_of c.args.stage.script.now in
+    let heading = heading_at c.args.stage in
     let long = work_clients heading c.loop-shard.self
     (work_on heading (asks_at_each heading c.args.step.client c.args.step.seq c.args.ask.now c.loop-shard.shard) c.args.self.now
     c.loop-shard.self c.requires.work c.loop-shard.invariant.plays) in
@@ -45,7 +45,7 @@ tell-requires-clause-stated c =
 
 pub returns : goal.returns
 returns c =
-    let heading = heading_of c.args.stage.script.now in
+    let heading = heading_at c.args.stage in
     let step = c.args.step in
     let whole : c.loop-shard.shard ≡ c.args.stage.script.now.shards =
     omega (arith, c.loop-shard-test.false, c.loop-shard.auto.shard-end) in

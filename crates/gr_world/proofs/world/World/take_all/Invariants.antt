@@ -1,10 +1,10 @@
 use Rattle.std.proofs.Common.{take}
-use Rattle.gr_script.specs.Scripts.{heading_of}
 use Rattle.gr_world.specs.Courses.{takes_all}
+use Rattle.gr_world.specs.Stages.{heading_at}
 use Rattle.gr_world.specs.Worlds.{Plays}
 use Rattle.gr_world.proofs.world.World.take_all.Given as goal
 
 abbrev pub invariant-loop-change : goal.invariant-loop-change
 invariant-loop-change l =
-    let heading = heading_of l.fn.stage.script.now in
+    let heading = heading_at l.fn.stage in
     Plays heading (takes_all heading l.fn.site.member l.fn.site.shard (take l.change-index l.fn.changes)) l.fn.self l.self

@@ -1,0 +1,10 @@
+use Rattle.gr_world.specs.Courses.{hands_over}
+use Rattle.gr_world.specs.Stages.{heading_at}
+use Rattle.gr_world.proofs.Worlds.{for_each_plays}
+use Rattle.gr_depart.proofs.copying.depart.Goals as goal
+
+pub loop-shard-preserved : goal.loop-shard-preserved
+loop-shard-preserved c =
+    let heading = heading_at c.args.stage in
+    for_each_plays heading (hands_over heading c.args.gone.now c.args.of) c.loop-shard.shard c.args.world.now
+    c.loop-shard.world _ c.loop-shard.invariant c.in_ok-hand_over.ensures

@@ -1,0 +1,64 @@
+ghost use Rattle.std.specs.Prelude.{◌≡◌, IfOk, OnOk, []};
+ghost use Rattle.std.specs.List.{cons_option};
+ghost use Rattle.gr_script.specs.Scripts.{heading_of};
+ghost use Rattle.gr_script.specs.Steps.{departs};
+ghost use Rattle.gr_depart.specs.Lines.{CanDo};
+ghost use Rattle.gr_world.specs.Courses.{after};
+ghost use Rattle.gr_world.specs.Stages.{PlaysAt, heading_at};
+ghost use Rattle.gr_world.specs.Worlds.{IsAtWork, IsWorld};
+
+use crate::closing::sweep;
+use crate::copying::{deliver, depart};
+use crate::joining::join;
+use gr_script::{Line, Script};
+use gr_value::Memory;
+use gr_world::{Stage, World};
+use std::alloc::Global;
+
+/// The world, and the members that departed, the last one first.
+#[derive(Drop)]
+pub struct Departing {
+    pub world: World,
+    pub gone: Vec<u8>,
+}
+
+impl Departing {
+    /// Before the first line.
+    pub fn new(alloc: Global, script: &Script) -> Result<Departing, Memory>
+        ensures world { IfOk result (λ departing. IsWorld (heading_of script.now) [] departing.world) }
+        ensures gone { IfOk result (λ departing. departing.gone.items ≡ []) }
+    {
+        Ok(Departing {
+            world: World::new(alloc, script)?,
+            gone: Vec::new(alloc),
+        })
+    }
+
+    /// Does what a line names.
+    pub fn play(&mut self, stage: Stage, line: Line) -> Result<(), Memory>
+        requires work { IsAtWork (heading_at stage) self.old.world }
+        requires stated { CanDo (heading_at stage) line }
+        ensures done { IfOk result
+            (λ _. PlaysAt stage.entry (λ heading. after heading self.old.gone.items line) self.old.world self.new.world) }
+        ensures gone { OnOk result (self.new.gone.items ≡ cons_option (departs line) self.old.gone.items) }
+    {
+        let world = &mut self.world;
+        match line {
+            Line::Step { client, seq, act } => Ok(world.play(
+                stage,
+                Line::Step { client, seq, act },
+            )?),
+            Line::Deliver { to, client, seq } => {
+                Ok(deliver(world, stage, &self.gone, to, client, seq)?)
+            }
+            Line::Report { member } => Ok(world.play(stage, Line::Report { member })?),
+            Line::Hear { by, of, number } => Ok(world.play(stage, Line::Hear { by, of, number })?),
+            Line::Sweep { member, moment } => Ok(sweep(world, stage, &self.gone, member, moment)?),
+            Line::Join { member, from } => Ok(join(world, stage, &self.gone, member, from)?),
+            Line::Depart { member } => {
+                self.gone.insert(0, member)?;
+                Ok(depart(world, stage, &self.gone, member)?)
+            }
+        }
+    }
+}

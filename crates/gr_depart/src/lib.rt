@@ -1,0 +1,13 @@
+//! Departure: a member leaves for good, and the others take each other's copies of its changes.
+#![tactic(auto)]
+
+mod closing;
+mod copying;
+mod departing;
+mod gone;
+mod joining;
+mod playing;
+mod replaying;
+
+pub use playing::play_text;
+pub use replaying::replay;
