@@ -1,6 +1,9 @@
 use crate::layout::Place;
 use crate::letters::{after_words, last_words, number, outside_quotes};
 
+/// Where the places of closing reports begin, which are those of no deed.
+const CLOSING: u64 = 1152921504606846976;
+
 /// A change, by the member that made it and its number there.
 #[derive(Clone, Copy, PartialEq, Eq, PartialOrd, Ord)]
 pub struct ChangeId {
@@ -226,15 +229,21 @@ fn report(line: usize, text: &str) -> Option<Deed<'_>> {
     Some(plain(line, text, title, own_of(note)?, Look::Notice))
 }
 
+// A report comes from the deed that made it, but a closing one, which its hearer made itself.
+fn heard_from(member: u64, place: u64) -> Origin {
+    if place < CLOSING {
+        Origin::Deed { member, place }
+    } else {
+        Origin::Here
+    }
+}
+
 // `heard M at P own N`
 fn heard(line: usize, text: &str) -> Option<Deed<'_>> {
     let (title, note) = after_words(text, 4)?;
     let (member, place) = title.strip_prefix("heard ")?.split_once(" at ")?;
     Some(Deed {
-        origin: Origin::Deed {
-            member: number(member)?,
-            place: number(place)?,
-        },
+        origin: heard_from(number(member)?, number(place)?),
         ..plain(line, text, title, own_of(note)?, Look::Notice)
     })
 }
