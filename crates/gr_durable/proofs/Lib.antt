@@ -1,0 +1,4 @@
+pub mod Maps
+pub mod Ordered
+pub mod Played
+pub mod Rows
