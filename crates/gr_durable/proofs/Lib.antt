@@ -1,4 +1,7 @@
+pub mod Keyed
 pub mod Maps
+pub mod Openness
 pub mod Ordered
 pub mod Played
 pub mod Rows
+pub mod Shown

@@ -1,3 +1,5 @@
 pub mod Places
 pub mod Results
+pub mod Steps
 pub mod Tables
+pub mod Texts

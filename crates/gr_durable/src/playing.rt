@@ -63,7 +63,7 @@ fn value_left(event: &Event) -> Option<&Value>
     }
 }
 
-/// Plays events, in order.
+// Plays events, in order.
 fn follow(alloc: Global, rows: &mut Rows, events: &[Event]) -> Result<(), Memory>
     ensures { OnOk result (rows.new ≡ followed rows.old events.now) }
 {
@@ -94,7 +94,8 @@ pub fn after_reply(
         (QueryReply::Fetched(events), Some(rows)) => {
             Ok(Some(followed(alloc, rows, events.as_slice())?))
         }
-        (QueryReply::Fetched(_), None) | (QueryReply::Closed, _) => Ok(None),
+        (QueryReply::Fetched(_), None) => Ok(None),
+        (QueryReply::Closed, _) => Ok(None),
         (QueryReply::Taken, before) => Ok(before),
         (QueryReply::Stopped | QueryReply::Unknown | QueryReply::NotRunning, before) => Ok(before),
     }
