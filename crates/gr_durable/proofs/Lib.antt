@@ -5,3 +5,4 @@ pub mod Ordered
 pub mod Played
 pub mod Rows
 pub mod Shown
+pub mod Told

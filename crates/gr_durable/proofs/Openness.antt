@@ -81,7 +81,7 @@ open_history client name (deed ∷ past) law =
     ∙ sym (open_append client name false (reverse past) (deed ∷ []))
     ∙ ap (open_after client name false) (sym (reverse-append (deed ∷ []) past))
 
-not_asked : (client : ℕ) (name : List ℕ) (deed : Deed) → is_of_client client deed ≡ false → asked_of client name deed ≡ None
+pub not_asked : (client : ℕ) (name : List ℕ) (deed : Deed) → is_of_client client deed ≡ false → asked_of client name deed ≡ None
 not_asked client name (Asked own seq ask reply) e =
     ap (λ b. if b && bytes_eq (name_of ask) name then Some (record { ask = ask; reply = reply }) else None) e
 not_asked client name (Call own to seq ask reply made) e = refl

@@ -36,7 +36,7 @@ use Rattle.gr_durable.proofs.Maps.{get_with_value, with_value}
 abbrev pub held : ℕ → List ℕ → List Deed → Option Rows
 held client name history = finite.get (held_after client history) name
 
-abbrev after_reply : Option Asking → Option Rows → Option Rows
+abbrev pub after_reply : Option Asking → Option Rows → Option Rows
 after_reply None before = before
 after_reply (Some asking) before = with_reply asking.reply before
 
@@ -54,7 +54,7 @@ get_put at rows all name =
 abbrev asked_if : Bool → QueryAsk → QueryReply → Option Asking
 asked_if b ask reply = if b then Some (record { ask = ask; reply = reply }) else None
 
-held_deed : (client : ℕ) (name : List ℕ) (deed : Deed) (all : Held)
+pub held_deed : (client : ℕ) (name : List ℕ) (deed : Deed) (all : Held)
     → finite.get (with_deed client deed all) name ≡ after_reply (asked_of client name deed) (finite.get all name)
 held_deed client name (Asked own seq ask reply) all =
     at_tests (own == client) (bytes_eq (name_of ask) name) refl

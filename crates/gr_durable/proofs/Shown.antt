@@ -70,7 +70,7 @@ among_map f y [] a = absurd a
 among_map f y (x ∷ xs) (inl is) = (x, inl refl, is)
 among_map f y (x ∷ xs) (inr a) = let r = among_map f y xs a in (r.0, inr r.1, r.2)
 
-among_numbers : {A : Type 0} → (from n : ℕ) (f : ℕ → A) (y : A) → Among y (numbers_from from n f)
+pub among_numbers : {A : Type 0} → (from n : ℕ) (f : ℕ → A) (y : A) → Among y (numbers_from from n f)
     → (i : ℕ) × (from ≤ i) × (i < from + n) × (y ≡ f i)
 among_numbers from zero f y a = absurd a
 among_numbers from (suc n) f y (inl is) = (from, omega arith, omega arith, is)

@@ -7,6 +7,7 @@ ghost use Rattle.gr_script.specs.Rules.{Heading};
 ghost use Rattle.gr_world.specs.Histories.{KeepsLaws};
 ghost use Rattle.gr_world.specs.Records.{IsReplayed};
 ghost use Rattle.gr_world.specs.Served.{HasServed};
+ghost use Rattle.gr_durable.specs.Answers.{HoldAnswers};
 ghost use Rattle.gr_durable.specs.Results.{AreHeld, HasShards, HoldsResults, TablesShowResults};
 ghost use Rattle.gr_durable.specs.Steps.{AreOfOpenQueries};
 
@@ -32,4 +33,10 @@ pub fn tables_are_results()
 pub fn tables_are_of_open_queries()
     ensures { (heading : Heading) (lines : List Line) (left : Record) → HasServed heading lines left → HasShards heading left
         → AreHeld heading left → 1 ≤ heading.shards → AreOfOpenQueries heading lines left }
+{}
+
+/// Where clients were served, a client holds by each shard what the answers to its steps leave: the rows of
+/// the last opening, with all events that were fetched since then played in order.
+pub fn tables_follow_answers()
+    ensures { (heading : Heading) (lines : List Line) (left : Record) → HasServed heading lines left → HoldAnswers heading lines left }
 {}
