@@ -1,4 +1,3 @@
 pub mod Acts
 pub mod Doable
-pub mod Turns
 pub mod WhileRead

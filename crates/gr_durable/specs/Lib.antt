@@ -1,5 +1,4 @@
 pub mod Answers
-pub mod Expanding
 pub mod Places
 pub mod Results
 pub mod Steps

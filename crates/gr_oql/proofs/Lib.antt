@@ -22,4 +22,3 @@ pub mod FirstFaults
 pub mod FaultRanks
 pub mod FaultTexts
 pub mod Asking
-pub mod MustLemmas

@@ -1,5 +1,5 @@
 ghost use Rattle.std.specs.Prelude.{◌≡◌, if◌then◌else◌};
-ghost use Rattle.gr_script.specs.Forms.{word, fields, place, rank, is_step, is_kind, client_kinds, other_kinds, kind_of};
+ghost use Rattle.gr_script.specs.Forms.{word, fields, place, rank, is_step, is_kind, step_kinds, other_kinds, kind_of};
 
 /// What a line is, by its word.
 #[derive(Clone, Copy)]
@@ -31,8 +31,6 @@ pub(crate) enum LineKind {
     Sweep,
     Join,
     Depart,
-    Leave,
-    Back,
 }
 
 /// What a field of a line is.
@@ -63,7 +61,7 @@ pub(crate) enum FieldKind {
 }
 
 /// The lines that begin with a client's number.
-const CLIENT_KINDS: [LineKind; 15] = [
+const STEP_KINDS: [LineKind; 13] = [
     LineKind::Get,
     LineKind::Put,
     LineKind::Destroy,
@@ -77,8 +75,6 @@ const CLIENT_KINDS: [LineKind; 15] = [
     LineKind::Stop,
     LineKind::Close,
     LineKind::Fetch,
-    LineKind::Leave,
-    LineKind::Back,
 ];
 
 const OTHER_KINDS: [LineKind; 14] = [
@@ -131,8 +127,6 @@ impl LineKind {
             LineKind::Sweep => b"sweep",
             LineKind::Join => b"join",
             LineKind::Depart => b"depart",
-            LineKind::Leave => b"leave",
-            LineKind::Back => b"back",
         }
     }
 
@@ -238,14 +232,6 @@ impl LineKind {
             ],
             LineKind::Join => &[FieldKind::Word, FieldKind::Member, FieldKind::Member],
             LineKind::Depart => &[FieldKind::Word, FieldKind::Member],
-            LineKind::Leave | LineKind::Back => &[
-                FieldKind::Client,
-                FieldKind::Word,
-                FieldKind::Number {
-                    least: 0,
-                    most: 4294967295,
-                },
-            ],
         }
     }
 }
@@ -257,17 +243,17 @@ fn kind_among(kinds: &[LineKind], text: &[u8]) -> Option<LineKind>
 }
 
 /// The kind with this word, of those that begin with a client's number or of the others.
-pub(crate) fn kind_of(is_client: bool, text: &[u8]) -> Option<LineKind>
-    ensures { result ≡ kind_of (if is_client then client_kinds else other_kinds) text.now }
+pub(crate) fn kind_of(is_step: bool, text: &[u8]) -> Option<LineKind>
+    ensures { result ≡ kind_of (if is_step then step_kinds else other_kinds) text.now }
 {
-    if is_client {
-        kind_among(&CLIENT_KINDS, text)
+    if is_step {
+        kind_among(&STEP_KINDS, text)
     } else {
         kind_among(&OTHER_KINDS, text)
     }
 }
 
-/// Whether the line is a step of a client.
+/// Whether the line begins with a client's number.
 pub(crate) fn is_step(kind: LineKind) -> bool
     ensures { result ≡ is_step kind }
 {
@@ -321,8 +307,6 @@ fn place(kind: LineKind) -> u8
         LineKind::Sweep => 24,
         LineKind::Join => 25,
         LineKind::Depart => 26,
-        LineKind::Leave => 27,
-        LineKind::Back => 28,
     }
 }
 

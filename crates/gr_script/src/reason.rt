@@ -34,8 +34,6 @@ pub enum Reason {
     Gone,
     /// The member that would depart gave a joiner its image.
     Provider,
-    /// A client that is away does something, one that is there comes back, or its moments fall.
-    Away,
 }
 
 impl Reason {
@@ -63,7 +61,6 @@ impl Reason {
             Reason::NotInRun => 18,
             Reason::Gone => 19,
             Reason::Provider => 20,
-            Reason::Away => 21,
         }
     }
 
@@ -91,7 +88,6 @@ impl Reason {
             Reason::NotInRun => "NotInRun",
             Reason::Gone => "Gone",
             Reason::Provider => "Provider",
-            Reason::Away => "Away",
         }
     }
 }

@@ -2,5 +2,4 @@ pub mod Arguments
 pub mod Causes
 pub mod CauseTexts
 pub mod Outcomes
-pub mod ReportTexts
 pub mod Words

@@ -8,7 +8,6 @@ mod cause_texts;
 mod concluding;
 mod giving;
 mod handing;
-mod report_texts;
 mod running;
 mod words;
 
