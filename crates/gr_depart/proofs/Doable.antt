@@ -4,7 +4,7 @@ use Rattle.std.specs.List.{AllByRecursion}
 use Rattle.std.proofs.lemmas.List.{reverse-reverse}
 use Rattle.std.proofs.lemmas.List.Elements.{All-from_recursion}
 use Rattle.gr_script.specs.declared.line.Line.{Line}
-use Rattle.gr_script.specs.declared.line.Line.TheVariants.{Step, Deliver, Hear, Sweep, Join, Depart}
+use Rattle.gr_script.specs.declared.line.Line.TheVariants.{Step, Deliver, Hear, Sweep, Join, Depart, Leave, Back}
 use Rattle.gr_script.specs.declared.line.Line.TheVariants as line
 use Rattle.gr_script.specs.Rules.{AllStand, Heading, IsHeading, IsScript, StandsAfter}
 use Rattle.gr_world.proofs.Playable.{all-reverse, line_playable}
@@ -18,8 +18,10 @@ line_doable heading (Hear by of number) past is stands = line_playable heading (
 line_doable heading (Sweep member moment) past is stands = line_playable heading (Sweep member moment) past is stands refl
 line_doable heading (Join joiner provider) past is stands = line_playable heading (Join joiner provider) past is stands refl
 line_doable heading (Depart member) past is stands = stands.0
+line_doable heading (Leave client moment) past is stands = tt
+line_doable heading (Back client moment) past is stands = tt
 
-all_doable : (heading : Heading) (past : List Line) → IsHeading heading → AllStand heading past → AllByRecursion (CanDo heading) past
+pub all_doable : (heading : Heading) (past : List Line) → IsHeading heading → AllStand heading past → AllByRecursion (CanDo heading) past
 all_doable heading [] is all = tt
 all_doable heading (line ∷ past) is all = (line_doable heading line past is all.0, all_doable heading past is all.1)
 

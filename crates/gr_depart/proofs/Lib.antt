@@ -1,3 +1,4 @@
 pub mod Acts
 pub mod Doable
+pub mod Turns
 pub mod WhileRead

@@ -1,8 +1,9 @@
 ghost use Rattle.std.specs.Prelude.{◌≡◌, IfOk, OnOk, []};
-ghost use Rattle.std.specs.List.{cons_option};
+ghost use Rattle.std.specs.List.{AllByRecursion, cons_option};
 ghost use Rattle.gr_script.specs.Scripts.{heading_of};
 ghost use Rattle.gr_script.specs.Steps.{departs};
-ghost use Rattle.gr_depart.specs.Lines.{CanDo};
+ghost use Rattle.gr_depart.specs.Lines.{CanDo, after_all, gone_after};
+ghost use Rattle.gr_durable.specs.Expanding.{lines_in};
 ghost use Rattle.gr_world.specs.Courses.{after};
 ghost use Rattle.gr_world.specs.Stages.{PlaysAt, heading_at};
 ghost use Rattle.gr_world.specs.Worlds.{IsAtWork, IsWorld};
@@ -10,8 +11,9 @@ ghost use Rattle.gr_world.specs.Worlds.{IsAtWork, IsWorld};
 use crate::closing::sweep;
 use crate::copying::{deliver, depart};
 use crate::joining::join;
-use gr_script::{Line, Script};
-use gr_value::Memory;
+use gr_durable::Turn;
+use gr_script::{Line, LineList, Script};
+use gr_value::{Copied, Memory};
 use gr_world::{Stage, World};
 use std::alloc::Global;
 
@@ -59,6 +61,35 @@ impl Departing {
                 self.gone.insert(0, member)?;
                 Ok(depart(world, stage, &self.gone, member)?)
             }
+            Line::Leave { .. } | Line::Back { .. } => Ok(()),
+        }
+    }
+
+    // Does what these lines name, in their order.
+    fn play_all(&mut self, stage: Stage, lines: &LineList) -> Result<(), Memory>
+        requires work { IsAtWork (heading_at stage) self.old.world }
+        requires stated { AllByRecursion (CanDo (heading_at stage)) lines.now }
+        ensures done { IfOk result
+            (λ _. PlaysAt stage.entry (λ heading. after_all heading self.old.gone.items lines.now) self.old.world self.new.world) }
+        ensures gone { OnOk result (self.new.gone.items ≡ gone_after lines.now self.old.gone.items) }
+    {
+        for line in lines.as_slice() {
+            self.play(stage, line.copy(stage.alloc)?)?;
+        }
+        Ok(())
+    }
+
+    /// Does what is played in place of a line.
+    pub fn turn(&mut self, stage: Stage, turn: Turn) -> Result<(), Memory>
+        requires work { IsAtWork (heading_at stage) self.old.world }
+        requires stated { AllByRecursion (CanDo (heading_at stage)) (lines_in turn) }
+        ensures done { IfOk result
+            (λ _. PlaysAt stage.entry (λ heading. after_all heading self.old.gone.items (lines_in turn)) self.old.world self.new.world) }
+        ensures gone { OnOk result (self.new.gone.items ≡ gone_after (lines_in turn) self.old.gone.items) }
+    {
+        match turn {
+            Turn::Line(line) => Ok(self.play(stage, line)?),
+            Turn::Lines(lines) => Ok(self.play_all(stage, &lines)?),
         }
     }
 }

@@ -1,8 +1,14 @@
+pub mod Alike
+pub mod Expanders
+pub mod Fitting
 pub mod Keyed
 pub mod Maps
+pub mod Numbered
 pub mod Openness
 pub mod Ordered
 pub mod Played
 pub mod Rows
 pub mod Shown
+pub mod Stepped
+pub mod StillScripts
 pub mod Told

@@ -1,4 +1,5 @@
 pub mod Answers
+pub mod Expanding
 pub mod Places
 pub mod Results
 pub mod Steps

@@ -13,10 +13,12 @@ use Rattle.std.specs.contracts.option.Option as Option
 use Rattle.std.specs.contracts.sync.Arc as Arc
 use Rattle.std.specs.contracts.vec.Vec as Vec
 use Rattle.gr_value.proofs.key.Key.TheSendSync as key
+use Rattle.gr_value.proofs.list.ItemList.TheSendSync as list
 use Rattle.gr_value.proofs.text.Text.TheSendSync as text
 use Rattle.gr_value.specs.contracts.key.Key as Key
 use Rattle.gr_value.specs.contracts.text.Text as Text
 use Rattle.gr_oql.proofs.condition.Test.TheSendSync as test
+use Rattle.gr_oql.proofs.must.Must.TheSendSync as must
 use Rattle.gr_oql.specs.contracts.clauses.Clauses as Clauses
 use Rattle.gr_oql.specs.contracts.condition.Condition as Condition
 use Rattle.gr_oql.specs.contracts.condition.Condition.TheKnot.{ring, hole-Condition, type-Condition, layer-Condition}
@@ -133,10 +135,16 @@ clauses_sync =
     )
 
 parts_send : IsSend Parts.the_row
-parts_send = declared_send Parts.the_type (as_row_send Text.the_field text.the_send, (clauses_send, tt))
+parts_send = declared_send Parts.the_type (
+  as_row_send Text.the_field text.the_send,
+  (clauses_send, (search (sendable, as_row_send, list.the_send, must.the_field_send, must.the_send) depth 20, tt)),
+)
 
 parts_sync : IsSync Parts.the_row
-parts_sync = declared_sync Parts.the_type (as_row_sync Text.the_field text.the_sync, (clauses_sync, tt))
+parts_sync = declared_sync Parts.the_type (
+  as_row_sync Text.the_field text.the_sync,
+  (clauses_sync, (search (sendable, as_row_sync, list.the_sync, must.the_field_sync, must.the_sync) depth 20, tt)),
+)
 
 inside_send : IsSend Inside.the_row
 inside_send =

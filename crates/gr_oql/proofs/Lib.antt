@@ -22,3 +22,4 @@ pub mod FirstFaults
 pub mod FaultRanks
 pub mod FaultTexts
 pub mod Asking
+pub mod MustLemmas

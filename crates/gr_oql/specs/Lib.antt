@@ -5,6 +5,7 @@ pub mod Question
 pub mod Events
 pub mod Like
 pub mod Matching
+pub mod Must
 pub mod Truth
 pub mod Words
 pub mod Terminals

@@ -14,12 +14,14 @@ mod laws;
 mod lexeme;
 mod like;
 mod matching;
+mod must;
 mod query;
 mod terms;
 mod truth;
 
 pub use event::{BaseOp, Event, EventList, QueryOp, Turned, classify};
 pub use fault::{OqlFault, Part};
-pub use laws::texts_ask_by_the_grammar;
+pub use laws::{matches_meet_what_they_must, texts_ask_by_the_grammar};
+pub use must::{Must, MustList};
 pub use query::Query;
 pub use truth::Truth;

@@ -6,6 +6,7 @@ ghost use Rattle.gr_oql.specs.View.{tree_of};
 ghost use Rattle.gr_lex.specs.Layout.{IsToken, IsLaidOut};
 ghost use Rattle.gr_oql.specs.Grammar.{Spells};
 ghost use Rattle.gr_oql.specs.FirstFault.{IsFault, place_of, named, is_greatest};
+ghost use Rattle.gr_oql.specs.Must.{must_of};
 ghost use Rattle.gr_oql.specs.Question.{Question};
 ghost use Rattle.gr_oql.specs.Reader.Asking.{question};
 ghost use Rattle.gr_oql.specs.declared.fault.OqlFault.TheVariants as oql_fault;
@@ -15,6 +16,7 @@ use crate::clauses::Clauses;
 use crate::cursor::TokenCursor;
 use crate::halt::{Halt, Wrong};
 use crate::lexeme::lexemes;
+use crate::must::{Must, MustList, must_of};
 use gr_lex::{LexFault, Token, TokenList, tokens};
 use gr_value::{Copied, Key, Memory, Text};
 use std::alloc::Global;
@@ -31,11 +33,14 @@ pub struct Query {
 pub(crate) struct Parts {
     pub(crate) text: Text,
     pub(crate) clauses: Clauses,
+    pub(crate) must: MustList,
 }
 
 impl Model for Query {
+    ghost use Rattle.std.specs.Prelude.{◌≡◌};
     ghost use Rattle.gr_oql.specs.Question.{Question, question_code};
     ghost use Rattle.gr_oql.specs.Grammar.{Spells};
+    ghost use Rattle.gr_oql.specs.Must.{must_of};
     ghost use Rattle.gr_oql.specs.Reader.Asking.{question};
 
     ghost Value = { Question };
@@ -44,8 +49,9 @@ impl Model for Query {
 
     ghost view = { λ q. question q.parts.value.text q.parts.value.clauses };
 
-    // The text spells what the query asks.
-    ghost invariant = { λ q. Spells q.parts.value.text (question q.parts.value.text q.parts.value.clauses) };
+    // The text spells what the query asks, and what a value must have is kept.
+    ghost invariant = { λ q. Spells q.parts.value.text (question q.parts.value.text q.parts.value.clauses)
+        × (q.parts.value.must ≡ must_of (question q.parts.value.text q.parts.value.clauses)) };
 }
 
 // The first byte of the first of the tokens, or the end of the text.
@@ -94,9 +100,11 @@ fn query_of(alloc: Global, text: &str, clauses: Clauses) -> Result<Query, Memory
     requires { Spells text.now (question text.now clauses) }
     ensures { IfOk result (λ q. q ≡ question text.now clauses) }
 {
+    let must = must_of(alloc, &clauses)?;
     let parts = Parts {
         text: Text::new(alloc, text)?,
         clauses,
+        must,
     };
     Ok(Query {
         parts: Arc::new(alloc, parts)?,
@@ -153,6 +161,14 @@ impl Query {
         ensures { result.now ≡ self.now.asked.region }
     {
         &self.parts.clauses.region
+    }
+
+    /// The parts of its condition that set a field equal to a literal and are the condition or joined
+    /// to it by AND alone, from left to right.
+    pub fn must(&self) -> &[Must]
+        ensures { result.now ≡ must_of self.now }
+    {
+        self.parts.must.as_slice()
     }
 
     /// The text that was read. Read again it gives this query.

@@ -10,8 +10,12 @@ abbrev pub histories_text : Bool → Record → List ℕ
 histories_text false record_of = []
 histories_text true record_of = codes "histories\n" ++ flat_map histories_of record_of.members
 
+-- all but the last line, so that more can stand before it
+abbrev pub open_text : Bool → Record → List ℕ
+open_text histories record_of =
+    codes "replies\n" ++ flat_map client_text record_of.clients ++ codes "regions\n" ++ flat_map member_text record_of.members
+    ++ histories_text histories record_of
+
 -- with or without the histories
 abbrev pub record_text : Bool → Record → List ℕ
-record_text histories record_of =
-    codes "replies\n" ++ flat_map client_text record_of.clients ++ codes "regions\n" ++ flat_map member_text record_of.members
-    ++ histories_text histories record_of ++ codes "end\n"
+record_text histories record_of = open_text histories record_of ++ codes "end\n"

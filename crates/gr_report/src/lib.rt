@@ -21,5 +21,5 @@ mod written;
 
 pub use laws::steps_read_as_their_lines;
 pub use put::{put_number, put_text};
-pub use reporting::{report, report_in};
+pub use reporting::{report, report_in, report_open};
 pub use summing::summary;

@@ -1,5 +1,5 @@
 ghost use Rattle.std.specs.Prelude.{◌≡◌, IfOk};
-ghost use Rattle.gr_report.specs.Report.{record_text};
+ghost use Rattle.gr_report.specs.Report.{open_text, record_text};
 
 use crate::histories::put_histories;
 use crate::put::put_text;
@@ -28,6 +28,20 @@ pub fn report_in(
 ) -> Result<Vec<u8>, Memory>
     ensures { IfOk result (λ text. text.items ≡ record_text histories record_of.now) }
 {
+    let mut out = report_open(alloc, room, record_of, histories)?;
+    put_text(&mut out, "end\n")?;
+    Ok(out)
+}
+
+/// The same but for the last line, before which more can be put.
+pub fn report_open(
+    alloc: Global,
+    room: Vec<u8>,
+    record_of: &Record,
+    histories: bool,
+) -> Result<Vec<u8>, Memory>
+    ensures { IfOk result (λ text. text.items ≡ open_text histories record_of.now) }
+{
     let mut out = room;
     out.clear();
     put_text(&mut out, "replies\n")?;
@@ -38,6 +52,5 @@ pub fn report_in(
         put_text(&mut out, "histories\n")?;
         put_histories(alloc, &mut out, record_of.members.as_slice())?;
     }
-    put_text(&mut out, "end\n")?;
     Ok(out)
 }

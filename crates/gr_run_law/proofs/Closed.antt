@@ -233,6 +233,8 @@ join_line member (first ∷ lines) some = at_line first (λ more. join_line memb
     at_line (line.Hear by own number) next some = later (line.Hear by own number) refl next some
     at_line (line.Sweep own moment) next some = later (line.Sweep own moment) refl next some
     at_line (line.Depart own) next some = later (line.Depart own) refl next some
+    at_line (line.Leave client moment) next some = later (line.Leave client moment) refl next some
+    at_line (line.Back client moment) next some = later (line.Back client moment) refl next some
     at_line (line.Join joiner provider) next some = at_join joiner provider (joiner == member) refl next some
 
 genuine_at : (grid : Grid) (me : ℕ) (d : Deed) (h : List Deed) → IsGenuine grid me h → Among d h → IsGenuineDeed grid me d

@@ -118,6 +118,8 @@ joins_same member (line.Sweep own moment ∷ past) = at_test (own == member) (jo
     at_test true e = omega arith
     at_test false e = e
 joins_same member (line.Depart own ∷ past) = joins_same member past
+joins_same member (line.Leave client moment ∷ past) = joins_same member past
+joins_same member (line.Back client moment ∷ past) = joins_same member past
 joins_same member (line.Join joiner provider ∷ past) =
     at_test (joiner == member) (joins_same member past) ∙ sym (count_cons (is_join_of member) (line.Join joiner provider) past)
   where
@@ -136,6 +138,8 @@ joins_few h member (line.Report own ∷ past) all = joins_few h member past all.
 joins_few h member (line.Hear by own number ∷ past) all = joins_few h member past all.1
 joins_few h member (line.Sweep own moment ∷ past) all = joins_few h member past all.1
 joins_few h member (line.Depart own ∷ past) all = joins_few h member past all.1
+joins_few h member (line.Leave client moment ∷ past) all = joins_few h member past all.1
+joins_few h member (line.Back client moment ∷ past) all = joins_few h member past all.1
 joins_few h member (line.Join joiner provider ∷ past) all =
     let c = count_cons (is_join_of member) (line.Join joiner provider) past in
     let t = at_test (joiner == member) refl (joins_few h member past all.1) in omega arith

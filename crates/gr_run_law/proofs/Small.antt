@@ -498,4 +498,5 @@ small_script = record {
       & ((omega arith, omega arith), refl, tt)
       & tt;
   names_staying = refl & (refl & refl) & refl & refl & refl & refl & refl & tt;
+  attended = refl & tt & tt & tt & refl & refl & refl & tt;
 }

@@ -64,6 +64,8 @@ few_due giver joiner (line.Report of ∷ past) = few_due giver joiner past
 few_due giver joiner (line.Hear by of number ∷ past) = few_due giver joiner past
 few_due giver joiner (line.Sweep of moment ∷ past) = few_due giver joiner past
 few_due giver joiner (line.Depart of ∷ past) = few_due giver joiner past
+few_due giver joiner (line.Leave client moment ∷ past) = few_due giver joiner past
+few_due giver joiner (line.Back client moment ∷ past) = few_due giver joiner past
 few_due giver joiner (line.Join to provider ∷ past) =
     let c = count_cons (is_join_of joiner) (line.Join to provider) past in
     let t = at_test (to == joiner) (not (giver == joiner)) (few_due giver joiner past) in omega arith
@@ -101,6 +103,8 @@ own_due joiner (line.Report of ∷ lines) = own_due joiner lines
 own_due joiner (line.Hear by of number ∷ lines) = own_due joiner lines
 own_due joiner (line.Sweep of moment ∷ lines) = own_due joiner lines
 own_due joiner (line.Depart of ∷ lines) = own_due joiner lines
+own_due joiner (line.Leave client moment ∷ lines) = own_due joiner lines
+own_due joiner (line.Back client moment ∷ lines) = own_due joiner lines
 own_due joiner (line.Join to provider ∷ lines) = at_test (to == joiner) (joiner == joiner) (same_number joiner) (own_due joiner lines)
   where
     at_test : (b d : Bool) → d ≡ true → filter_map (gift_due joiner joiner) lines ≡ []
@@ -142,4 +146,6 @@ image_due giver joiner lines a =
     at_line (line.Hear by of number) g = none g
     at_line (line.Sweep of moment) g = none g
     at_line (line.Depart of) g = none g
+    at_line (line.Leave client moment) g = none g
+    at_line (line.Back client moment) g = none g
     at_line (line.Join to provider) g = at_test to provider (to == joiner) (not (giver == joiner)) refl g

@@ -130,6 +130,8 @@ gifts_due giver joiner (line.Sweep of moment ∷ lines) = at_test (of == joiner)
     at_test true e = e
     at_test false e = e
 gifts_due giver joiner (line.Depart of ∷ lines) = gifts_due giver joiner lines
+gifts_due giver joiner (line.Leave client moment ∷ lines) = gifts_due giver joiner lines
+gifts_due giver joiner (line.Back client moment ∷ lines) = gifts_due giver joiner lines
 gifts_due giver joiner (line.Join to provider ∷ lines) = at_test (to == joiner) (giver == joiner) refl (gifts_due giver joiner lines)
   where
     f : Duty → Option What

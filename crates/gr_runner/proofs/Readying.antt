@@ -174,6 +174,8 @@ module _ (h : Heading) (lines : List Line) (houses : List House) (rings : List R
               no e = cc
           at false e = absurd (none_isnt_some (Joins from) e)
       is_join (line.Depart of) from e = absurd (none_isnt_some (Joins from) e)
+      is_join (line.Leave client moment) from e = absurd (none_isnt_some (Joins from) e)
+      is_join (line.Back client moment) from e = absurd (none_isnt_some (Joins from) e)
       is_join (line.Join joiner provider) from e = at (joiner == suc k) refl e
         where
           at : (b : Bool) → (joiner == suc k) ≡ b → (if b then Some (Joins provider) else None) ≡ Some (Joins from)

@@ -1,7 +1,7 @@
 -- Each line of the drill may stand where it does.
 use Rattle.std.proofs.Common.{◌≡◌, ℕ, zero, suc, ◌+◌, ◌-◌, ◌*◌, ◌/◌, ◌%◌, ◌≤◌, ◌<◌, List, [], ◌∷◌, ◌++◌, Bool, true, false, cond, eqb}
 use Rattle.std.proofs.Common.{inl, inr, refl, sym, ap, ◌∙◌, subst, arith, reverse, length, append_assoc, append-nil, is_some}
-use Rattle.std.specs.List.{count_by}
+use Rattle.std.specs.List.{count_by, list_any}
 use Rattle.std.proofs.lemmas.Bool.{cases_eq, cases_Bool, eqb-true, eqb-false, eq-eqb, ne_eqb}
 use Rattle.std.proofs.lemmas.List.{reverse-append}
 use Rattle.std.proofs.lemmas.List.Sums.{sum_by-cons}
@@ -21,6 +21,7 @@ use Rattle.gr_script.specs.Rules.{Heading, heading, IsHeading, AreWithin, IsWith
 use Rattle.gr_script.specs.Steps.{step_of, step_count, opens, queries, reports, sweeps, is_report, is_sweep, is_query, departed, hears}
 use Rattle.gr_value.specs.Drawing.{drawn}
 use Rattle.gr_script.proofs.Gone.{all_staying}
+use Rattle.gr_script.proofs.Here.{is_turn, all_here, none_returned}
 
 -- ---- the heading
 
@@ -53,6 +54,7 @@ record Counted (start made reported swept : ℕ) (past : List Line) : Type 0 whe
   query : queries past ≡ 4
   gone : departed past ≡ []
   heard : hears past ≡ 0
+  here : list_any is_turn past ≡ false
 
 abbrev of_client : ℕ → Line → Bool
 of_client client line = is_some (step_of client line)
@@ -126,6 +128,7 @@ step_counted start made reported swept past ask c =
       query = other_line is_query line past 4 refl c.query;
       gone = c.gone;
       heard = omega (arith, c.heard);
+      here = c.here;
     }
 
 -- ---- reports and sweeps
@@ -140,6 +143,7 @@ report_counted start made reported swept member past c within few = record {
   query = other_line is_query (Report member) past 4 refl c.query;
   gone = c.gone;
   heard = omega (arith, c.heard);
+  here = c.here;
 }
 
 sweep_counted : (start made reported swept member moment : ℕ) (past : List Line) → Counted start made reported swept past
@@ -153,6 +157,7 @@ sweep_counted start made reported swept member moment past c within early few = 
   query = other_line is_query (Sweep member moment) past 4 refl c.query;
   gone = c.gone;
   heard = omega (arith, c.heard, ap (length {A = ℕ}) c.gone);
+  here = c.here;
 }
 
 recounted : (start made reported swept more further : ℕ) (past : List Line) → reported ≡ more → swept ≡ further
@@ -165,6 +170,7 @@ recounted start made reported swept more further past is also c = record {
   query = c.query;
   gone = c.gone;
   heard = c.heard;
+  here = c.here;
 }
 
 swept_counted : (start made reported swept moment : ℕ) (past : List Line) → Counted start made reported swept past → reported < 197
@@ -260,6 +266,7 @@ opened start asked own rest =
       query = refl;
       gone = refl;
       heard = refl;
+      here = refl;
     }
 
 -- Of the clients that open a query, so many have fetched its events.
@@ -268,6 +275,7 @@ record Fetched (start made done asked : ℕ) (past : List Line) : Type 0 where
   steps : (client : ℕ) → done < client → client ≤ 4 → step_count client past ≡ steps_made client made + 1
   query : queries past ≡ asked
   gone : departed past ≡ []
+  here : list_any is_turn past ≡ false
 
 before_own : (client : ℕ) → client ≤ 4 → asked_before client ≡ 1
 before_own client low = grind arith
@@ -279,6 +287,7 @@ fetched_none start made past c = record {
       c.steps client (omega (arith, some), omega (arith, low)) ∙ ap (λ (n : ℕ). steps_made client made + n) (before_own client low);
   query = c.query;
   gone = c.gone;
+  here = c.here;
 }
 
 fetched_more : (start made done asked : ℕ) (past : List Line) → Fetched start made done asked past → done < 4 → asked < 10000
@@ -288,20 +297,25 @@ fetched_more start made done asked past f few rare =
     let line = Step (done + 1) (steps_made (done + 1) made + 2) act in
     let own = f.steps (done + 1) (omega arith) (omega (arith, few)) in
     record {
-      stand = (((omega arith, omega (arith, few)), omega (arith, own), subst (λ (n : ℕ). n < 10000) (sym f.query) rare), f.stand);
+      stand = (
+        ((omega arith, omega (arith, few)), omega (arith, own), omega (arith, f.query, none_returned past f.here, rare)),
+        f.stand,
+      );
       steps = λ client some low.
           let other = is_own client (done + 1) _ act ∙ ne_eqb (done + 1) client (λ is. omega (arith, some, is)) in
           other_line (of_client client) line past _ other (f.steps client (omega (arith, some)) low);
       query = this_line is_query line past asked refl f.query;
       gone = f.gone;
+      here = f.here;
     }
 
 -- ---- the whole
 
--- Lines that may stand where they do, of which none departs a member.
+-- Lines that may stand where they do, of which none departs a member, and on which no client leaves.
 record AllLast (start : ℕ) (past : List Line) : Type 0 where
   stand : AllStand (drill_heading start) past
   gone : departed past ≡ []
+  here : list_any is_turn past ≡ false
 
 all_last : (start steps : ℕ) (asked : Question) → steps ≤ 50000 → asked.asked.region ≡ drill_region → IsRest asked.text
     → AllLast start (reverse (drill_lines asked start steps))
@@ -320,7 +334,7 @@ all_last start steps asked few own rest =
     let all = fetched_more start steps 3 7 _ three (omega arith) (omega arith) in
     subst (AllLast start)
     (behind_more made fetches (reverse opens ++ []) ∙ behind_more opens (made ++ fetches) [] ∙ append-nil _)
-    (record { stand = all.stand; gone = all.gone })
+    (record { stand = all.stand; gone = all.gone; here = all.here })
 
 same_heading : (start : ℕ) (region homes : List ℕ) → region ≡ drill_region → homes ≡ drill_homes
     → heading region 4 4 8 8 start 0 homes ≡ drill_heading start
@@ -356,4 +370,5 @@ module _ (start steps : ℕ) (region homes : List ℕ) (asked : Question) (lines
         heading = drill_is_headed start low;
         lines_stand = last.stand;
         names_staying = all_staying (drill_heading start) (reverse lines) last.gone;
+        attended = all_here (reverse lines) last.here;
       })

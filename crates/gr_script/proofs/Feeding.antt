@@ -15,7 +15,7 @@ use Rattle.gr_script.specs.Cuts.{line_count}
 use Rattle.gr_script.specs.Halts.{Halts}
 use Rattle.gr_script.specs.Past.{stage}
 use Rattle.gr_script.specs.Refusals.{past_with}
-use Rattle.gr_script.specs.Rules.{AllStand, AllNameStaying, IsScript}
+use Rattle.gr_script.specs.Rules.{AllStand, AllNameStaying, AllAttend, IsScript}
 use Rattle.gr_script.specs.Said.{heading_said, lines_said, script_from, script_of}
 use Rattle.gr_script.specs.Sayings.{Ends, end_at, end_of, ended, fault, go_on, sayings_from}
 use Rattle.gr_script.specs.Taken.{Taken, said, ahead, advanced, heading_taken, lines_taken, IsFed, IsTaken}
@@ -23,7 +23,7 @@ use Rattle.gr_script.specs.Texts.{lines_of}
 use Rattle.gr_script.proofs.Follows.{AllFollow, longer_is}
 use Rattle.gr_script.proofs.Headed.{is_heading}
 use Rattle.gr_script.proofs.LineCounts.{lines_counted}
-use Rattle.gr_script.proofs.Standing.{all_stand, all_name_staying, no_lines_yet, same_heading}
+use Rattle.gr_script.proofs.Standing.{all_stand, all_attend, all_name_staying, no_lines_yet, same_heading}
 use Rattle.gr_script.proofs.Taking.{one_more, taken_follow}
 use Rattle.gr_script.specs.Limits.{most_lines}
 
@@ -60,6 +60,7 @@ script_is t late = record {
   lines_stand = subst (AllStand (heading_taken t)) (sym (reverse-reverse (lines_taken t))) (all_stand (said t) (taken_follow t));
   names_staying = subst (AllNameStaying (heading_taken t)) (sym (reverse-reverse (lines_taken t)))
       (all_name_staying (said t) (taken_follow t));
+  attended = subst AllAttend (sym (reverse-reverse (lines_taken t))) (all_attend (said t) (taken_follow t));
 }
 
 -- ---- lines that are no line of the script

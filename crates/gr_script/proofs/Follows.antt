@@ -16,7 +16,7 @@ use Rattle.gr_script.specs.declared.reason.Reason.TheVariants.{Header, Word, Fie
 use Rattle.gr_script.specs.declared.saying.Saying.{Saying}
 use Rattle.gr_script.specs.Cuts.{text_said, is_skipped, line_count}
 use Rattle.gr_script.specs.Fields.{first, second, fits, form_of}
-use Rattle.gr_script.specs.Forms.{word, fields, rank, step_kinds, other_kinds, kind_of}
+use Rattle.gr_script.specs.Forms.{word, fields, rank, client_kinds, other_kinds, kind_of}
 use Rattle.gr_script.specs.Halts.{◌>>=◌}
 use Rattle.gr_script.specs.Items.{text_at, items_at}
 use Rattle.gr_script.specs.Past.{setting, stage}
@@ -54,7 +54,7 @@ AllFollow (saying ∷ past) = Follows past saying.kind saying.items × AllFollow
 
 -- the form, by the first word and the second
 abbrev form_by : List ℕ → List ℕ → Option LineKind
-form_by one two = cond (list_all is_ascii_digit one) (kind_of step_kinds two) (kind_of other_kinds one)
+form_by one two = cond (list_all is_ascii_digit one) (kind_of client_kinds two) (kind_of other_kinds one)
 
 kind_is : (one two : LineKind) → Some one ≡ Some two → one ≡ two
 kind_is one two e = cc

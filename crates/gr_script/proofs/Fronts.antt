@@ -1,4 +1,4 @@
--- A step's line begins with a client's number, any other with its word.
+-- A client's line begins with a client's number, any other with its word.
 use Rattle.std.proofs.Common.{◌≡◌, ◌∷◌, drop, true, false, Some, refl}
 use Rattle.std.specs.Char.{is_ascii_digit}
 use Rattle.std.specs.List.{list_all}
@@ -6,21 +6,21 @@ use Rattle.gr_script.specs.declared.forms.FieldKind.TheVariants as field
 use Rattle.gr_script.specs.declared.forms.LineKind.{LineKind}
 use Rattle.gr_script.specs.declared.forms.LineKind.TheVariants as kind
 use Rattle.gr_script.specs.Cuts.{is_skipped}
-use Rattle.gr_script.specs.Forms.{word, fields, is_step, step_kinds, other_kinds, kind_of}
+use Rattle.gr_script.specs.Forms.{word, fields, is_clients, client_kinds, other_kinds, kind_of}
 
-pub step_fields : (line : LineKind) → is_step line ≡ true → fields line ≡ field.Client ∷ field.Word ∷ drop 2 (fields line)
-step_fields kind.Get is = refl
-step_fields _ is = cc
+pub client_fields : (line : LineKind) → is_clients line ≡ true → fields line ≡ field.Client ∷ field.Word ∷ drop 2 (fields line)
+client_fields kind.Get is = refl
+client_fields _ is = cc
 
-pub step_kind : (line : LineKind) → is_step line ≡ true → kind_of step_kinds (word line) ≡ Some line
-step_kind kind.Get is = refl
-step_kind _ is = cc
+pub client_kind : (line : LineKind) → is_clients line ≡ true → kind_of client_kinds (word line) ≡ Some line
+client_kind kind.Get is = refl
+client_kind _ is = cc
 
-pub other_fields : (line : LineKind) → is_step line ≡ false → fields line ≡ field.Word ∷ drop 1 (fields line)
+pub other_fields : (line : LineKind) → is_clients line ≡ false → fields line ≡ field.Word ∷ drop 1 (fields line)
 other_fields kind.Georep isnt = refl
 other_fields _ isnt = cc
 
-pub other_kind : (line : LineKind) → is_step line ≡ false → kind_of other_kinds (word line) ≡ Some line
+pub other_kind : (line : LineKind) → is_clients line ≡ false → kind_of other_kinds (word line) ≡ Some line
 other_kind kind.Georep isnt = refl
 other_kind _ isnt = cc
 

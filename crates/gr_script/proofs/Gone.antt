@@ -11,7 +11,7 @@ use Rattle.gr_script.specs.declared.line.Line.TheVariants as line
 use Rattle.gr_script.specs.declared.saying.Saying.{Saying}
 use Rattle.gr_script.specs.declared.tally.Tallies.{Tallies}
 use Rattle.gr_script.specs.Forms.{is_kind, is_step}
-use Rattle.gr_script.specs.Past.{count_of, heard_on, hears, number}
+use Rattle.gr_script.specs.Past.{count_of, departs, heard_on, hears, number}
 use Rattle.gr_script.specs.Refusals.{is_gone as is_gone_said}
 use Rattle.gr_script.specs.Rules.{Heading, home_of, NamesStaying, AllNameStaying}
 use Rattle.gr_script.specs.Said.{line_of, lines_said}
@@ -77,6 +77,8 @@ names_staying h past (line.Sweep member moment) none = ap (λ (gone : List ℕ).
 names_staying h past (line.Join member from) none =
     (ap (λ (gone : List ℕ). lines.is_gone gone member) none, ap (λ (gone : List ℕ). lines.is_gone gone from) none)
 names_staying h past (line.Depart member) none = ap (λ (gone : List ℕ). lines.is_gone gone member) none
+names_staying h past (line.Leave client moment) none = ap (λ (gone : List ℕ). lines.is_gone gone (home_of h client)) none
+names_staying h past (line.Back client moment) none = ap (λ (gone : List ℕ). lines.is_gone gone (home_of h client)) none
 
 -- Lines of which none departs a member name none that departed.
 pub all_staying : (h : Heading) (past : List Line) → lines.departed past ≡ [] → AllNameStaying h past
@@ -98,6 +100,8 @@ heard_on_line past (line.Hear by of number) = refl
 heard_on_line past (line.Sweep member moment) = refl
 heard_on_line past (line.Join member from) = refl
 heard_on_line past (line.Depart member) = refl
+heard_on_line past (line.Leave client moment) = refl
+heard_on_line past (line.Back client moment) = refl
 
 heard_more : (l : Option Line) (past : List Line)
     → lines.hears (cons_option l past) ≡ heard_by (said_marks 0 l) (length (lines.departed past)) + lines.hears past
@@ -148,3 +152,27 @@ tallies_fit past tallies few is n = record {
     fits holds count is =
         let within = count_by-le-length holds past in
         omega (arith, is, within, few)
+
+-- ---- where no line says that a member departs
+
+-- Where none departed at all, this one didn't.
+pub none_gone : (member : ℕ) (past : List Saying) → count_of kind.Depart past ≡ 0 → is_gone_said member past ≡ false
+none_gone member past none =
+    ap (λ (n : ℕ). not (eqb n 0)) (no_more (departs member past) (fewer past) none)
+  where
+    no_more : (few : ℕ) → few ≤ count_of kind.Depart past → count_of kind.Depart past ≡ 0 → few ≡ 0
+    no_more few within none = omega (arith, within, none)
+
+    either : (one two : Bool) → cond {A = ℕ} (one && two) 1 0 ≤ cond one 1 0
+    either true true = omega arith
+    either true false = omega arith
+    either false two = omega arith
+
+    fewer : (past : List Saying) → departs member past ≤ count_of kind.Depart past
+    fewer [] = omega arith
+    fewer (saying ∷ past) =
+        let first = either (is_kind kind.Depart saying.kind) (eqb (number 0 saying.items) member) in
+        let rest = fewer past in
+        let here = sum_by-cons (λ (l : Saying). cond (is_kind kind.Depart l.kind && eqb (number 0 l.items) member) 1 0) saying past in
+        let all = sum_by-cons (λ (l : Saying). cond (is_kind kind.Depart l.kind) 1 0) saying past in
+        omega (arith, first, rest, here, all)

@@ -219,7 +219,7 @@ pub text_back : (h : Heading) (lines : List Line) → IsScript h lines → AllBy
     → line_count (script_text h lines) ≤ most_lines → script_of false (script_text h lines) ≡ Ok (h, lines)
 text_back h lines is kept few =
     let texts = map saying_text (sayings_in h lines) in
-    let back = script_back h is.heading lines (is.lines_stand, is.names_staying) kept in
+    let back = script_back h is.heading lines (is.lines_stand, is.names_staying, is.attended) kept in
     let text : lines_of (script_text h lines) ≡ texts = lines_again texts back.alone in
     let count = line_count (script_text h lines) in
     let whole : sayings_of false (script_text h lines) ≡ Ok back.all =

@@ -35,7 +35,9 @@ words =
     ∷ word kind.Hear
     ∷ word kind.Sweep
     ∷ word kind.Join
-    ∷ word kind.Depart ∷ []
+    ∷ word kind.Depart
+    ∷ word kind.Leave
+    ∷ word kind.Back ∷ []
 
 word_at : (one : LineKind) → slice_get words (place one) ≡ Some (word one)
 word_at kind.Georep = refl
@@ -65,6 +67,8 @@ word_at kind.Hear = refl
 word_at kind.Sweep = refl
 word_at kind.Join = refl
 word_at kind.Depart = refl
+word_at kind.Leave = refl
+word_at kind.Back = refl
 
 place_of : (one : LineKind) → position (λ (text : List ℕ). bytes_eq text (word one)) words ≡ Some (place one)
 place_of kind.Georep = refl
@@ -94,6 +98,8 @@ place_of kind.Hear = refl
 place_of kind.Sweep = refl
 place_of kind.Join = refl
 place_of kind.Depart = refl
+place_of kind.Leave = refl
+place_of kind.Back = refl
 
 both : (one two : Bool) → (one ≡ true → two ≡ true) → (two ≡ true → one ≡ true) → one ≡ two
 both true two on back = sym (on refl)

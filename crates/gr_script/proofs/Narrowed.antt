@@ -8,7 +8,7 @@ use Rattle.gr_script.specs.declared.forms.LineKind.TheVariants as kind
 use Rattle.gr_script.specs.declared.items.Item.{Item}
 use Rattle.gr_script.specs.declared.items.Setting.{Setting}
 use Rattle.gr_script.specs.declared.saying.Saying.{Saying}
-use Rattle.gr_script.specs.Forms.{fields, rank, is_step, is_kind}
+use Rattle.gr_script.specs.Forms.{fields, rank, is_clients, is_step, is_kind}
 use Rattle.gr_script.specs.Kept.{CanBeKept}
 use Rattle.gr_script.specs.Narrow.{IsNarrowStep, IsNarrow}
 use Rattle.gr_script.specs.Past.{number, setting, members, steps, reports}
@@ -18,18 +18,24 @@ use Rattle.gr_script.specs.Rules.{IsWithin}
 use Rattle.gr_script.specs.Said.{line_of}
 use Rattle.gr_script.proofs.Contents.{Contents, items_of}
 use Rattle.gr_script.proofs.Follows.{Held, held_items, AllFollow}
-use Rattle.gr_script.proofs.Fronts.{step_fields}
+use Rattle.gr_script.proofs.Fronts.{client_fields}
 use Rattle.gr_script.proofs.Headed.{headed, whole}
 use Rattle.gr_script.proofs.Standing.{passed, not_missing}
-use Rattle.gr_script.specs.Limits.{most_lines}
+use Rattle.gr_script.specs.Limits.{most_clients, most_lines, most_moment}
 
 narrow_client : (setting : Setting) (kinds more : List FieldKind) → kinds ≡ field.Client ∷ more → (c : Contents setting kinds)
     → IsNarrowStep (items_of setting kinds c)
 narrow_client setting (field.Client ∷ kinds) more e c = let most = c.0.1.0.1 in omega (arith, most)
 narrow_client setting _ more e c = absurd cc
 
+-- a step is a client's line
+clients : (form : LineKind) → is_step form ≡ true → is_clients form ≡ true
+clients kind.Leave is = refl
+clients kind.Back is = refl
+clients _ is = is
+
 narrow_step : (past : List Saying) (form : LineKind) (c : Held past form) → is_step form ≡ true → IsNarrowStep (held_items past form c)
-narrow_step past form c is = narrow_client (setting past) (fields form) _ (step_fields form is) c
+narrow_step past form c is = narrow_client (setting past) (fields form) _ (client_fields form (clients form is)) c
 
 few : (client : ℕ) (past : List Saying) → length past ≤ most_lines → steps client past < 2 ^ 32
 few client past le =
@@ -46,6 +52,9 @@ small : (past : List Saying) (member : ℕ) → members past ≤ 8 → IsWithin 
 small past member most within =
     let last = within.1 in
     omega (arith, most, last)
+
+narrow_moment : (client moment : ℕ) → client ≤ most_clients → moment ≤ most_moment → (client < 2 ^ 8) × (moment < 2 ^ 32)
+narrow_moment client moment few early = (omega (arith, few), omega (arith, early))
 
 narrow : (past : List Saying) (form : LineKind) (c : Held past form) → refusal (tests past form (held_items past form c)) ≡ None
     → (4 ≤ rank form → members past ≤ 8) → length past ≤ most_lines → IsNarrow form (held_items past form c)
@@ -67,6 +76,8 @@ narrow past kind.Sweep c none most le =
 narrow past kind.Join c none most le =
     (small past c.1.0.0 (most (omega arith)) c.1.0.1, small past c.1.1.0.0 (most (omega arith)) c.1.1.0.1)
 narrow past kind.Depart c none most le = small past c.1.0.0 (most (omega arith)) c.1.0.1
+narrow past kind.Leave c none most le = narrow_moment c.0.0 c.1.1.0.0 c.0.1.0.1 c.1.1.0.1.1
+narrow past kind.Back c none most le = narrow_moment c.0.0 c.1.1.0.0 c.0.1.0.1 c.1.1.0.1.1
 narrow past _ c none most le = tt
 
 said_back : (past : List Saying) (form : LineKind) (c : Held past form) → 8 ≤ rank form

@@ -91,6 +91,10 @@ numbered_past h client (line.Join member from ∷ past) all =
     past_none client (line.Join member from) past refl (numbered_past h client past all.1)
 numbered_past h client (line.Depart member ∷ past) all =
     past_none client (line.Depart member) past refl (numbered_past h client past all.1)
+numbered_past h client (line.Leave own moment ∷ past) all =
+    past_none client (line.Leave own moment) past refl (numbered_past h client past all.1)
+numbered_past h client (line.Back own moment ∷ past) all =
+    past_none client (line.Back own moment) past refl (numbered_past h client past all.1)
 
 pub steps_numbered : (h : Heading) (client : ℕ) (lines : List Line) → AllStand h (reverse lines) → AreNumbered 1 (steps_of client lines)
 steps_numbered h client lines all =

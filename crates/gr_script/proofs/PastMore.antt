@@ -2,6 +2,7 @@
 use Rattle.std.proofs.Common.{◌≡◌, ◌∙◌, ◌+◌, ℕ, ◌≤◌, ◌<◌, List, [], ◌∷◌, ◌++◌, true, false, length, sym, arith}
 use Rattle.std.proofs.Common.{Option, zero, suc, replicate, refl}
 use Rattle.std.proofs.lemmas.Bool.{cond-false}
+use Rattle.gr_script.specs.declared.attendance.Presence.{Presence}
 use Rattle.gr_script.specs.declared.forms.LineKind.{LineKind}
 use Rattle.gr_script.specs.declared.forms.LineKind.TheVariants as kind
 use Rattle.gr_script.specs.declared.items.Setting.{Setting}
@@ -9,7 +10,9 @@ use Rattle.gr_script.specs.declared.past.Counted.{Counted}
 use Rattle.gr_script.specs.declared.past.Sizes.{Sizes}
 use Rattle.gr_script.specs.declared.saying.Saying.{Saying}
 use Rattle.gr_script.specs.declared.tally.Tallies.{Tallies}
+use Rattle.gr_script.specs.Absence.{IsAttendance, returned}
 use Rattle.gr_script.specs.Forms.{rank, is_kind}
+use Rattle.gr_script.specs.LinesSaid.{lines_said}
 use Rattle.gr_script.specs.Index.{IsIndex, counted}
 use Rattle.gr_script.specs.Past.{number, key_in, stated, setting, sizes, region, inbox, homes}
 use Rattle.gr_script.specs.Tallies.{CountsLine, count_in}
@@ -49,13 +52,15 @@ sizes_stay line past late =
     (λ i. made (shards_stay i) (inbox_stays i) (trouble_stays i) (floor_stays i))
 
 pub index_behind : (stage_now : ℕ) (held : Setting) (founders_now : ℕ) (sizes_now : Sizes) (homes_now : List ℕ) (tallies : Tallies)
-    (lines : Counted) (past : List Saying) (line : Saying) (first second : ℕ) (tallies_now : Tallies) (lines_now : Counted)
-    → IsIndex stage_now held founders_now sizes_now homes_now tallies lines past → 8 ≤ rank line.kind → length past < most_lines
+    (lines : Counted) (attendance : List Presence) (returned_then : ℕ) (past : List Saying) (line : Saying) (first second : ℕ)
+    (tallies_now : Tallies) (lines_now : Counted) (attendance_now : List Presence) (returned_now : ℕ)
+    → IsIndex stage_now held founders_now sizes_now homes_now tallies lines attendance returned_then past → 8 ≤ rank line.kind → length past < most_lines
     → first ≡ number 0 line.items → (is_kind kind.Join line.kind ≡ true → second ≡ number 1 line.items)
     → CountsLine line.kind first second tallies tallies_now → lines_now ≡ counted (line ∷ past)
-    → IsIndex 8 held founders_now sizes_now homes_now tallies_now lines_now (line ∷ past)
-index_behind stage_now held founders_now sizes_now homes_now tallies lines past line first second tallies_now lines_now old late room
-    first_is second_is more lines_are =
+    → IsAttendance attendance_now (lines_said (line ∷ past)) → returned_now ≡ returned (lines_said (line ∷ past))
+    → IsIndex 8 held founders_now sizes_now homes_now tallies_now lines_now attendance_now returned_now (line ∷ past)
+index_behind stage_now held founders_now sizes_now homes_now tallies lines attendance returned_then past line first second tallies_now
+    lines_now attendance_now returned_now old late room first_is second_is more lines_are attended came_back =
     let none = states_none line.kind late in
     record {
       staged = none.last;
@@ -65,6 +70,8 @@ index_behind stage_now held founders_now sizes_now homes_now tallies lines past 
       homed = old.homed ∙ homes_stay line past none.client;
       tallied = one_tallied past line first second tallies tallies_now first_is second_is more old.tallied;
       counts = lines_are;
+      attended = attended;
+      came_back = came_back;
       few = omega (arith, room);
     }
 

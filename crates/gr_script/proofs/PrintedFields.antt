@@ -111,6 +111,8 @@ word_plain kind.Hear = record { some = omega arith; each = refl }
 word_plain kind.Sweep = record { some = omega arith; each = refl }
 word_plain kind.Join = record { some = omega arith; each = refl }
 word_plain kind.Depart = record { some = omega arith; each = refl }
+word_plain kind.Leave = record { some = omega arith; each = refl }
+word_plain kind.Back = record { some = omega arith; each = refl }
 
 -- ---- where such a field ends
 

@@ -20,14 +20,14 @@ use Rattle.gr_script.specs.declared.reason.Reason.{Reason}
 use Rattle.gr_script.specs.declared.saying.Saying.{Saying}
 use Rattle.gr_script.specs.Cuts.{is_space, after_spaces, is_skipped}
 use Rattle.gr_script.specs.Fields.{len_of, piece, left, is_filled, fits, first, second, form_of}
-use Rattle.gr_script.specs.Forms.{word, fields, is_step, step_kinds, other_kinds, kind_of}
+use Rattle.gr_script.specs.Forms.{word, fields, is_clients, client_kinds, other_kinds, kind_of}
 use Rattle.gr_script.specs.Halts.{◌>>=◌}
 use Rattle.gr_script.specs.Items.{item_at, items_at}
 use Rattle.gr_script.specs.Printing.{field_text, field_texts, spaced, saying_text}
 use Rattle.gr_script.specs.ReadBack.{IsReadBack}
 use Rattle.gr_script.specs.Suiting.{AllSuit}
 use Rattle.gr_script.specs.Rests.{begins_spaced}
-use Rattle.gr_script.proofs.Fronts.{step_fields, step_kind, other_fields, other_kind, no_number, no_remark}
+use Rattle.gr_script.proofs.Fronts.{client_fields, client_kind, other_fields, other_kind, no_number, no_remark}
 use Rattle.gr_script.proofs.PrintedFields.{GoesOn, IsBack, field_back, IsPlain, decimal_plain, word_plain, client_short}
 use Rattle.gr_script.proofs.PrintedFields.{field_before_space, field_alone}
 use Rattle.gr_script.proofs.Marks.{other_byte}
@@ -148,6 +148,8 @@ last_alone kind.Hear = (tt, (tt, (tt, tt)))
 last_alone kind.Sweep = (tt, (tt, tt))
 last_alone kind.Join = (tt, (tt, tt))
 last_alone kind.Depart = (tt, tt)
+last_alone kind.Leave = (tt, (tt, tt))
+last_alone kind.Back = (tt, (tt, tt))
 
 some_fields : (line : LineKind) → 0 < length (fields line)
 some_fields kind.Georep = omega arith
@@ -172,7 +174,7 @@ second_is text next more plain other =
 
 -- the form of a line with these fields in front
 abbrev form_by : List ℕ → List ℕ → Option LineKind
-form_by one two = cond (list_all is_ascii_digit one) (kind_of step_kinds two) (kind_of other_kinds one)
+form_by one two = cond (list_all is_ascii_digit one) (kind_of client_kinds two) (kind_of other_kinds one)
 
 pub record IsFormed (line : LineKind) (text : List ℕ) : Type 0 where
   pub form : form_of text ≡ Some line
@@ -197,14 +199,14 @@ module _ (setting : Setting) (line : LineKind) where
       let whole = spaced (word line ∷ more) in
       record {
         form = ap (λ f. form_by f (second whole)) (front_is (word line) more (word_plain line))
-            ∙ ap (λ b. cond b (kind_of step_kinds (second whole)) (kind_of other_kinds (word line))) isnt ∙ is;
+            ∙ ap (λ b. cond b (kind_of client_kinds (second whole)) (kind_of other_kinds (word line))) isnt ∙ is;
         said = skipped_front (word line) more (word_plain line).some ∙ unskipped;
       }
 
-  step_formed : (kinds : List FieldKind) (items : List Item) → AllSuit setting (field.Client ∷ field.Word ∷ kinds) items
-      → kind_of step_kinds (word line) ≡ Some line
+  client_formed : (kinds : List FieldKind) (items : List Item) → AllSuit setting (field.Client ∷ field.Word ∷ kinds) items
+      → kind_of client_kinds (word line) ≡ Some line
       → IsFormed line (spaced (field_texts line (field.Client ∷ field.Word ∷ kinds) items))
-  step_formed kinds (item.Client client ∷ other ∷ items) suit is =
+  client_formed kinds (item.Client client ∷ other ∷ items) suit is =
       let few = client_short setting client suit.0 in
       let plain = decimal_plain client few in
       let digits = (decimal_spells client few).each in
@@ -212,17 +214,17 @@ module _ (setting : Setting) (line : LineKind) where
       let whole = spaced (decimal client ∷ word line ∷ more) in
       record {
         form = ap (λ f. form_by f (second whole)) (front_is (decimal client) (word line ∷ more) plain)
-            ∙ ap (λ b. cond b (kind_of step_kinds (second whole)) (kind_of other_kinds (decimal client))) digits
-            ∙ ap (kind_of step_kinds) (second_is (decimal client) (word line) more plain (word_plain line)) ∙ is;
+            ∙ ap (λ b. cond b (kind_of client_kinds (second whole)) (kind_of other_kinds (decimal client))) digits
+            ∙ ap (kind_of client_kinds) (second_is (decimal client) (word line) more plain (word_plain line)) ∙ is;
         said = skipped_front (decimal client) (word line ∷ more) plain.some ∙ digits_said (decimal client) plain.some digits;
       }
-  step_formed kinds (item.Client client ∷ []) suit is = absurd suit.1
-  step_formed kinds [] suit is = absurd suit
-  step_formed kinds (_ ∷ items) suit is = absurd suit.0
+  client_formed kinds (item.Client client ∷ []) suit is = absurd suit.1
+  client_formed kinds [] suit is = absurd suit
+  client_formed kinds (_ ∷ items) suit is = absurd suit.0
 
 pub saying_formed : (setting : Setting) (line : LineKind) (items : List Item) → AllSuit setting (fields line) items
     → IsFormed line (spaced (field_texts line (fields line) items))
-saying_formed setting line items suit = by_case (is_step line) refl
+saying_formed setting line items suit = by_case (is_clients line) refl
   where
     same : (kinds : List FieldKind) → fields line ≡ kinds
         → (AllSuit setting kinds items → IsFormed line (spaced (field_texts line kinds items)))
@@ -231,9 +233,9 @@ saying_formed setting line items suit = by_case (is_step line) refl
         subst (λ (ks : List FieldKind). IsFormed line (spaced (field_texts line ks items))) (sym e)
         (formed (subst (λ (ks : List FieldKind). AllSuit setting ks items) e suit))
 
-    by_case : (steps : Bool) → is_step line ≡ steps → IsFormed line (spaced (field_texts line (fields line) items))
-    by_case true is = same _ (step_fields line is)
-        (λ suits. step_formed setting line (drop 2 (fields line)) items suits (step_kind line is))
+    by_case : (clients : Bool) → is_clients line ≡ clients → IsFormed line (spaced (field_texts line (fields line) items))
+    by_case true is = same _ (client_fields line is)
+        (λ suits. client_formed setting line (drop 2 (fields line)) items suits (client_kind line is))
     by_case false isnt = same _ (other_fields line isnt)
         (λ suits. other_formed setting line (drop 1 (fields line)) items suits (no_number line) (other_kind line isnt) (no_remark line))
 

@@ -1,21 +1,23 @@
 -- The text of a script is read as that script.
-use Rattle.std.proofs.Common.{◌≡◌, ℕ, ◌+◌, ◌≤◌, List, [], ◌∷◌, ◌++◌, reverse, map, Bool, false, cond, eqb}
+use Rattle.std.proofs.Common.{◌≡◌, ℕ, ◌+◌, ◌≤◌, List, [], ◌∷◌, ◌++◌, reverse, map, Bool, true, false, cond, eqb}
 use Rattle.std.proofs.Common.{Option, Some, Ok, Err, refl, sym, ap, ◌∙◌, subst, arith, append_assoc}
 use Rattle.std.specs.List.{cons_option, onto_first, list_any, AllByRecursion}
 use Rattle.std.proofs.lemmas.Bool.{le-ltb, or_parts}
 use Rattle.std.proofs.lemmas.List.{reverse-append}
 use Rattle.gr_history.specs.declared.ask.Ask.TheVariants as ask
 use Rattle.gr_history.specs.declared.query_ask.QueryAsk.TheVariants as query
+use Rattle.gr_script.specs.declared.forms.LineKind.TheVariants as kind
 use Rattle.gr_script.specs.declared.line.Act.{Act}
 use Rattle.gr_script.specs.declared.line.Act.TheVariants.{Call, Query, Peek}
 use Rattle.gr_script.specs.declared.line.Line.{Line}
 use Rattle.gr_script.specs.declared.line.Line.TheVariants.{Step, Report}
 use Rattle.gr_script.specs.declared.reason.Reason.TheVariants as reason
 use Rattle.gr_script.specs.declared.saying.Saying.{Saying}
-use Rattle.gr_script.specs.Past.{setting, region, stage, steps}
-use Rattle.gr_script.specs.Printed.{saying_in, IsLineKept}
+use Rattle.gr_script.specs.Forms.{is_kind}
+use Rattle.gr_script.specs.Past.{number, setting, region, stage, steps}
+use Rattle.gr_script.specs.Printed.{act_saying, saying_in, IsLineKept}
 use Rattle.gr_script.specs.Printing.{saying_text}
-use Rattle.gr_script.specs.Rules.{Heading, IsHeading, StandsAfter, AllBehind, AllStand, NamesStaying, AllNameStaying}
+use Rattle.gr_script.specs.Rules.{Heading, IsHeading, StandsAfter, AllBehind, AllStand, NamesStaying, AllNameStaying, Attends, AllAttend}
 use Rattle.gr_script.specs.Said.{heading_said, line_of, lines_said}
 use Rattle.gr_script.specs.Sayings.{fault, go_on, sayings_from}
 use Rattle.gr_script.specs.Texts.{lines_of, IsLine, text_of}
@@ -99,6 +101,19 @@ step_is past client seq (Call (ask.Get key)) e = ap (λ (n : ℕ). Some (Step cl
 step_is past client seq (Query (query.Stop name)) e = ap (λ (n : ℕ). Some (Step client n (Query (query.Stop name)))) e
 step_is past client seq act e = ap (λ (n : ℕ). Some (Step client n act)) e
 
+-- its first number is its client's, and it is no line on which a member joins
+pub first_is : (client : ℕ) (act : Act) → client ≡ number 0 (act_saying client act).items
+first_is client (Peek key) = refl
+first_is client (Call (ask.Get key)) = refl
+first_is client (Query (query.Stop name)) = refl
+first_is client act = refl
+
+pub no_join : (client : ℕ) (act : Act) → is_kind kind.Join (act_saying client act).kind ≡ true → 0 ≡ number 1 (act_saying client act).items
+no_join client (Peek key) is = absurd cc
+no_join client (Call (ask.Get key)) is = absurd cc
+no_join client (Query (query.Stop name)) is = absurd cc
+no_join client act is = absurd cc
+
 line_is : (h : Heading) (past : List Saying) (line : Line) → AllFollow past → StandsAfter h (lines_said past) line
     → line_of past (saying_in line) ≡ Some line
 line_is h past (Step client seq act) all stands =
@@ -112,7 +127,7 @@ rest_behind Each (line ∷ front) past all = rest_behind Each front past all.1
 
 -- Each line may stand behind those before it.
 abbrev pub MayStand : Heading → List Line → Type 0
-MayStand h lines = AllStand h lines × AllNameStaying h lines
+MayStand h lines = AllStand h lines × AllNameStaying h lines × AllAttend lines
 
 pub lines_back : (h : Heading) (number : ℕ) (past : List Saying) (lines : List Line) → IsHeading h → Ready h past
     → MayStand h (reverse lines ++ lines_said past) → AllByRecursion IsLineKept lines
@@ -133,10 +148,11 @@ lines_back h number past (line ∷ lines) head ready stand kept =
     let stands = subst (MayStand h) joined stand in
     let here : StandsAfter h so_far line = (rest_behind (StandsAfter h) (reverse lines) (line ∷ so_far) stands.0).0 in
     let names : NamesStaying h so_far line = (rest_behind (NamesStaying h) (reverse lines) (line ∷ so_far) stands.1).0 in
+    let attends : Attends so_far line = (rest_behind Attends (reverse lines) (line ∷ so_far) stands.2).0 in
     let accepts : Accepts past (saying_in line) = line_accepts past ready.follow (subst IsHeading (sym ready.headed) head)
     (subst (λ (g : Heading). region past ≡ Some g.region) (sym ready.headed) ready.named) ready.whole line
     (subst (λ (g : Heading). StandsAfter g so_far line) (sym ready.headed) here)
-    (subst (λ (g : Heading). NamesStaying g so_far line) (sym ready.headed) names) kept.0
+    (subst (λ (g : Heading). NamesStaying g so_far line) (sym ready.headed) names) attends kept.0
     in
     let said : lines_said (saying_in line ∷ past) ≡ line ∷ so_far =
     ap (λ (l : Option Line). cons_option l so_far) (line_is h past line ready.follow here) in

@@ -3,20 +3,22 @@ use Rattle.std.proofs.Common.{◌≡◌, ℕ, ◌+◌, ◌≤◌, ◌<◌, List,
 use Rattle.std.proofs.Common.{Option, Some, None, refl, sym, ap, ◌∙◌, subst, arith, bytes_eq, inl, inr}
 use Rattle.std.specs.List.{cons_option}
 use Rattle.std.specs.Option.{option_map_or, unwrap_or}
-use Rattle.std.proofs.lemmas.Bool.{cases_lt, or_parts, leb-false, ltb-false, eqb-false, not_from_false}
+use Rattle.std.proofs.lemmas.Bool.{cases_lt, or_parts, leb-false, ltb-false, eqb-false, not-false, not_from_false}
 use Rattle.std.proofs.lemmas.Slice.Eq.{bytes_eq-Decides}
 use Rattle.gr_script.specs.declared.forms.LineKind.{LineKind}
 use Rattle.gr_script.specs.declared.forms.LineKind.TheVariants as kind
 use Rattle.gr_script.specs.declared.items.Item.{Item}
 use Rattle.gr_script.specs.declared.line.Line.{Line}
 use Rattle.gr_script.specs.declared.reason.Reason.{Reason}
-use Rattle.gr_script.specs.declared.reason.Reason.TheVariants.{Count, Gone}
+use Rattle.gr_script.specs.declared.reason.Reason.TheVariants.{Away, Count, Gone}
 use Rattle.gr_script.specs.declared.saying.Saying.{Saying}
+use Rattle.gr_script.specs.Absence.{asks, presence, returned}
 use Rattle.gr_script.specs.Forms.{rank}
 use Rattle.gr_script.specs.Past.{setting, region, founders, home, steps, reports, joins, gifts, hears, count_of, queries, stage}
 use Rattle.gr_script.specs.Past.{next_rank}
-use Rattle.gr_script.specs.Refusals.{tests, refusal, is_missing, is_full, is_gone}
+use Rattle.gr_script.specs.Refusals.{tests, refusal, is_missing, asks as asks_here, is_away, is_full, is_gone, last_moment, open_count}
 use Rattle.gr_script.specs.Rules.{Heading, IsWithin, IsStated, StandsAfter, AllBehind, AllStand, Stays, NamesStaying}
+use Rattle.gr_script.specs.Rules.{Attends, AllAttend}
 use Rattle.gr_script.specs.Rules.{AllNameStaying}
 use Rattle.gr_script.specs.Said.{heading_said, line_of, lines_said}
 use Rattle.gr_script.specs.Steps as lines
@@ -66,8 +68,12 @@ stated past client is = (is.0.0, is.1)
 numbered : (past : List Saying) (client : ℕ) → AllFollow past → steps client past + 1 ≡ lines.step_count client (lines_said past) + 1
 numbered past client all = ap (λ (n : ℕ). n + 1) (sym (tallied (λ m. m.step) client past refl all))
 
-few_queries : (past : List Saying) → AllFollow past → is_full 10000 (queries past) ≡ false → lines.queries (lines_said past) < 10000
-few_queries past all isnt = not_full 10000 (queries past) _ isnt (tallied (λ m. m.query) 0 past refl all)
+-- as many steps on queries by the lines as by what they say
+pub asks_said : (past : List Saying) → AllFollow past → asks (lines_said past) ≡ asks_here past
+asks_said past all = ap (λ (n : ℕ). n + returned (lines_said past)) (tallied (λ m. m.query) 0 past refl all)
+
+few_queries : (past : List Saying) → AllFollow past → is_full 10000 (asks_here past) ≡ false → asks (lines_said past) < 10000
+few_queries past all isnt = not_full 10000 (asks_here past) _ isnt (asks_said past all)
 
 few_opens : (past : List Saying) → AllFollow past → is_full 16 (count_of kind.Open past) ≡ false → lines.opens (lines_said past) < 16
 few_opens past all isnt = not_full 16 (count_of kind.Open past) _ isnt (tallied (λ m. m.opened) 0 past refl all)
@@ -86,20 +92,20 @@ line_stands past kind.Invalidate c none rests all = (stated past c.0.0 c.0.1, nu
 line_stands past kind.Peek c none rests all = (stated past c.0.0 c.0.1, numbered past c.0.0 all, tt)
 line_stands past kind.Open c none rests all =
     let pass = passed (tests past kind.Open (held_items past kind.Open c)) none in
-    let full = or_parts (is_full 16 (count_of kind.Open past)) (is_full 10000 (queries past)) pass.1.0 in (
+    let full = or_parts (is_full 16 (count_of kind.Open past)) (is_full 10000 (asks_here past)) pass.1.1.0 in (
       stated past c.0.0 c.0.1,
       numbered past c.0.0 all,
       (own_region (region past) _ c.1.1.1.0.1, few_opens past all full.0, few_queries past all full.1, rests.1.1.1.0),
     )
 line_stands past kind.Stop c none rests all =
     let pass = passed (tests past kind.Stop (held_items past kind.Stop c)) none in
-    (stated past c.0.0 c.0.1, numbered past c.0.0 all, few_queries past all pass.1.0)
+    (stated past c.0.0 c.0.1, numbered past c.0.0 all, few_queries past all pass.1.1.0)
 line_stands past kind.Close c none rests all =
     let pass = passed (tests past kind.Close (held_items past kind.Close c)) none in
-    (stated past c.0.0 c.0.1, numbered past c.0.0 all, few_queries past all pass.1.0)
+    (stated past c.0.0 c.0.1, numbered past c.0.0 all, few_queries past all pass.1.1.0)
 line_stands past kind.Fetch c none rests all =
     let pass = passed (tests past kind.Fetch (held_items past kind.Fetch c)) none in
-    (stated past c.0.0 c.0.1, numbered past c.0.0 all, few_queries past all pass.1.0)
+    (stated past c.0.0 c.0.1, numbered past c.0.0 all, few_queries past all pass.1.1.0)
 line_stands past kind.Deliver c none rests all =
     let client = c.1.1.0.0.0 in
     let pass = passed (tests past kind.Deliver (held_items past kind.Deliver c)) none in
@@ -137,6 +143,11 @@ line_stands past kind.Depart c none rests all =
   where
     no_gift : (count : ℕ) → not (eqb count 0) ≡ false → count ≡ 0
     no_gift count isnt = grind arith
+line_stands past kind.Leave c none rests all = (stated past c.0.0 c.0.1, c.1.1.0.1.1)
+line_stands past kind.Back c none rests all =
+    let pass = passed (tests past kind.Back (held_items past kind.Back c)) none in
+    let within = ltb-false 10000 (asks_here past + open_count c.0.0 past) pass.1.1.0 in
+    (stated past c.0.0 c.0.1, c.1.1.0.1.1, omega (arith, within, asks_said past all))
 line_stands past kind.Join c none rests all =
     let member = c.1.0.0 in
     let provider = c.1.1.0.0 in
@@ -171,20 +182,24 @@ step_stays past client more all none =
 
 line_names : (past : List Saying) (form : LineKind) (c : Held past form) → refusal (tests past form (held_items past form c)) ≡ None
     → AllFollow past → NameStaying (heading_said past) (lines_said past) (line_by past form (held_items past form c))
-line_names past kind.Get c none all = step_stays past c.0.0 [] all none
-line_names past kind.Put c none all = step_stays past c.0.0 [] all none
-line_names past kind.PutIfAbsent c none all = step_stays past c.0.0 [] all none
-line_names past kind.Replace c none all = step_stays past c.0.0 [] all none
-line_names past kind.ReplaceIf c none all = step_stays past c.0.0 [] all none
-line_names past kind.Destroy c none all = step_stays past c.0.0 [] all none
-line_names past kind.Remove c none all = step_stays past c.0.0 [] all none
-line_names past kind.Invalidate c none all = step_stays past c.0.0 [] all none
-line_names past kind.Peek c none all = step_stays past c.0.0 [] all none
+line_names past kind.Get c none all = step_stays past c.0.0 ((is_away c.0.0 past, Away) ∷ []) all none
+line_names past kind.Put c none all = step_stays past c.0.0 ((is_away c.0.0 past, Away) ∷ []) all none
+line_names past kind.PutIfAbsent c none all = step_stays past c.0.0 ((is_away c.0.0 past, Away) ∷ []) all none
+line_names past kind.Replace c none all = step_stays past c.0.0 ((is_away c.0.0 past, Away) ∷ []) all none
+line_names past kind.ReplaceIf c none all = step_stays past c.0.0 ((is_away c.0.0 past, Away) ∷ []) all none
+line_names past kind.Destroy c none all = step_stays past c.0.0 ((is_away c.0.0 past, Away) ∷ []) all none
+line_names past kind.Remove c none all = step_stays past c.0.0 ((is_away c.0.0 past, Away) ∷ []) all none
+line_names past kind.Invalidate c none all = step_stays past c.0.0 ((is_away c.0.0 past, Away) ∷ []) all none
+line_names past kind.Peek c none all = step_stays past c.0.0 ((is_away c.0.0 past, Away) ∷ []) all none
 line_names past kind.Open c none all =
-    step_stays past c.0.0 ((is_full 16 (count_of kind.Open past) || is_full 10000 (queries past), Count) ∷ []) all none
-line_names past kind.Stop c none all = step_stays past c.0.0 ((is_full 10000 (queries past), Count) ∷ []) all none
-line_names past kind.Close c none all = step_stays past c.0.0 ((is_full 10000 (queries past), Count) ∷ []) all none
-line_names past kind.Fetch c none all = step_stays past c.0.0 ((is_full 10000 (queries past), Count) ∷ []) all none
+    step_stays past c.0.0
+    ((is_away c.0.0 past, Away) ∷ (is_full 16 (count_of kind.Open past) || is_full 10000 (asks_here past), Count) ∷ []) all none
+line_names past kind.Stop c none all =
+    step_stays past c.0.0 ((is_away c.0.0 past, Away) ∷ (is_full 10000 (asks_here past), Count) ∷ []) all none
+line_names past kind.Close c none all =
+    step_stays past c.0.0 ((is_away c.0.0 past, Away) ∷ (is_full 10000 (asks_here past), Count) ∷ []) all none
+line_names past kind.Fetch c none all =
+    step_stays past c.0.0 ((is_away c.0.0 past, Away) ∷ (is_full 10000 (asks_here past), Count) ∷ []) all none
 line_names past kind.Deliver c none all =
     stays past c.1.0.0 all (passed (tests past kind.Deliver (held_items past kind.Deliver c)) none).1.1.0
 line_names past kind.Report c none all =
@@ -197,6 +212,10 @@ line_names past kind.Join c none all =
     (stays past c.1.0.0 all gone.0, stays past c.1.1.0.0 all gone.1)
 line_names past kind.Depart c none all =
     stays past c.1.0.0 all (passed (tests past kind.Depart (held_items past kind.Depart c)) none).0
+line_names past kind.Leave c none all =
+    stays past (home c.0.0 past) all (passed (tests past kind.Leave (held_items past kind.Leave c)) none).0
+line_names past kind.Back c none all =
+    stays past (home c.0.0 past) all (passed (tests past kind.Back (held_items past kind.Back c)) none).0
 line_names past _ c none all = tt
 
 follower_names : (past : List Saying) (form : LineKind) (items : List Item) → Follows past form items → AllFollow past
@@ -204,6 +223,54 @@ follower_names : (past : List Saying) (form : LineKind) (items : List Item) → 
 follower_names past form items f all =
     subst (λ (is : List Item). NameStaying (heading_said past) (lines_said past) (line_by past form is)) f.items_are
     (line_names past form f.held (subst (λ (is : List Item). refusal (tests past form is) ≡ None) (sym f.items_are) f.passes) all)
+
+-- ---- clients that are away
+
+abbrev Attend : List Line → Option Line → Type 0
+Attend past None = Unit {0}
+Attend past (Some l) = Attends past l
+
+-- a step's client is there
+step_attends : (past : List Saying) (client : ℕ) (gone : Bool) (more : List (Bool × Reason))
+    → refusal ((gone, Gone) ∷ (is_away client past, Away) ∷ more) ≡ None → is_away client past ≡ false
+step_attends past client gone more none = (passed ((gone, Gone) ∷ (is_away client past, Away) ∷ more) none).1.0
+
+line_attends : (past : List Saying) (form : LineKind) (c : Held past form) → refusal (tests past form (held_items past form c)) ≡ None
+    → Attend (lines_said past) (line_by past form (held_items past form c))
+line_attends past kind.Get c none = step_attends past c.0.0 (is_gone (home c.0.0 past) past) [] none
+line_attends past kind.Put c none = step_attends past c.0.0 (is_gone (home c.0.0 past) past) [] none
+line_attends past kind.PutIfAbsent c none = step_attends past c.0.0 (is_gone (home c.0.0 past) past) [] none
+line_attends past kind.Replace c none = step_attends past c.0.0 (is_gone (home c.0.0 past) past) [] none
+line_attends past kind.ReplaceIf c none = step_attends past c.0.0 (is_gone (home c.0.0 past) past) [] none
+line_attends past kind.Destroy c none = step_attends past c.0.0 (is_gone (home c.0.0 past) past) [] none
+line_attends past kind.Remove c none = step_attends past c.0.0 (is_gone (home c.0.0 past) past) [] none
+line_attends past kind.Invalidate c none = step_attends past c.0.0 (is_gone (home c.0.0 past) past) [] none
+line_attends past kind.Peek c none = step_attends past c.0.0 (is_gone (home c.0.0 past) past) [] none
+line_attends past kind.Open c none = (passed (tests past kind.Open (held_items past kind.Open c)) none).1.0
+line_attends past kind.Stop c none = (passed (tests past kind.Stop (held_items past kind.Stop c)) none).1.0
+line_attends past kind.Close c none = (passed (tests past kind.Close (held_items past kind.Close c)) none).1.0
+line_attends past kind.Fetch c none = (passed (tests past kind.Fetch (held_items past kind.Fetch c)) none).1.0
+line_attends past kind.Leave c none =
+    let pass = passed (tests past kind.Leave (held_items past kind.Leave c)) none in
+    let here = or_parts (is_away c.0.0 past) (ltb c.1.1.0.0 (last_moment c.0.0 past)) pass.1.0 in
+    (here.0, ltb-false c.1.1.0.0 (last_moment c.0.0 past) here.1)
+line_attends past kind.Back c none =
+    let pass = passed (tests past kind.Back (held_items past kind.Back c)) none in
+    let away = or_parts (not (is_away c.0.0 past)) (ltb c.1.1.0.0 (last_moment c.0.0 past)) pass.1.0 in
+    (not-false (is_away c.0.0 past) away.0, ltb-false c.1.1.0.0 (last_moment c.0.0 past) away.1)
+line_attends past kind.Deliver c none = tt
+line_attends past kind.Report c none = tt
+line_attends past kind.Hear c none = tt
+line_attends past kind.Sweep c none = tt
+line_attends past kind.Join c none = tt
+line_attends past kind.Depart c none = tt
+line_attends past _ c none = tt
+
+follower_attends : (past : List Saying) (form : LineKind) (items : List Item) → Follows past form items
+    → Attend (lines_said past) (line_by past form items)
+follower_attends past form items f =
+    subst (λ (is : List Item). Attend (lines_said past) (line_by past form is)) f.items_are
+    (line_attends past form f.held (subst (λ (is : List Item). refusal (tests past form is) ≡ None) (sym f.items_are) f.passes))
 
 pub follower_stands : (past : List Saying) (form : LineKind) (items : List Item) → Follows past form items → AllFollow past
     → Stands (heading_said past) (lines_said past) (line_by past form items)
@@ -296,3 +363,7 @@ all_stand past all =
 pub all_name_staying : (past : List Saying) → AllFollow past → AllNameStaying (heading_said past) (lines_said past)
 all_name_staying past all =
     all_behind NamesStaying (λ past saying one rest. follower_names past saying.kind saying.items one rest) past all
+
+pub all_attend : (past : List Saying) → AllFollow past → AllAttend (lines_said past)
+all_attend past all =
+    all_behind (λ h. Attends) (λ past saying one rest. follower_attends past saying.kind saying.items one) past all

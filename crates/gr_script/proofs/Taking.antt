@@ -15,7 +15,7 @@ use Rattle.gr_script.specs.Kept.{CanBeKept}
 use Rattle.gr_script.specs.Past.{home, setting, stage}
 use Rattle.gr_script.specs.Plain.{IsPrinted}
 use Rattle.gr_script.specs.Printed.{act_saying}
-use Rattle.gr_script.specs.Refusals.{is_gone, past_with, saying_at}
+use Rattle.gr_script.specs.Refusals.{is_away, is_gone, past_with, saying_at}
 use Rattle.gr_script.specs.Said.{line_of, lines_said}
 use Rattle.gr_script.specs.Sayings.{go_on, sayings_from}
 use Rattle.gr_script.specs.Taken.{Taken, unless_longer, said_by, said, ahead, advanced, lines_taken, IsNext, IsTaken}
@@ -193,9 +193,10 @@ is_next t line after longer next reads = record { line = line; ahead_is = next; 
 -- A line that is printed for a step says that step.
 pub printed_says : (runs : Bool) (past : List Saying) (line : List ℕ) (step : PlainStep) (set : Setting) → IsPrinted line step
     → 4 ≤ stage past → set ≡ setting past → IsClient set step.client → is_gone (home step.client past) past ≡ false
+    → is_away step.client past ≡ false
     → past_with runs past line ≡ Ok (act_saying step.client step.act ∷ past)
-printed_says runs past line step set printed whole is client stays =
+printed_says runs past line step set printed whole is client stays here =
     ap (past_with runs past) printed.text
     ∙ past_read runs past (act_saying step.client step.act) (quiet runs step.client step.act printed.plain)
-    (plain_accepts past whole step.client step.act (subst (λ (s : Setting). IsClient s step.client) is client) stays printed.plain
+    (plain_accepts past whole step.client step.act (subst (λ (s : Setting). IsClient s step.client) is client) (stays, here) printed.plain
     printed.kept)

@@ -6,7 +6,7 @@ use Rattle.gr_script.specs.declared.forms.LineKind.{LineKind}
 use Rattle.gr_script.specs.declared.forms.FieldKind.{FieldKind}
 use Rattle.gr_script.specs.declared.forms.FieldKind.TheVariants as field
 use Rattle.gr_script.specs.Cuts.{after_spaces, field_len}
-use Rattle.gr_script.specs.Forms.{step_kinds, other_kinds, kind_of}
+use Rattle.gr_script.specs.Forms.{client_kinds, other_kinds, kind_of}
 use Rattle.gr_script.specs.Pieces.{piece_len}
 
 -- how many bytes a field of this kind has, which stands in front
@@ -45,4 +45,4 @@ is_client text = list_all is_ascii_digit (first text)
 
 -- the form that the line's word names
 abbrev pub form_of : List ℕ → Option LineKind
-form_of text = if is_client text then kind_of step_kinds (second text) else kind_of other_kinds (first text)
+form_of text = if is_client text then kind_of client_kinds (second text) else kind_of other_kinds (first text)

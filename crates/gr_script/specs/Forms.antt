@@ -4,7 +4,7 @@ use Rattle.std.specs.List.{find}
 use Rattle.gr_script.specs.declared.forms.LineKind.{LineKind}
 use Rattle.gr_script.specs.declared.forms.LineKind.TheVariants.{Georep, Region, Members, Shards, Inbox, Trouble, Floor, Client, Get, Put}
 use Rattle.gr_script.specs.declared.forms.LineKind.TheVariants.{PutIfAbsent, Replace, ReplaceIf, Destroy, Remove, Invalidate, Peek}
-use Rattle.gr_script.specs.declared.forms.LineKind.TheVariants.{Open, Stop, Close, Fetch, Deliver, Report, Hear, Sweep, Join, Depart}
+use Rattle.gr_script.specs.declared.forms.LineKind.TheVariants.{Open, Stop, Close, Fetch, Deliver, Report, Hear, Sweep, Join, Depart, Leave, Back}
 use Rattle.gr_script.specs.declared.forms.FieldKind.{FieldKind}
 use Rattle.gr_script.specs.declared.forms.FieldKind.TheVariants as field
 use Rattle.gr_script.specs.Limits.{most_members, most_shards, most_inbox, most_trouble, most_clients, most_moment}
@@ -38,6 +38,8 @@ word Hear = codes "hear"
 word Sweep = codes "sweep"
 word Join = codes "join"
 word Depart = codes "depart"
+word Leave = codes "leave"
+word Back = codes "back"
 
 -- the fields of the line
 abbrev pub fields : LineKind → List FieldKind
@@ -68,6 +70,8 @@ fields Hear = field.Word ∷ field.Member ∷ field.Member ∷ field.Ordinal ∷
 fields Sweep = field.Word ∷ field.Member ∷ (field.Number 0 most_moment) ∷ []
 fields Join = field.Word ∷ field.Member ∷ field.Member ∷ []
 fields Depart = field.Word ∷ field.Member ∷ []
+fields Leave = field.Client ∷ field.Word ∷ (field.Number 0 most_moment) ∷ []
+fields Back = field.Client ∷ field.Word ∷ (field.Number 0 most_moment) ∷ []
 
 -- which of the kinds it is, counted from 0
 abbrev pub place : LineKind → ℕ
@@ -98,16 +102,18 @@ place Hear = 23
 place Sweep = 24
 place Join = 25
 place Depart = 26
+place Leave = 27
+place Back = 28
 
 -- A line of a greater rank stands behind one of a lesser.
 abbrev pub rank : LineKind → ℕ
 rank kind = min (place kind) 8
 
 -- the lines that begin with a client's number
-abbrev pub step_kinds : List LineKind
-step_kinds =
+abbrev pub client_kinds : List LineKind
+client_kinds =
     Get ∷ Put ∷ Destroy ∷ PutIfAbsent ∷ Replace ∷ ReplaceIf
-    ∷ Remove ∷ Invalidate ∷ Peek ∷ Open ∷ Stop ∷ Close ∷ Fetch ∷ []
+    ∷ Remove ∷ Invalidate ∷ Peek ∷ Open ∷ Stop ∷ Close ∷ Fetch ∷ Leave ∷ Back ∷ []
 
 abbrev pub other_kinds : List LineKind
 other_kinds =
@@ -118,7 +124,7 @@ other_kinds =
 abbrev pub kind_of : List LineKind → List ℕ → Option LineKind
 kind_of kinds text = find (λ kind. bytes_eq text (word kind)) kinds
 
--- Some lines begin with a client's number.
+-- Some lines are steps of a client.
 abbrev pub is_step : LineKind → Bool
 is_step Get = true
 is_step Put = true
@@ -134,6 +140,12 @@ is_step Stop = true
 is_step Close = true
 is_step Fetch = true
 is_step _ = false
+
+-- Steps begin with a client's number, and lines on which it leaves or comes back.
+abbrev pub is_clients : LineKind → Bool
+is_clients Leave = true
+is_clients Back = true
+is_clients kind = is_step kind
 
 -- whether lines of these kinds have the same word
 abbrev pub is_kind : LineKind → LineKind → Bool

@@ -1,6 +1,8 @@
+pub mod Absence
 pub mod Braces
 pub mod Cuts
 pub mod Drill
+pub mod Expanded
 pub mod Fields
 pub mod Forms
 pub mod Halts
@@ -9,6 +11,7 @@ pub mod Items
 pub mod Kept
 pub mod Limits
 pub mod LineNumbers
+pub mod LinesSaid
 pub mod Narrow
 pub mod Numerals
 pub mod Past

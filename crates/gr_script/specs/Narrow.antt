@@ -15,4 +15,6 @@ IsNarrow kind.Hear items = (number 0 items < 2 ^ 8) × (number 1 items < 2 ^ 8) 
 IsNarrow kind.Sweep items = (number 0 items < 2 ^ 8) × (number 1 items < 2 ^ 64)
 IsNarrow kind.Join items = (number 0 items < 2 ^ 8) × (number 1 items < 2 ^ 8)
 IsNarrow kind.Depart items = number 0 items < 2 ^ 8
+IsNarrow kind.Leave items = (number 0 items < 2 ^ 8) × (number 1 items < 2 ^ 32)
+IsNarrow kind.Back items = (number 0 items < 2 ^ 8) × (number 1 items < 2 ^ 32)
 IsNarrow _ items = Unit {0}

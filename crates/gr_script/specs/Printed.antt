@@ -15,7 +15,7 @@ use Rattle.gr_script.specs.declared.items.Item.TheVariants as item
 use Rattle.gr_script.specs.declared.line.Act.{Act}
 use Rattle.gr_script.specs.declared.line.Act.TheVariants.{Call, Query, Peek}
 use Rattle.gr_script.specs.declared.line.Line.{Line}
-use Rattle.gr_script.specs.declared.line.Line.TheVariants.{Step, Deliver, Report, Hear, Sweep, Join, Depart}
+use Rattle.gr_script.specs.declared.line.Line.TheVariants.{Step, Deliver, Report, Hear, Sweep, Join, Depart, Leave, Back}
 use Rattle.gr_script.specs.declared.saying.Saying.{Saying}
 use Rattle.gr_script.specs.Printing.{saying_text, text_of_sayings}
 use Rattle.gr_script.specs.Rules.{Heading}
@@ -28,6 +28,10 @@ other_saying kind items = record { kind = kind; items = item.Word ∷ items }
 -- a line of a client, with a key or the name of a query
 abbrev pub step_saying : LineKind → ℕ → List ℕ → List Item → Saying
 step_saying kind client key items = record { kind = kind; items = item.Client client ∷ item.Word ∷ item.Key key ∷ items }
+
+-- a line on which a client leaves or comes back
+abbrev pub moment_saying : LineKind → ℕ → ℕ → Saying
+moment_saying kind client moment = record { kind = kind; items = item.Client client ∷ item.Word ∷ item.Number moment ∷ [] }
 
 -- ---- the lines
 
@@ -60,6 +64,8 @@ saying_in (Hear by of number) = other_saying kind.Hear (item.Member by ∷ item.
 saying_in (Sweep member moment) = other_saying kind.Sweep (item.Member member ∷ item.Number moment ∷ [])
 saying_in (Join member from) = other_saying kind.Join (item.Member member ∷ item.Member from ∷ [])
 saying_in (Depart member) = other_saying kind.Depart (item.Member member ∷ [])
+saying_in (Leave client moment) = moment_saying kind.Leave client moment
+saying_in (Back client moment) = moment_saying kind.Back client moment
 
 -- with the line feed that ends it
 unfoldable pub line_text : Line → List ℕ

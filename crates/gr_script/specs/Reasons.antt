@@ -2,7 +2,7 @@
 use Rattle.std.specs.Prelude.{ℕ, List, codes}
 use Rattle.gr_script.specs.declared.reason.Reason.{Reason}
 use Rattle.gr_script.specs.declared.reason.Reason.TheVariants.{Utf8, Header, Word, Fields, Number, Range, Name, Key, Value, Query, Region}
-use Rattle.gr_script.specs.declared.reason.Reason.TheVariants.{Client, Order, Later, Join, Itself, Count, NotInRun, Gone, Provider}
+use Rattle.gr_script.specs.declared.reason.Reason.TheVariants.{Client, Order, Later, Join, Itself, Count, NotInRun, Gone, Provider, Away}
 
 abbrev pub number_of : Reason → ℕ
 number_of Utf8 = 1
@@ -25,6 +25,7 @@ number_of Count = 17
 number_of NotInRun = 18
 number_of Gone = 19
 number_of Provider = 20
+number_of Away = 21
 
 abbrev pub name_of : Reason → List ℕ
 name_of Utf8 = codes "Utf8"
@@ -47,3 +48,4 @@ name_of Count = codes "Count"
 name_of NotInRun = codes "NotInRun"
 name_of Gone = codes "Gone"
 name_of Provider = codes "Provider"
+name_of Away = codes "Away"

@@ -1,5 +1,5 @@
 -- Which line of a script is refused first, and for which reason.
-use Rattle.std.specs.Prelude.{ℕ, ◌+◌, List, [], ◌∷◌, Bool, false, ◌&&◌, ◌||◌, ◌==◌, nat_lt, nat_le, not, bytes_eq, Option, Some, None}
+use Rattle.std.specs.Prelude.{ℕ, ◌+◌, List, [], ◌∷◌, length, Bool, false, ◌&&◌, ◌||◌, ◌==◌, nat_lt, nat_le, not, bytes_eq, Option, Some, None}
 use Rattle.std.specs.Prelude.{Result, Ok, Err, slice_get, if◌then◌else◌}
 use Rattle.std.specs.Option.{ok_or, option_map_or}
 use Rattle.gr_script.specs.declared.forms.LineKind.{LineKind}
@@ -8,12 +8,14 @@ use Rattle.gr_script.specs.declared.items.Item.{Item}
 use Rattle.gr_script.specs.declared.saying.Saying.{Saying}
 use Rattle.gr_script.specs.declared.reason.Reason.{Reason}
 use Rattle.gr_script.specs.declared.reason.Reason.TheVariants.{Header, Word, Fields, Range, Order, Later, Join, Itself}
-use Rattle.gr_script.specs.declared.reason.Reason.TheVariants.{Count, NotInRun, Gone, Provider}
+use Rattle.gr_script.specs.declared.reason.Reason.TheVariants.{Count, NotInRun, Gone, Provider, Away}
+use Rattle.gr_script.specs.Absence.{presence, returned}
 use Rattle.gr_script.specs.Cuts.{text_said, is_skipped}
 use Rattle.gr_script.specs.Fields.{first, fits, form_of}
 use Rattle.gr_script.specs.Forms.{word, fields, rank, is_kind}
 use Rattle.gr_script.specs.Halts.{◌>>=◌, unless}
 use Rattle.gr_script.specs.Limits.{most_reports, most_hears, most_sweeps, most_opens, most_queries}
+use Rattle.gr_script.specs.LinesSaid.{lines_said}
 use Rattle.gr_script.specs.Items.{text_at, items_at}
 use Rattle.gr_script.specs.Past.{number, founders, home, clients, setting, count_of, queries, steps, reports, joins, departs, gifts, hears}
 use Rattle.gr_script.specs.Past.{stage}
@@ -50,9 +52,30 @@ is_no_join member provider past = nat_le member (founders past) || not (joins me
 abbrev pub is_gone : ℕ → List Saying → Bool
 is_gone member past = not (departs member past == 0)
 
--- what a step on a query may still be
+-- The client left on an earlier line and isn't back.
+abbrev pub is_away : ℕ → List Saying → Bool
+is_away client past = (presence client (lines_said past)).away
+
+-- the moment of its last line of leaving or coming back
+abbrev pub last_moment : ℕ → List Saying → ℕ
+last_moment client past = (presence client (lines_said past)).moment
+
+-- how many queries it has open
+abbrev pub open_count : ℕ → List Saying → ℕ
+open_count client past = length (presence client (lines_said past)).names
+
+-- how many steps on queries there are, with those that lines stand for on which clients come back
+abbrev pub asks : List Saying → ℕ
+asks past = queries past + returned (lines_said past)
+
+-- what a step may still be
+abbrev pub step_tests : List Saying → List Item → List (Bool × Reason)
+step_tests past items = (is_gone (home (number 0 items) past) past, Gone) ∷ (is_away (number 0 items) past, Away) ∷ []
+
+-- and one on a query
 abbrev pub query_tests : List Saying → Bool → List Item → List (Bool × Reason)
-query_tests past is_full items = (is_gone (home (number 0 items) past) past, Gone) ∷ (is_full, Count) ∷ []
+query_tests past is_full items =
+    (is_gone (home (number 0 items) past) past, Gone) ∷ (is_away (number 0 items) past, Away) ∷ (is_full, Count) ∷ []
 
 -- what a line with good fields may still be, and the reason against it, in order
 abbrev pub tests : List Saying → LineKind → List Item → List (Bool × Reason)
@@ -79,17 +102,26 @@ tests past kind.Sweep items =
     ∷ (is_full most_sweeps (count_of kind.Sweep past) || nat_lt most_hears (hears past + count_of kind.Depart past), Count)
     ∷ []
 tests past kind.Depart items = (is_gone (number 0 items) past, Gone) ∷ (not (gifts (number 0 items) past == 0), Provider) ∷ []
-tests past kind.Open items = query_tests past (is_full most_opens (count_of kind.Open past) || is_full most_queries (queries past)) items
-tests past kind.Stop items = query_tests past (is_full most_queries (queries past)) items
-tests past kind.Close items = query_tests past (is_full most_queries (queries past)) items
-tests past kind.Fetch items = query_tests past (is_full most_queries (queries past)) items
+tests past kind.Leave items =
+    (is_gone (home (number 0 items) past) past, Gone)
+    ∷ (is_away (number 0 items) past || nat_lt (number 1 items) (last_moment (number 0 items) past), Away)
+    ∷ []
+tests past kind.Back items =
+    (is_gone (home (number 0 items) past) past, Gone)
+    ∷ (not (is_away (number 0 items) past) || nat_lt (number 1 items) (last_moment (number 0 items) past), Away)
+    ∷ (nat_lt most_queries (asks past + open_count (number 0 items) past), Count)
+    ∷ []
+tests past kind.Open items = query_tests past (is_full most_opens (count_of kind.Open past) || is_full most_queries (asks past)) items
+tests past kind.Stop items = query_tests past (is_full most_queries (asks past)) items
+tests past kind.Close items = query_tests past (is_full most_queries (asks past)) items
+tests past kind.Fetch items = query_tests past (is_full most_queries (asks past)) items
 tests past kind.Georep items = []
 tests past kind.Region items = []
 tests past kind.Shards items = []
 tests past kind.Inbox items = []
 tests past kind.Trouble items = []
 tests past kind.Floor items = []
-tests past _ items = (is_gone (home (number 0 items) past) past, Gone) ∷ []
+tests past _ items = step_tests past items
 
 -- the reason of the first test that holds
 abbrev pub refusal : List (Bool × Reason) → Option Reason

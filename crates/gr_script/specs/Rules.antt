@@ -1,5 +1,5 @@
 -- What every script keeps.
-use Rattle.std.specs.Prelude.{◌≡◌, ℕ, ◌-◌, ◌+◌, ◌≤◌, ◌<◌, List, [], ◌∷◌, length, reverse, slice_index, Bool, false, ◌&&◌, ◌||◌, ◌==◌, not}
+use Rattle.std.specs.Prelude.{◌≡◌, ℕ, ◌-◌, ◌+◌, ◌≤◌, ◌<◌, List, [], ◌∷◌, length, reverse, slice_index, Bool, true, false, ◌&&◌, ◌||◌, ◌==◌, not}
 use Rattle.std.specs.Prelude.{nat_le, IsTrue}
 use Rattle.std.specs.List.{list_all}
 use Rattle.std.specs.Coded.{le_prop, Coded-set, codes}
@@ -11,11 +11,12 @@ use Rattle.gr_history.specs.declared.query_ask.QueryAsk.TheVariants as query
 use Rattle.gr_script.specs.declared.line.Act.{Act}
 use Rattle.gr_script.specs.declared.line.Act.TheVariants.{Call, Query, Peek}
 use Rattle.gr_script.specs.declared.line.Line.{Line}
-use Rattle.gr_script.specs.declared.line.Line.TheVariants.{Step, Deliver, Report, Hear, Sweep, Join, Depart}
+use Rattle.gr_script.specs.declared.line.Line.TheVariants.{Step, Deliver, Report, Hear, Sweep, Join, Depart, Leave, Back}
+use Rattle.gr_script.specs.Absence.{presence, asks}
 use Rattle.gr_script.specs.Limits.{most_members, most_shards, most_inbox, most_trouble, most_clients, most_reports, most_hears}
 use Rattle.gr_script.specs.Limits.{most_sweeps, most_moment, most_opens, most_queries}
 use Rattle.gr_script.specs.Rests.{IsRest, IsRest-prop}
-use Rattle.gr_script.specs.Steps.{step_count, reports_of, joins_of, joins_from, opens, queries, reports, hears, sweeps}
+use Rattle.gr_script.specs.Steps.{step_count, reports_of, joins_of, joins_from, opens, reports, hears, sweeps}
 use Rattle.gr_script.specs.Steps.{departed, is_gone}
 
 -- what stands before the lines
@@ -95,11 +96,11 @@ Differ one other = IsTrue (not (one == other))
 
 -- Whether a client may ask this of a query, behind the earlier lines. The query's text is the rest of its line.
 abbrev pub QuerySuits : Heading → List Line → QueryAsk → Type 0
-QuerySuits h past (query.Enrol name query) = (query.asked.region ≡ h.region) × (opens past < most_opens) × (queries past < most_queries)
+QuerySuits h past (query.Enrol name query) = (query.asked.region ≡ h.region) × (opens past < most_opens) × (asks past < most_queries)
     × IsRest query.text
-QuerySuits h past (query.Stop name) = queries past < most_queries
-QuerySuits h past (query.Close name) = queries past < most_queries
-QuerySuits h past (query.Fetch name) = queries past < most_queries
+QuerySuits h past (query.Stop name) = asks past < most_queries
+QuerySuits h past (query.Close name) = asks past < most_queries
+QuerySuits h past (query.Fetch name) = asks past < most_queries
 
 abbrev pub ActSuits : Heading → List Line → Act → Type 0
 ActSuits h past (Call ask) = Unit {0}
@@ -119,6 +120,9 @@ StandsAfter h past (Sweep member moment) = IsMember h member × (moment ≤ most
 StandsAfter h past (Join member from) =
     (h.founders < member) × (member ≤ h.members) × IsWithin 1 h.founders from × (joins_of member past ≡ 0)
 StandsAfter h past (Depart member) = IsMember h member × (joins_from member past ≡ 0)
+StandsAfter h past (Leave client moment) = IsStated client h × (moment ≤ most_moment)
+StandsAfter h past (Back client moment) = IsStated client h × (moment ≤ most_moment)
+    × (asks past + length (presence client past).names ≤ most_queries)
 
 abbrev pub Stays : List Line → ℕ → Type 0
 Stays past member = is_gone (departed past) member ≡ false
@@ -132,6 +136,20 @@ NamesStaying h past (Hear by of number) = Stays past by
 NamesStaying h past (Sweep member moment) = Stays past member
 NamesStaying h past (Join member from) = Stays past member × Stays past from
 NamesStaying h past (Depart member) = Stays past member
+NamesStaying h past (Leave client moment) = Stays past (home_of h client)
+NamesStaying h past (Back client moment) = Stays past (home_of h client)
+
+-- A client that has left does nothing until it is back, and its moments don't fall.
+abbrev pub Attends : List Line → Line → Type 0
+Attends past (Step client seq act) = (presence client past).away ≡ false
+Attends past (Leave client moment) = ((presence client past).away ≡ false) × ((presence client past).moment ≤ moment)
+Attends past (Back client moment) = ((presence client past).away ≡ true) × ((presence client past).moment ≤ moment)
+Attends past (Deliver to client seq) = Unit {0}
+Attends past (Report member) = Unit {0}
+Attends past (Hear by of number) = Unit {0}
+Attends past (Sweep member moment) = Unit {0}
+Attends past (Join member from) = Unit {0}
+Attends past (Depart member) = Unit {0}
 
 -- So it is of each line behind those before it.
 abbrev pub AllBehind : (List Line → Line → Type 0) → List Line → Type 0
@@ -144,11 +162,15 @@ AllStand h lines = AllBehind (StandsAfter h) lines
 abbrev pub AllNameStaying : Heading → List Line → Type 0
 AllNameStaying h lines = AllBehind (NamesStaying h) lines
 
+abbrev pub AllAttend : List Line → Type 0
+AllAttend lines = AllBehind Attends lines
+
 -- A script is a heading and lines, each of which may stand where it does.
 pub record IsScript (h : Heading) (lines : List Line) : Type 0 where
   pub heading : IsHeading h
   pub lines_stand : AllStand h (reverse lines)
   pub names_staying : AllNameStaying h (reverse lines)
+  pub attended : AllAttend (reverse lines)
 
 AreWithin-prop : (least most : ℕ) (numbers : List ℕ) → IsProp (AreWithin least most numbers)
 AreWithin-prop least most [] = hlevel
@@ -176,6 +198,8 @@ StandsAfter-prop h past (Hear by of number) = hlevel (le_prop, Coded-set, codes)
 StandsAfter-prop h past (Sweep member moment) = hlevel (le_prop, Coded-set, codes)
 StandsAfter-prop h past (Join member from) = hlevel (le_prop, Coded-set, codes)
 StandsAfter-prop h past (Depart member) = hlevel (le_prop, Coded-set, codes)
+StandsAfter-prop h past (Leave client moment) = hlevel (le_prop, Coded-set, codes)
+StandsAfter-prop h past (Back client moment) = hlevel (le_prop, Coded-set, codes)
 
 AllBehind-prop : (Each : List Line → Line → Type 0) → ((past : List Line) (line : Line) → IsProp (Each past line)) → (past : List Line)
     → IsProp (AllBehind Each past)
@@ -190,6 +214,19 @@ NamesStaying-prop h past (Hear by of number) = hlevel (Coded-set, codes)
 NamesStaying-prop h past (Sweep member moment) = hlevel (Coded-set, codes)
 NamesStaying-prop h past (Join member from) = hlevel (Coded-set, codes)
 NamesStaying-prop h past (Depart member) = hlevel (Coded-set, codes)
+NamesStaying-prop h past (Leave client moment) = hlevel (Coded-set, codes)
+NamesStaying-prop h past (Back client moment) = hlevel (Coded-set, codes)
+
+Attends-prop : (past : List Line) (line : Line) → IsProp (Attends past line)
+Attends-prop past (Step client seq act) = hlevel (Coded-set, codes)
+Attends-prop past (Leave client moment) = hlevel (le_prop, Coded-set, codes)
+Attends-prop past (Back client moment) = hlevel (le_prop, Coded-set, codes)
+Attends-prop past (Deliver to client seq) = hlevel
+Attends-prop past (Report member) = hlevel
+Attends-prop past (Hear by of number) = hlevel
+Attends-prop past (Sweep member moment) = hlevel
+Attends-prop past (Join member from) = hlevel
+Attends-prop past (Depart member) = hlevel
 
 -- A script keeps its rules in one way.
 pub IsScript-prop : (h : Heading) (lines : List Line) → IsProp (IsScript h lines)
@@ -199,4 +236,5 @@ IsScript-prop h lines =
       AllBehind-prop (StandsAfter h) (StandsAfter-prop h) (reverse lines),
       AllBehind-prop (NamesStaying h)
           (NamesStaying-prop h) (reverse lines),
+      AllBehind-prop Attends Attends-prop (reverse lines),
     )

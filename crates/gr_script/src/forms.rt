@@ -1,5 +1,5 @@
 ghost use Rattle.std.specs.Prelude.{◌≡◌, if◌then◌else◌};
-ghost use Rattle.gr_script.specs.Forms.{word, fields, place, rank, is_step, is_kind, step_kinds, other_kinds, kind_of};
+ghost use Rattle.gr_script.specs.Forms.{word, fields, place, rank, is_step, is_kind, client_kinds, other_kinds, kind_of};
 
 /// What a line is, by its word.
 #[derive(Clone, Copy)]
@@ -31,6 +31,8 @@ pub(crate) enum LineKind {
     Sweep,
     Join,
     Depart,
+    Leave,
+    Back,
 }
 
 /// What a field of a line is.
@@ -61,7 +63,7 @@ pub(crate) enum FieldKind {
 }
 
 /// The lines that begin with a client's number.
-const STEP_KINDS: [LineKind; 13] = [
+const CLIENT_KINDS: [LineKind; 15] = [
     LineKind::Get,
     LineKind::Put,
     LineKind::Destroy,
@@ -75,6 +77,8 @@ const STEP_KINDS: [LineKind; 13] = [
     LineKind::Stop,
     LineKind::Close,
     LineKind::Fetch,
+    LineKind::Leave,
+    LineKind::Back,
 ];
 
 const OTHER_KINDS: [LineKind; 14] = [
@@ -127,6 +131,8 @@ impl LineKind {
             LineKind::Sweep => b"sweep",
             LineKind::Join => b"join",
             LineKind::Depart => b"depart",
+            LineKind::Leave => b"leave",
+            LineKind::Back => b"back",
         }
     }
 
@@ -232,6 +238,14 @@ impl LineKind {
             ],
             LineKind::Join => &[FieldKind::Word, FieldKind::Member, FieldKind::Member],
             LineKind::Depart => &[FieldKind::Word, FieldKind::Member],
+            LineKind::Leave | LineKind::Back => &[
+                FieldKind::Client,
+                FieldKind::Word,
+                FieldKind::Number {
+                    least: 0,
+                    most: 4294967295,
+                },
+            ],
         }
     }
 }
@@ -243,17 +257,17 @@ fn kind_among(kinds: &[LineKind], text: &[u8]) -> Option<LineKind>
 }
 
 /// The kind with this word, of those that begin with a client's number or of the others.
-pub(crate) fn kind_of(is_step: bool, text: &[u8]) -> Option<LineKind>
-    ensures { result ≡ kind_of (if is_step then step_kinds else other_kinds) text.now }
+pub(crate) fn kind_of(is_client: bool, text: &[u8]) -> Option<LineKind>
+    ensures { result ≡ kind_of (if is_client then client_kinds else other_kinds) text.now }
 {
-    if is_step {
-        kind_among(&STEP_KINDS, text)
+    if is_client {
+        kind_among(&CLIENT_KINDS, text)
     } else {
         kind_among(&OTHER_KINDS, text)
     }
 }
 
-/// Whether the line begins with a client's number.
+/// Whether the line is a step of a client.
 pub(crate) fn is_step(kind: LineKind) -> bool
     ensures { result ≡ is_step kind }
 {
@@ -307,6 +321,8 @@ fn place(kind: LineKind) -> u8
         LineKind::Sweep => 24,
         LineKind::Join => 25,
         LineKind::Depart => 26,
+        LineKind::Leave => 27,
+        LineKind::Back => 28,
     }
 }
 

@@ -1,6 +1,7 @@
 //! Scripts: what a run is asked to do, read from a text.
 #![tactic(auto)]
 
+mod attendance;
 mod cuts;
 mod drill;
 mod drill_lines;
@@ -37,6 +38,7 @@ mod tally;
 mod telling;
 mod text;
 
+pub use attendance::{Attendance, Presence, is_late};
 pub use cuts::line_count;
 pub use ending::{ScriptEnd, ScriptFault};
 pub use feed::Feed;

@@ -50,6 +50,10 @@ pub enum Line {
     Join { member: u8, from: u8 },
     /// The member departs for good.
     Depart { member: u8 },
+    /// The client leaves at this moment, in seconds.
+    Leave { client: u8, moment: u32 },
+    /// The client that left is back.
+    Back { client: u8, moment: u32 },
 }
 
 pub type LineList = ItemList<Line>;
@@ -82,6 +86,14 @@ impl Copied for Line {
                 from: *from,
             }),
             Line::Depart { member } => Ok(Line::Depart { member: *member }),
+            Line::Leave { client, moment } => Ok(Line::Leave {
+                client: *client,
+                moment: *moment,
+            }),
+            Line::Back { client, moment } => Ok(Line::Back {
+                client: *client,
+                moment: *moment,
+            }),
         }
     }
 }

@@ -1,4 +1,4 @@
-ghost use Rattle.std.specs.Prelude.{◌≡◌, ◌<◌, ◌≤◌, ◌+◌, ◌^◌, ℕ, ◌∷◌, List, true, length, IfOk, OnOk, MatchOption, [], option_copied};
+ghost use Rattle.std.specs.Prelude.{◌≡◌, ◌<◌, ◌≤◌, ◌+◌, ◌^◌, ℕ, ◌∷◌, List, Some, true, length, IfOk, OnOk, MatchOption, [], option_copied};
 ghost use Rattle.std.specs.List.{cons_option};
 ghost use Rattle.gr_script.specs.declared.forms.LineKind.TheVariants as kind;
 ghost use Rattle.gr_script.specs.Forms.{is_kind, rank};
@@ -8,13 +8,14 @@ ghost use Rattle.gr_script.specs.Printed.{act_saying, saying_in};
 ghost use Rattle.gr_script.specs.Said.{line_of as line_said};
 ghost use Rattle.gr_script.specs.declared.saying.Saying.{Saying};
 ghost use Rattle.gr_script.specs.Past.{stage, region, members, founders, clients, steps, reports, joins, gifts, hears, heard_on};
-ghost use Rattle.gr_script.specs.Refusals.{is_gone};
+ghost use Rattle.gr_script.specs.Refusals.{asks, is_away, is_gone, last_moment, open_count};
 ghost use Rattle.gr_script.specs.Past.{homes as homes_of, home, number as number_in, setting, sizes};
 ghost use Rattle.gr_script.specs.Taken.{IsNext, IsTaken, advanced, ahead, lines_taken, said};
 ghost use Rattle.gr_script.specs.Texts.{lines_of};
 ghost use Rattle.gr_script.specs.Limits.{most_lines};
 
 use crate::Line;
+use crate::attendance::Attendance;
 use crate::forms::{LineKind, is_kind, rank};
 use crate::items::Setting;
 use crate::note::{counted, heard_on, homes_with, is_query, next_rank, region_with, stated_with};
@@ -71,6 +72,9 @@ pub(crate) struct Past<'a> {
     homes: ItemList<u128>,
     tallies: Tallies,
     counted: Counted,
+    attendance: Attendance,
+    /// How many steps on queries stand for clients' coming back.
+    returned: u64,
 }
 
 /// The next line of a text, and what follows it.
@@ -92,7 +96,7 @@ impl<'a> Model for Past<'a> {
     ghost view = { λ past. record { runs = past.runs; text = past.text.now; count = past.count } };
 
     ghost invariant = { λ past. IsIndex past.stage past.setting past.founders past.sizes past.homes past.tallies past.counted
-        (said (record { runs = past.runs; text = past.text.now; count = past.count }))
+        past.attendance past.returned (said (record { runs = past.runs; text = past.text.now; count = past.count }))
         × IsTaken (record { runs = past.runs; text = past.text.now; count = past.count })
         × (ahead (record { runs = past.runs; text = past.text.now; count = past.count }) ≡ lines_of past.rest.now) };
 }
@@ -134,6 +138,8 @@ impl<'a> Past<'a> {
             homes: ItemList::new(alloc)?,
             tallies: Tallies::new(),
             counted,
+            attendance: Attendance::new(alloc),
+            returned: 0,
         })
     }
 
@@ -207,7 +213,50 @@ impl<'a> Past<'a> {
     pub(crate) fn is_gone(&self, member: u128) -> bool
         ensures { result ≡ is_gone member (said self.now) }
     {
+        if self.counted.departs == 0 {
+            return false;
+        }
         self.tallies.departs.of(member) != 0
+    }
+
+    /// Whether the client's member departed.
+    #[inline(always)]
+    pub(crate) fn is_home_gone(&self, client: u128) -> bool
+        ensures { result ≡ is_gone (home client (said self.now)) (said self.now) }
+    {
+        if self.counted.departs == 0 {
+            return false;
+        }
+        self.is_gone(self.home(client))
+    }
+
+    /// Whether the client has left and isn't back.
+    #[inline(always)]
+    pub(crate) fn is_away(&self, client: u128) -> bool
+        ensures { result ≡ is_away client (said self.now) }
+    {
+        self.attendance.is_away(client)
+    }
+
+    /// The moment of the client's last line of leaving or coming back, in seconds.
+    pub(crate) fn last_moment(&self, client: u128) -> u32
+        ensures { result ≡ last_moment client (said self.now) }
+    {
+        self.attendance.moment(client)
+    }
+
+    /// How many queries the client has open.
+    pub(crate) fn open_count(&self, client: u128) -> usize
+        ensures { result ≡ open_count client (said self.now) }
+    {
+        self.attendance.names(client).len()
+    }
+
+    /// How many steps on queries the lines stand for.
+    pub(crate) fn asks(&self) -> u128
+        ensures { result ≡ asks (said self.now) }
+    {
+        u128::from(self.counted.queries) + u128::from(self.returned)
     }
 
     pub(crate) fn counted(&self) -> Counted
@@ -282,7 +331,7 @@ impl<'a> Past<'a> {
             self.push_heading(alloc, saying, after)?;
             Ok(None)
         } else {
-            Ok(Some(self.push_behind(saying, after)))
+            Ok(Some(self.push_behind(alloc, saying, after)?))
         }
     }
 
@@ -299,53 +348,77 @@ impl<'a> Past<'a> {
     }
 
     // One line more behind the heading.
-    fn push_behind(&mut self, saying: Saying, after: &'a [u8]) -> Line
+    fn push_behind(
+        &mut self,
+        alloc: Global,
+        saying: Saying,
+        after: &'a [u8],
+    ) -> Result<Line, Memory>
         requires next { IsNext self.old (saying ∷ said self.old) after.now }
         requires late { 8 ≤ rank saying.kind }
-        ensures taken { self.new ≡ advanced self.old }
-        ensures line { lines_taken self.new ≡ result ∷ lines_taken self.old }
+        ensures taken { OnOk result (self.new ≡ advanced self.old) }
+        ensures line { IfOk result (λ line. lines_taken self.new ≡ line ∷ lines_taken self.old) }
     {
         let kind = saying.kind;
         let items = saying.items.as_slice();
         let (first, second) = (number(0, items), number(1, items));
         let seq = self.tallies.steps.of(first) + 1;
         let line = line_of(seq, saying).unwrap();
-        self.put(kind, first, second, after);
-        line
+        self.put(alloc, kind, first, second, &line, after)?;
+        Ok(line)
     }
 
     /// Takes in the next line, which is a call or a peek, and hands it out.
-    pub(crate) fn push_step(&mut self, step: PlainStep, after: &'a [u8]) -> Line
+    pub(crate) fn push_step(
+        &mut self,
+        alloc: Global,
+        step: PlainStep,
+        after: &'a [u8],
+    ) -> Result<Line, Memory>
         requires next { IsNext self.old (act_saying step.client step.act ∷ said self.old) after.now }
         requires kind { (act_saying step.client step.act).kind ≡ step.kind }
         requires plain { IsPlain step.act }
-        ensures taken { self.new ≡ advanced self.old }
-        ensures line { lines_taken self.new ≡ result ∷ lines_taken self.old }
+        ensures taken { OnOk result (self.new ≡ advanced self.old) }
+        ensures line { IfOk result (λ line. lines_taken self.new ≡ line ∷ lines_taken self.old) }
     {
         let PlainStep { kind, client, act } = step;
         let first = u128::from(client);
         let seq = self.tallies.steps.of(first) + 1;
-        self.put(kind, first, 0, after);
-        Line::Step { client, seq, act }
+        let line = Line::Step { client, seq, act };
+        self.put(alloc, kind, first, 0, &line, after)?;
+        Ok(line)
     }
 
     // Takes in the next line, which has this kind and this number first, behind the heading. The second number
     // is that of the member that a joiner gets its image from.
     #[inline(always)]
-    fn put(&mut self, form: LineKind, first: u128, second: u128, after: &'a [u8])
+    fn put(
+        &mut self,
+        alloc: Global,
+        form: LineKind,
+        first: u128,
+        second: u128,
+        line: &Line,
+        after: &'a [u8],
+    ) -> Result<(), Memory>
         requires late { 8 ≤ rank form }
         requires narrow { first < 2 ^ 8 }
         requires joined { is_kind kind.Join form ≡ true → second < 2 ^ 8 }
         requires next { (saying : Saying) × (form ≡ saying.kind) × (first ≡ number_in 0 saying.items)
-            × (is_kind kind.Join saying.kind ≡ true → second ≡ number_in 1 saying.items) × IsNext self.old (saying ∷ said self.old) after.now }
-        ensures { self.new ≡ advanced self.old }
+            × (is_kind kind.Join saying.kind ≡ true → second ≡ number_in 1 saying.items)
+            × (line_said (said self.old) saying ≡ Some line.now) × IsNext self.old (saying ∷ said self.old) after.now }
+        ensures { OnOk result (self.new ≡ advanced self.old) }
     {
         let counted = counted_with(form, self.counted);
+        let returned = self.attendance.returned_on(line);
+        self.attendance.note(alloc, line)?;
         self.tallies.count_line(form, first, second);
         self.stage = LAST_RANK;
         self.counted = counted;
+        self.returned += returned;
         self.rest = after;
         self.count += 1;
+        Ok(())
     }
 
     // These with one line of the heading more.
@@ -372,6 +445,8 @@ impl<'a> Past<'a> {
             homes,
             tallies: self.tallies,
             counted,
+            attendance: self.attendance,
+            returned: self.returned,
         })
     }
 }

@@ -219,6 +219,17 @@ fn put_deliver(to: u8, client: u8, seq: u32, out: &mut Vec<u8>) -> Result<(), Me
     Ok(())
 }
 
+// A line on which a client leaves or comes back.
+fn put_moment(client: u8, kind: LineKind, moment: u32, out: &mut Vec<u8>) -> Result<(), Memory>
+    ensures { OnOk result (out.new.items ≡ out.old.items
+        ++ (decimal client ++ (codes " " ++ (word kind ++ (codes " " ++ decimal moment))))) }
+{
+    put_number(u64::from(client), out)?;
+    put_field(kind.word(), out)?;
+    put_number_field(u64::from(moment), out)?;
+    Ok(())
+}
+
 fn put_unended(alloc: Global, line: &Line, out: &mut Vec<u8>) -> Result<(), Memory>
     ensures printed { OnOk result (out.new.items ≡ out.old.items ++ saying_text (saying_in line.now)) }
     ensures kept { OnOk result (IsLineKept line.now) }
@@ -241,6 +252,8 @@ fn put_unended(alloc: Global, line: &Line, out: &mut Vec<u8>) -> Result<(), Memo
             put_number_field(u64::from(*from), out)?;
         }
         Line::Depart { member } => put_other(LineKind::Depart, u64::from(*member), out)?,
+        Line::Leave { client, moment } => put_moment(*client, LineKind::Leave, *moment, out)?,
+        Line::Back { client, moment } => put_moment(*client, LineKind::Back, *moment, out)?,
     }
     Ok(())
 }

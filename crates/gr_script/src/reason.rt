@@ -34,6 +34,8 @@ pub enum Reason {
     Gone,
     /// The member that would depart gave a joiner its image.
     Provider,
+    /// A client that is away does something, one that is there comes back, or its moments fall.
+    Away,
 }
 
 impl Reason {
@@ -61,6 +63,7 @@ impl Reason {
             Reason::NotInRun => 18,
             Reason::Gone => 19,
             Reason::Provider => 20,
+            Reason::Away => 21,
         }
     }
 
@@ -88,6 +91,7 @@ impl Reason {
             Reason::NotInRun => "NotInRun",
             Reason::Gone => "Gone",
             Reason::Provider => "Provider",
+            Reason::Away => "Away",
         }
     }
 }

@@ -1,10 +1,11 @@
 ghost use Rattle.std.specs.Prelude.{◌≡◌, ◌<◌, ◌+◌, ◌==◌, ◌||◌, ◌∷◌, [], nat_lt, not};
 ghost use Rattle.std.specs.Bool.{OnTrue};
 ghost use Rattle.gr_script.specs.declared.forms.LineKind.TheVariants as kind;
-ghost use Rattle.gr_script.specs.Limits.{most_hears, most_sweeps};
+ghost use Rattle.gr_script.specs.Limits.{most_hears, most_queries, most_sweeps};
 ghost use Rattle.gr_script.specs.Past.{count_of, gifts, hears, home, number, reports, steps};
 ghost use Rattle.gr_script.specs.Halts.{Yields};
-ghost use Rattle.gr_script.specs.Refusals.{is_begun, lacks, is_missing, is_full, is_no_join, is_gone, is_replayed, query_tests, tests};
+ghost use Rattle.gr_script.specs.Refusals.{is_begun, lacks, is_missing, is_full, is_no_join, is_gone, is_away, is_replayed, tests};
+ghost use Rattle.gr_script.specs.Refusals.{asks, last_moment, open_count, query_tests, step_tests};
 ghost use Rattle.gr_script.specs.Refusals.{refusal, form_at, saying_at};
 ghost use Rattle.gr_script.specs.Taken.{said};
 
@@ -105,7 +106,21 @@ fn names_gone(past: &Past, place: usize, items: &[Item]) -> bool
 fn is_home_gone(past: &Past, items: &[Item]) -> bool
     ensures { result ≡ is_gone (home (number 0 items.now) (said past.now)) (said past.now) }
 {
-    past.is_gone(past.home(number(0, items)))
+    past.is_home_gone(number(0, items))
+}
+
+// Whether the client has left and isn't back.
+fn is_absent(past: &Past, items: &[Item]) -> bool
+    ensures { result ≡ is_away (number 0 items.now) (said past.now) }
+{
+    past.is_away(number(0, items))
+}
+
+// Whether the moment is before the client's last one.
+fn is_early(past: &Past, items: &[Item]) -> bool
+    ensures { result ≡ nat_lt (number 1 items.now) (last_moment (number 0 items.now) (said past.now)) }
+{
+    number(1, items) < u128::from(past.last_moment(number(0, items)))
 }
 
 // Whether the step that is delivered is one of the member's own.
@@ -211,10 +226,50 @@ fn departure_refusal(past: &Past, items: &[Item]) -> Option<Reason>
     )
 }
 
+fn step_refusal(past: &Past, items: &[Item]) -> Option<Reason>
+    ensures { result ≡ refusal (step_tests (said past.now) items.now) }
+{
+    let gone = is_home_gone(past, items);
+    reason_of(gone, Reason::Gone, is_absent(past, items), Reason::Away)
+}
+
 fn query_refusal(past: &Past, items: &[Item], full: bool) -> Option<Reason>
     ensures { result ≡ refusal (query_tests (said past.now) full items.now) }
 {
-    reason_of(is_home_gone(past, items), Reason::Gone, full, Reason::Count)
+    if is_home_gone(past, items) {
+        Some(Reason::Gone)
+    } else {
+        reason_of(is_absent(past, items), Reason::Away, full, Reason::Count)
+    }
+}
+
+fn leaving_refusal(past: &Past, items: &[Item]) -> Option<Reason>
+    ensures { result ≡ refusal (tests (said past.now) kind.Leave items.now) }
+{
+    let away = is_absent(past, items) || is_early(past, items);
+    reason_of(is_home_gone(past, items), Reason::Gone, away, Reason::Away)
+}
+
+// Whether there are no more steps on queries for all that the client has open.
+fn is_asked_out(past: &Past, items: &[Item]) -> bool
+    ensures { result ≡ nat_lt most_queries (asks (said past.now) + open_count (number 0 items.now) (said past.now)) }
+{
+    let open = past.open_count(number(0, items)) as u128;
+    match u128::from(MOST_QUERIES).checked_sub(past.asks()) {
+        Some(left) => left < open,
+        None => true,
+    }
+}
+
+fn returning_refusal(past: &Past, items: &[Item]) -> Option<Reason>
+    ensures { result ≡ refusal (tests (said past.now) kind.Back items.now) }
+{
+    if is_home_gone(past, items) {
+        Some(Reason::Gone)
+    } else {
+        let here = !is_absent(past, items) || is_early(past, items);
+        reason_of(here, Reason::Away, is_asked_out(past, items), Reason::Count)
+    }
 }
 
 // The reason against a line with good fields.
@@ -222,7 +277,7 @@ fn refusal(past: &Past, form: LineKind, items: &[Item]) -> Option<Reason>
     ensures { result ≡ refusal (tests (said past.now) form items.now) }
 {
     let counted = past.counted();
-    let asked = is_full(MOST_QUERIES, counted.queries);
+    let asked = u128::from(MOST_QUERIES) <= past.asks();
     match form {
         LineKind::Members => reason_where(number(0, items) < number(1, items), Reason::Range),
         LineKind::Client => {
@@ -243,6 +298,8 @@ fn refusal(past: &Past, form: LineKind, items: &[Item]) -> Option<Reason>
         }
         LineKind::Sweep => sweep_refusal(past, items),
         LineKind::Depart => departure_refusal(past, items),
+        LineKind::Leave => leaving_refusal(past, items),
+        LineKind::Back => returning_refusal(past, items),
         LineKind::Open => {
             query_refusal(past, items, is_full(MOST_OPENS, counted.opens) || asked)
         }
@@ -253,7 +310,7 @@ fn refusal(past: &Past, form: LineKind, items: &[Item]) -> Option<Reason>
         | LineKind::Inbox
         | LineKind::Trouble
         | LineKind::Floor => None,
-        _ => reason_where(is_home_gone(past, items), Reason::Gone),
+        _ => step_refusal(past, items),
     }
 }
 

@@ -105,6 +105,14 @@ fn other_said(kind: LineKind, items: &[Item]) -> Option<Line>
         LineKind::Depart => Some(Line::Depart {
             member: number(0, items) as u8,
         }),
+        LineKind::Leave => Some(Line::Leave {
+            client: number(0, items) as u8,
+            moment: number(1, items) as u32,
+        }),
+        LineKind::Back => Some(Line::Back {
+            client: number(0, items) as u8,
+            moment: number(1, items) as u32,
+        }),
         _ => None,
     }
 }

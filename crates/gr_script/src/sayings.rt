@@ -3,7 +3,7 @@ ghost use Rattle.std.specs.Bool.{OnTrue};
 ghost use Rattle.std.specs.List.{cons_option};
 ghost use Rattle.gr_script.specs.Halts.{Yields};
 ghost use Rattle.gr_script.specs.Past.{home, setting};
-ghost use Rattle.gr_script.specs.Refusals.{is_gone, past_with};
+ghost use Rattle.gr_script.specs.Refusals.{is_away, is_gone, past_with};
 ghost use Rattle.gr_script.specs.Sayings.{Gives, ended, end_of};
 ghost use Rattle.gr_script.specs.Suiting.{IsClient};
 ghost use Rattle.gr_script.specs.Taken.{IsStep, advanced, ahead, lines_taken, said};
@@ -24,12 +24,14 @@ use std::alloc::Global;
 /// How many lines the heading cannot lack.
 const REQUIRED_LINES: u8 = 4;
 
-// Whether a line has stated the client, and its member hasn't departed.
+// Whether a line has stated the client, it is there, and its member hasn't departed.
 fn serves(past: &Past, client: u8) -> bool
     ensures stated { OnTrue result (IsClient (setting (said past.now)) client) }
     ensures staying { OnTrue result (is_gone (home client (said past.now)) (said past.now) ≡ false) }
+    ensures here { OnTrue result (is_away client (said past.now) ≡ false) }
 {
-    is_stated(past.setting(), client) && !past.is_gone(past.home(u128::from(client)))
+    let number = u128::from(client);
+    is_stated(past.setting(), client) && !past.is_home_gone(number) && !past.is_away(number)
 }
 
 // Takes in the next line, where it is printed for a client's call or peek, and hands it out.
@@ -46,7 +48,9 @@ fn take_step<'a>(
         return Ok(None);
     }
     match step_in(alloc, next.line)? {
-        Some(step) if serves(past, step.client) => Ok(Some(past.push_step(step, next.after))),
+        Some(step) if serves(past, step.client) => {
+            Ok(Some(past.push_step(alloc, step, next.after)?))
+        }
         _ => Ok(None),
     }
 }

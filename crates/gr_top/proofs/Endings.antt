@@ -29,8 +29,8 @@ script_line cause fault line number name is at of called =
 -- Where no record is kept, that is right wherever a script is read.
 pub keeps_none : (request : Request) (source : Stream) → Reads request → Keeps request source None
 keeps_none (Alone Check) source reads = refl
-keeps_none (Alone (Replay histories)) source reads = tt
-keeps_none (Run histories) source reads = tt
+keeps_none (Alone (Replay detail)) source reads = tt
+keeps_none (Run detail) source reads = tt
 keeps_none (Drill start steps) source reads = absurd reads
 
 -- A text that was written, or a part of it, explains how writing ended.

@@ -2,4 +2,5 @@ pub mod Arguments
 pub mod Causes
 pub mod CauseTexts
 pub mod Outcomes
+pub mod ReportTexts
 pub mod Words

@@ -4,7 +4,6 @@ use Rattle.std.specs.Io.KnownBytes.{Appends, Consumes}
 use Rattle.gr_history.specs.declared.record.Record.{Record}
 use Rattle.gr_io.specs.Ends.{AppendsPart}
 use Rattle.gr_io.specs.Streams.{Stream, IsUntouched, Counted, IsAllOf, TookAtMost, IsPut}
-use Rattle.gr_report.specs.Report.{record_text}
 use Rattle.gr_report.specs.Same.{are_equal}
 use Rattle.gr_report.specs.Summary.{summary_of}
 use Rattle.gr_run_law.specs.Records.{IsRecordOfRun}
@@ -13,6 +12,7 @@ use Rattle.gr_script.specs.declared.ending.ScriptFault.{ScriptFault}
 use Rattle.gr_script.specs.declared.script.Script.{Script as TheScript}
 use Rattle.gr_script.specs.Cuts.{line_count}
 use Rattle.gr_script.specs.Drill.{IsDrill}
+use Rattle.gr_script.specs.Expanded.{expansion}
 use Rattle.gr_script.specs.Printed.{script_text}
 use Rattle.gr_script.specs.Said.{script_of}
 use Rattle.gr_script.specs.Scripts.{heading_of}
@@ -21,9 +21,11 @@ use Rattle.gr_top.specs.declared.cause.Cause.{Cause}
 use Rattle.gr_top.specs.declared.cause.Cause.TheVariants.{Finished, Usage, ReadFault, TooLarge, Script, WriteFault, Memory}
 use Rattle.gr_top.specs.Causes.{status_of}
 use Rattle.gr_top.specs.CauseTexts.{text_of_cause}
+use Rattle.gr_top.specs.declared.words.Detail.{Detail}
 use Rattle.gr_top.specs.declared.words.Mode.TheVariants.{Check, Replay}
 use Rattle.gr_top.specs.declared.words.Request.{Request}
 use Rattle.gr_top.specs.declared.words.Request.TheVariants.{Alone, Run, Drill}
+use Rattle.gr_top.specs.ReportTexts.{report_text}
 use Rattle.gr_top.specs.Words.{request_of}
 use Rattle.gr_top.specs.Arguments.{AreWords}
 
@@ -38,13 +40,13 @@ IsWhole source text = IsAllOf most_bytes source text
 -- A script is read, but for a drill, whose script is drawn.
 abbrev pub Reads : Request → Type 0
 Reads (Alone mode) = Unit {0}
-Reads (Run histories) = Unit {0}
+Reads (Run detail) = Unit {0}
 Reads (Drill start steps) = ⊥
 
 -- whether the script is to be run by threads, so that no line says what comes of itself
 abbrev pub runs : Request → Bool
 runs (Alone mode) = false
-runs (Run histories) = true
+runs (Run detail) = true
 runs (Drill start steps) = true
 
 -- The text is all that the source had, and this script, in the form of runs or not.
@@ -52,19 +54,20 @@ pub record IsGiven (runs : Bool) (source : Stream) (text : List ℕ) (script : T
   pub whole : IsWhole source text
   pub read : script_of runs text ≡ Ok (heading_of script, script.lines)
 
--- The record is that of the script which the source had. Its histories keep the laws of records, and its clients
+-- The record is that of the script which the source had, expanded. Its histories keep the laws of records, and its clients
 -- were served step by step.
 pub record IsReplayOf (source : Stream) (record_of : Record) : Type 0 where
   pub text : List ℕ
   pub whole : IsWhole source text
   pub played : IsPlayed text record_of
 
--- The record is what threads left of the script which the source had, in whatever order they and their mail went.
+-- The record is what threads left of the script which the source had, expanded, in whatever order they and their mail
+-- went.
 pub record IsRunOf (source : Stream) (record_of : Record) : Type 0 where
   pub text : List ℕ
   pub script : TheScript
   pub given : IsGiven true source text script
-  pub left : IsRecordOfRun (heading_of script) script.lines record_of
+  pub left : IsRecordOfRun (heading_of script) (expansion script.lines) record_of
 
 -- The record is what threads left of the script of so many steps that is drawn from the number. All members have the
 -- same rows.
@@ -101,8 +104,8 @@ IsWithinMost source = TookAtMost most_bytes source
 -- the record that is kept, if one is: none by a check. A drill reads nothing.
 abbrev pub Keeps : Request → Stream → Option Record → Type 0
 Keeps (Alone Check) source kept = kept ≡ None
-Keeps (Alone (Replay histories)) source kept = IfSome kept (IsReplayOf source)
-Keeps (Run histories) source kept = IfSome kept (IsRunOf source)
+Keeps (Alone (Replay detail)) source kept = IfSome kept (IsReplayOf source)
+Keeps (Run detail) source kept = IfSome kept (IsRunOf source)
 Keeps (Drill start steps) source kept =
     IsUntouched source × IfSome kept (λ record_of. (script : TheScript) × IsDrillOf start steps script record_of)
 
@@ -116,19 +119,19 @@ pub record IsPrinted (source : Stream) (printed : List ℕ) : Type 0 where
 -- What is printed: the script, the text of the record, or its summary.
 abbrev pub Prints : Request → Stream → Option Record → List ℕ → Type 0
 Prints (Alone Check) source kept text = (kept ≡ None) × IsPrinted source text
-Prints (Alone (Replay histories)) source kept text =
-    IsSomeAnd kept (λ record_of. IsReplayOf source record_of × (text ≡ record_text histories record_of))
-Prints (Run histories) source kept text =
-    IsSomeAnd kept (λ record_of. IsRunOf source record_of × (text ≡ record_text histories record_of))
+Prints (Alone (Replay detail)) source kept text =
+    IsSomeAnd kept (λ record_of. IsReplayOf source record_of × (text ≡ report_text detail record_of))
+Prints (Run detail) source kept text =
+    IsSomeAnd kept (λ record_of. IsRunOf source record_of × (text ≡ report_text detail record_of))
 Prints (Drill start steps) source kept text =
     IsUntouched source × IsSomeAnd kept (λ record_of.
     (script : TheScript) × IsDrillOf start steps script record_of × (text ≡ summary_of start steps script record_of))
 
 -- The record may be kept, and its text printed.
-pub record Leaves (request : Request) (source : Stream) (histories : Bool) (record_of : Record) : Type 0 where
+pub record Leaves (request : Request) (source : Stream) (detail : Detail) (record_of : Record) : Type 0 where
   pub within : IsWithinMost source
   pub keeps : Keeps request source (Some record_of)
-  pub prints : Prints request source (Some record_of) (record_text histories record_of)
+  pub prints : Prints request source (Some record_of) (report_text detail record_of)
 
 -- what each cause says of the source, the sink and the record that was kept
 abbrev pub Explains : Request → Stream → Stream → Option Record → Cause → Type 0

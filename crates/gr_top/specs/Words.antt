@@ -1,8 +1,10 @@
 -- The words that the program is given.
-use Rattle.std.specs.Prelude.{ℕ, List, [], ◌∷◌, true, false, codes, bytes_eq, nat_le, ◌&&◌, if◌then◌else◌}
+use Rattle.std.specs.Prelude.{ℕ, List, [], ◌∷◌, codes, bytes_eq, nat_le, ◌&&◌, if◌then◌else◌}
 use Rattle.std.specs.Prelude.{Option, Some, None, Result, Ok, Err}
 use Rattle.gr_script.specs.Numerals.{number_of}
 use Rattle.gr_script.specs.Rules.{IsWithin}
+use Rattle.gr_top.specs.declared.words.Detail.{Detail}
+use Rattle.gr_top.specs.declared.words.Detail.TheVariants.{Plain, Histories, Tables}
 use Rattle.gr_top.specs.declared.words.Mode.{Mode}
 use Rattle.gr_top.specs.declared.words.Mode.TheVariants.{Check, Replay}
 use Rattle.gr_top.specs.declared.words.Request.{Request}
@@ -13,27 +15,35 @@ abbrev pub alone : {X : Type 0} → ℕ → X → List (List ℕ) → Result X �
 alone place asked [] = Ok asked
 alone place asked (word ∷ words) = Err place
 
--- The words behind a mode that prints a report: none, or that the histories are told too.
-abbrev pub behind_report : {X : Type 0} → X → X → List (List ℕ) → Result X ℕ
-behind_report plain told [] = Ok plain
-behind_report plain told (word ∷ words) = if bytes_eq word (codes "--history") then alone 2 told words else Err 1
+-- The words behind a mode that prints a report: none, or one flag, for what is told besides.
+abbrev pub behind_report : List (List ℕ) → Result Detail ℕ
+behind_report [] = Ok Plain
+behind_report (word ∷ words) =
+    if bytes_eq word (codes "--history") then alone 2 Histories words
+    else (if bytes_eq word (codes "--tables") then alone 2 Tables words else Err 1)
 
 -- ---- without threads
 
--- the words behind `--history`
-abbrev pub behind_history : List (List ℕ) → Result Mode ℕ
-behind_history [] = Err 1
-behind_history (word ∷ words) = if bytes_eq word (codes "replay") then alone 2 (Replay true) words else Err 1
+abbrev pub asked_replay : Result Detail ℕ → Result Mode ℕ
+asked_replay (Ok detail) = Ok (Replay detail)
+asked_replay (Err place) = Err place
 
--- The words are `check`, or `replay` with or without `--history` before or behind it. Else the place is that of the
--- first word with which they cease to begin one of these lists, or their number where they only end too early.
+-- the words behind a flag
+abbrev pub behind_flag : Detail → List (List ℕ) → Result Mode ℕ
+behind_flag detail [] = Err 1
+behind_flag detail (word ∷ words) = if bytes_eq word (codes "replay") then alone 2 (Replay detail) words else Err 1
+
+-- The words are `check`, or `replay` with or without one of the flags `--history` and `--tables` before or behind it. Else
+-- the place is that of the first word with which they cease to begin one of these lists, or their number where they only
+-- end too early.
 abbrev pub mode_of : List (List ℕ) → Result Mode ℕ
 mode_of [] = Err 0
 mode_of (word ∷ words) =
     if bytes_eq word (codes "check") then alone 1 Check words
-    else (if bytes_eq word (codes "replay") then behind_report (Replay false) (Replay true) words
-    else (if bytes_eq word (codes "--history") then behind_history words
-    else Err 0))
+    else (if bytes_eq word (codes "replay") then asked_replay (behind_report words)
+    else (if bytes_eq word (codes "--history") then behind_flag Histories words
+    else (if bytes_eq word (codes "--tables") then behind_flag Tables words
+    else Err 0)))
 
 abbrev pub asked_alone : Result Mode ℕ → Result Request ℕ
 asked_alone (Ok mode) = Ok (Alone mode)
@@ -63,24 +73,29 @@ abbrev pub behind_drill : List (List ℕ) → Result Request ℕ
 behind_drill [] = Err 1
 behind_drill (word ∷ words) = behind_start (number_in 2147483646 word) words
 
--- the words behind `--history`
-abbrev pub told_behind : List (List ℕ) → Result Request ℕ
-told_behind [] = Err 1
-told_behind (word ∷ words) =
-    if bytes_eq word (codes "run") then alone 2 (Run true) words else asked_alone (behind_history (word ∷ words))
+abbrev pub asked_run : Result Detail ℕ → Result Request ℕ
+asked_run (Ok detail) = Ok (Run detail)
+asked_run (Err place) = Err place
 
--- The words are those of a mode without threads, or `run` with or without `--history` before or behind it, or `drill`
+-- the words behind a flag
+abbrev pub told_behind : Detail → List (List ℕ) → Result Request ℕ
+told_behind detail [] = Err 1
+told_behind detail (word ∷ words) =
+    if bytes_eq word (codes "run") then alone 2 (Run detail) words else asked_alone (behind_flag detail (word ∷ words))
+
+-- The words are those of a mode without threads, or `run` with or without one of the flags before or behind it, or `drill`
 -- with two numbers. Else the place is as there.
 abbrev pub request_of : List (List ℕ) → Result Request ℕ
 request_of [] = Err 0
 request_of (word ∷ words) =
-    if bytes_eq word (codes "run") then behind_report (Run false) (Run true) words
+    if bytes_eq word (codes "run") then asked_run (behind_report words)
     else (if bytes_eq word (codes "drill") then behind_drill words
-    else (if bytes_eq word (codes "--history") then told_behind words
-    else asked_alone (mode_of (word ∷ words))))
+    else (if bytes_eq word (codes "--history") then told_behind Histories words
+    else (if bytes_eq word (codes "--tables") then told_behind Tables words
+    else asked_alone (mode_of (word ∷ words)))))
 
 -- The numbers of a drill are within their limits.
 abbrev pub IsFit : Request → Type 0
 IsFit (Alone mode) = Unit {0}
-IsFit (Run histories) = Unit {0}
+IsFit (Run detail) = Unit {0}
 IsFit (Drill start steps) = IsWithin 1 2147483646 start × IsWithin 1 50000 steps

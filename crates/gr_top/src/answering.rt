@@ -1,14 +1,15 @@
-ghost use Rattle.std.specs.Prelude.{◌≡◌, map, string_bytes, None, MatchResult, Bool};
+ghost use Rattle.std.specs.Prelude.{◌≡◌, map, string_bytes, None, MatchResult};
 ghost use Rattle.gr_top.specs.Causes.{status_of};
 ghost use Rattle.gr_top.specs.Outcomes.{Answers, Explains, Leaves, Stops};
 ghost use Rattle.gr_top.specs.Words.{asked_alone, mode_of};
+ghost use Rattle.gr_top.specs.declared.words.Detail.{Detail as TheDetail};
 ghost use Rattle.gr_top.specs.declared.words.Mode.TheVariants as mode;
 ghost use Rattle.gr_top.specs.declared.words.Request.TheVariants as request;
 ghost use Rattle.gr_io.specs.Streams.{stream};
 
 use crate::giving::{cause_of, script_from, text_from};
 use crate::handing::{Played, ended, hand_out, report_outcome};
-use crate::words::{Mode, mode_of};
+use crate::words::{Detail, Mode, mode_of};
 use crate::{Cause, Outcome};
 use gr_depart::play_text;
 use gr_io::{Sink, Source};
@@ -34,9 +35,9 @@ fn check<S: Source, K: Sink>(alloc: Global, source: &mut S, sink: &mut K) -> Cau
 
 // The record of the script that the source has, and the memory of its text.
 fn replay_record<S: Source>(alloc: Global, source: &mut S) -> Result<Played, Cause>
-    ensures { (histories : Bool) → MatchResult result
-        (λ played. Leaves (request.Alone (mode.Replay histories)) (stream (S.left source.old) (S.left source.new) (S.faults source.old) (S.faults source.new)) histories played.record_of)
-        (Stops (request.Alone (mode.Replay histories)) (stream (S.left source.old) (S.left source.new) (S.faults source.old) (S.faults source.new))) }
+    ensures { (detail : TheDetail) → MatchResult result
+        (λ played. Leaves (request.Alone (mode.Replay detail)) (stream (S.left source.old) (S.left source.new) (S.faults source.old) (S.faults source.new)) detail played.record_of)
+        (Stops (request.Alone (mode.Replay detail)) (stream (S.left source.old) (S.left source.new) (S.faults source.old) (S.faults source.new))) }
 {
     let text = text_from(alloc, source)?;
     let bytes = text.as_slice();
@@ -52,17 +53,17 @@ fn replay_record<S: Source>(alloc: Global, source: &mut S) -> Result<Played, Cau
 // Replays the script that the source has, and prints the report.
 fn replay_answer<S: Source, K: Sink>(
     alloc: Global,
-    histories: bool,
+    detail: Detail,
     source: &mut S,
     sink: &mut K,
 ) -> Outcome
     ensures status { result.status ≡ status_of result.cause }
-    ensures explained { Explains (request.Alone (mode.Replay histories))
+    ensures explained { Explains (request.Alone (mode.Replay detail))
         (stream (S.left source.old) (S.left source.new) (S.faults source.old) (S.faults source.new))
         (stream (K.held sink.old) (K.held sink.new) (K.faults sink.old) (K.faults sink.new)) result.kept result.cause }
 {
     let played = replay_record(alloc, source);
-    report_outcome(alloc, histories, played, sink)
+    report_outcome(alloc, detail, played, sink)
 }
 
 /// Answers a mode that needs no threads.
@@ -79,7 +80,7 @@ pub(crate) fn answer_alone<S: Source, K: Sink>(
 {
     match mode {
         Mode::Check => ended(check(alloc, source, sink), None),
-        Mode::Replay { histories } => replay_answer(alloc, histories, source, sink),
+        Mode::Replay { detail } => replay_answer(alloc, detail, source, sink),
     }
 }
 

@@ -5,10 +5,12 @@ ghost use Rattle.gr_top.specs.Outcomes.{Explains, IsWithinMost, IsWritten, Keeps
 ghost use Rattle.gr_top.specs.declared.words.Request.{Request as TheRequest};
 ghost use Rattle.gr_io.specs.Streams.{stream, Stream};
 
+use crate::report_texts::report_text;
+use crate::words::Detail;
 use crate::{Cause, Outcome};
 use gr_history::Record;
 use gr_io::{Sink, write_all};
-use gr_report::{report_in, summary};
+use gr_report::summary;
 use gr_script::Script;
 use gr_value::Memory;
 use std::alloc::Global;
@@ -28,15 +30,15 @@ pub(crate) fn hand_out<K: Sink>(sink: &mut K, text: &[u8]) -> Cause
 fn hand_out_report<K: Sink>(
     alloc: Global,
     room: Vec<u8>,
-    histories: bool,
+    detail: Detail,
     record_of: &Record,
     sink: &mut K,
 ) -> Cause
-    ensures { (request : TheRequest) (source : Stream) → Leaves request source histories record_of.now
+    ensures { (request : TheRequest) (source : Stream) → Leaves request source detail record_of.now
         → Explains request source
         (stream (K.held sink.old) (K.held sink.new) (K.faults sink.old) (K.faults sink.new)) (Some record_of.now) result }
 {
-    match report_in(alloc, room, record_of, histories) {
+    match report_text(alloc, room, detail, record_of) {
         Ok(text) => hand_out(sink, text.as_slice()),
         Err(Memory) => Cause::Memory,
     }
@@ -52,20 +54,20 @@ pub(crate) struct Played {
 /// Prints the report of what was played, or tells why nothing was.
 pub(crate) fn report_outcome<K: Sink>(
     alloc: Global,
-    histories: bool,
+    detail: Detail,
     played: Result<Played, Cause>,
     sink: &mut K,
 ) -> Outcome
     ensures status { result.status ≡ status_of result.cause }
     ensures explained { (request : TheRequest) (source : Stream)
-        → MatchResult played (λ one. Leaves request source histories one.record_of) (Stops request source)
+        → MatchResult played (λ one. Leaves request source detail one.record_of) (Stops request source)
         → Explains request source
         (stream (K.held sink.old) (K.held sink.new) (K.faults sink.old) (K.faults sink.new)) result.kept result.cause }
 {
     match played {
         Err(cause) => ended(cause, None),
         Ok(Played { record_of, room }) => {
-            let cause = hand_out_report(alloc, room, histories, &record_of, sink);
+            let cause = hand_out_report(alloc, room, detail, &record_of, sink);
             ended(cause, Some(record_of))
         }
     }

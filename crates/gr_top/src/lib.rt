@@ -8,6 +8,7 @@ mod cause_texts;
 mod concluding;
 mod giving;
 mod handing;
+mod report_texts;
 mod running;
 mod words;
 

@@ -1,15 +1,20 @@
-ghost use Rattle.std.specs.Prelude.{◌≡◌, map, string_bytes, IfOk, MatchResult, Bool};
+ghost use Rattle.std.specs.Prelude.{◌≡◌, map, string_bytes, IfOk, MatchResult};
+ghost use Rattle.gr_run_law.specs.Records.{IsRecordOfRun};
+ghost use Rattle.gr_script.specs.Expanded.{expansion};
+ghost use Rattle.gr_script.specs.Scripts.{heading_of};
 ghost use Rattle.gr_top.specs.Causes.{status_of};
 ghost use Rattle.gr_top.specs.Outcomes.{Answers, Explains, IsDrillOf, Leaves, Stops};
 ghost use Rattle.gr_top.specs.Words.{IsFit, request_of};
+ghost use Rattle.gr_top.specs.declared.words.Detail.{Detail as TheDetail};
 ghost use Rattle.gr_top.specs.declared.words.Request.TheVariants as request;
 ghost use Rattle.gr_io.specs.Streams.{IsUntouched, stream, Stream};
 
 use crate::answering::answer_alone;
 use crate::giving::script_from;
 use crate::handing::{Played, ended, hand_out_summary, report_outcome};
-use crate::words::{Request, request_of};
+use crate::words::{Detail, Request, request_of};
 use crate::{Cause, Outcome};
+use gr_durable::expand;
 use gr_history::Record;
 use gr_io::{Sink, Source};
 use gr_runner::run;
@@ -20,6 +25,19 @@ use std::alloc::Global;
 use std::sync::Wait;
 use std::thread::Threads;
 
+// What threads leave of a script once it is expanded.
+fn run_expanded<R: Threads + Wait + Sync, G: Gate>(
+    rt: &R,
+    alloc: Global,
+    script: &Script,
+    gate: &G,
+) -> Result<Record, Memory>
+    ensures { IfOk result (IsRecordOfRun (heading_of script.now) (expansion script.now.lines)) }
+{
+    let expanded = expand(alloc, script)?;
+    run(rt, alloc, &expanded, gate)
+}
+
 // What threads leave of the script that the source has.
 fn run_record<R: Threads + Wait + Sync, S: Source, G: Gate>(
     rt: &R,
@@ -27,15 +45,15 @@ fn run_record<R: Threads + Wait + Sync, S: Source, G: Gate>(
     source: &mut S,
     gate: &G,
 ) -> Result<Played, Cause>
-    ensures { (histories : Bool) → MatchResult result
-        (λ played. Leaves (request.Run histories) (stream (S.left source.old) (S.left source.new) (S.faults source.old) (S.faults source.new)) histories played.record_of)
-        (Stops (request.Run histories) (stream (S.left source.old) (S.left source.new) (S.faults source.old) (S.faults source.new))) }
+    ensures { (detail : TheDetail) → MatchResult result
+        (λ played. Leaves (request.Run detail) (stream (S.left source.old) (S.left source.new) (S.faults source.old) (S.faults source.new)) detail played.record_of)
+        (Stops (request.Run detail) (stream (S.left source.old) (S.left source.new) (S.faults source.old) (S.faults source.new))) }
 {
     let script = match script_from(alloc, source, Form::Run) {
         Ok(script) => script,
         Err(cause) => return Err(cause),
     };
-    match run(rt, alloc, &script, gate) {
+    match run_expanded(rt, alloc, &script, gate) {
         Ok(record_of) => Ok(Played {
             record_of,
             room: Vec::new(alloc),
@@ -48,18 +66,18 @@ fn run_record<R: Threads + Wait + Sync, S: Source, G: Gate>(
 fn run_answer<R: Threads + Wait + Sync, S: Source, K: Sink, G: Gate>(
     rt: &R,
     alloc: Global,
-    histories: bool,
+    detail: Detail,
     source: &mut S,
     sink: &mut K,
     gate: &G,
 ) -> Outcome
     ensures status { result.status ≡ status_of result.cause }
-    ensures explained { Explains (request.Run histories)
+    ensures explained { Explains (request.Run detail)
         (stream (S.left source.old) (S.left source.new) (S.faults source.old) (S.faults source.new))
         (stream (K.held sink.old) (K.held sink.new) (K.faults sink.old) (K.faults sink.new)) result.kept result.cause }
 {
     let played = run_record(rt, alloc, source, gate);
-    report_outcome(alloc, histories, played, sink)
+    report_outcome(alloc, detail, played, sink)
 }
 
 // A drill that was run: its script, and what threads left of it.
@@ -130,7 +148,7 @@ pub fn georep<R: Threads + Wait + Sync, S: Source, K: Sink, G: Gate>(
     match request_of(words) {
         Err(place) => ended(Cause::Usage(place), None),
         Ok(Request::Alone(mode)) => answer_alone(alloc, mode, source, sink),
-        Ok(Request::Run { histories }) => run_answer(rt, alloc, histories, source, sink, gate),
+        Ok(Request::Run { detail }) => run_answer(rt, alloc, detail, source, sink, gate),
         Ok(Request::Drill { start, steps }) => drill_answer(rt, alloc, start, steps, sink, gate),
     }
 }

@@ -1,8 +1,19 @@
 ghost use Rattle.std.specs.Prelude.{◌≡◌, map, string_bytes, IfOk};
-ghost use Rattle.gr_top.specs.Words.{alone, asked_alone, behind_drill, behind_history, behind_report, behind_start, IsFit};
-ghost use Rattle.gr_top.specs.Words.{mode_of, number_in, request_of, told_behind};
+ghost use Rattle.gr_top.specs.Words.{alone, asked_alone, asked_replay, asked_run, behind_drill, behind_flag, behind_report};
+ghost use Rattle.gr_top.specs.Words.{behind_start, IsFit, mode_of, number_in, request_of, told_behind};
 
 use gr_script::number_of;
+
+/// What a report tells besides what clients were told and what stands at the members.
+#[derive(Clone, Copy)]
+pub(crate) enum Detail {
+    /// Nothing more.
+    Plain,
+    /// All that happened at each shard.
+    Histories,
+    /// What clients hold of their queries.
+    Tables,
+}
 
 /// What needs no threads.
 #[derive(Clone, Copy)]
@@ -10,7 +21,7 @@ pub(crate) enum Mode {
     /// Prints the script.
     Check,
     /// Replays the script and prints the report.
-    Replay { histories: bool },
+    Replay { detail: Detail },
 }
 
 /// What the words ask for.
@@ -18,7 +29,7 @@ pub(crate) enum Mode {
 pub(crate) enum Request {
     Alone(Mode),
     /// Runs the script and prints the report.
-    Run { histories: bool },
+    Run { detail: Detail },
     /// Draws a script of so many steps, runs it and prints the summary.
     Drill { start: u32, steps: u32 },
 }
@@ -39,23 +50,33 @@ fn alone<X: Copy>(place: u32, asked: X, words: &[String]) -> Result<X, u32>
     }
 }
 
-fn behind_report<X: Copy>(plain: X, told: X, words: &[String]) -> Result<X, u32>
-    ensures { result ≡ behind_report plain told (map (λ word. string_bytes word) words.now) }
+fn behind_report(words: &[String]) -> Result<Detail, u32>
+    ensures { result ≡ behind_report (map (λ word. string_bytes word) words.now) }
 {
-    match words {
-        [] => Ok(plain),
-        [word, rest @ ..] if word.as_str() == "--history" => alone(2, told, rest),
+    let [word, rest @ ..] = words else {
+        return Ok(Detail::Plain);
+    };
+    match word.as_str() {
+        "--history" => alone(2, Detail::Histories, rest),
+        "--tables" => alone(2, Detail::Tables, rest),
         _ => Err(1),
     }
 }
 
-fn behind_history(words: &[String]) -> Result<Mode, u32>
-    ensures { result ≡ behind_history (map (λ word. string_bytes word) words.now) }
+fn asked_replay(detail: Result<Detail, u32>) -> Result<Mode, u32>
+    ensures { result ≡ asked_replay detail }
+{
+    match detail {
+        Ok(detail) => Ok(Mode::Replay { detail }),
+        Err(place) => Err(place),
+    }
+}
+
+fn behind_flag(detail: Detail, words: &[String]) -> Result<Mode, u32>
+    ensures { result ≡ behind_flag detail (map (λ word. string_bytes word) words.now) }
 {
     match words {
-        [word, rest @ ..] if word.as_str() == "replay" => {
-            alone(2, Mode::Replay { histories: true }, rest)
-        }
+        [word, rest @ ..] if word.as_str() == "replay" => alone(2, Mode::Replay { detail }, rest),
         _ => Err(1),
     }
 }
@@ -69,12 +90,9 @@ pub(crate) fn mode_of(words: &[String]) -> Result<Mode, u32>
     };
     match word.as_str() {
         "check" => alone(1, Mode::Check, rest),
-        "replay" => behind_report(
-            Mode::Replay { histories: false },
-            Mode::Replay { histories: true },
-            rest,
-        ),
-        "--history" => behind_history(rest),
+        "replay" => asked_replay(behind_report(rest)),
+        "--history" => behind_flag(Detail::Histories, rest),
+        "--tables" => behind_flag(Detail::Tables, rest),
         _ => Err(0),
     }
 }
@@ -121,14 +139,21 @@ fn behind_drill(words: &[String]) -> Result<Request, u32>
     }
 }
 
-fn told_behind(words: &[String]) -> Result<Request, u32>
-    ensures { result ≡ told_behind (map (λ word. string_bytes word) words.now) }
+fn asked_run(detail: Result<Detail, u32>) -> Result<Request, u32>
+    ensures { result ≡ asked_run detail }
+{
+    match detail {
+        Ok(detail) => Ok(Request::Run { detail }),
+        Err(place) => Err(place),
+    }
+}
+
+fn told_behind(detail: Detail, words: &[String]) -> Result<Request, u32>
+    ensures { result ≡ told_behind detail (map (λ word. string_bytes word) words.now) }
 {
     match words {
-        [word, rest @ ..] if word.as_str() == "run" => {
-            alone(2, Request::Run { histories: true }, rest)
-        }
-        _ => asked_alone(behind_history(words)),
+        [word, rest @ ..] if word.as_str() == "run" => alone(2, Request::Run { detail }, rest),
+        _ => asked_alone(behind_flag(detail, words)),
     }
 }
 
@@ -141,13 +166,10 @@ pub(crate) fn request_of(words: &[String]) -> Result<Request, u32>
         return Err(0);
     };
     match word.as_str() {
-        "run" => behind_report(
-            Request::Run { histories: false },
-            Request::Run { histories: true },
-            rest,
-        ),
+        "run" => asked_run(behind_report(rest)),
         "drill" => behind_drill(rest),
-        "--history" => told_behind(rest),
+        "--history" => told_behind(Detail::Histories, rest),
+        "--tables" => told_behind(Detail::Tables, rest),
         _ => asked_alone(mode_of(words)),
     }
 }

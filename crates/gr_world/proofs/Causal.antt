@@ -6,7 +6,7 @@ use Rattle.gr_value.specs.Shard.{shard_of}
 use Rattle.gr_history.specs.Asks.{key_of}
 use Rattle.gr_script.specs.declared.line.Act.TheVariants as act
 use Rattle.gr_script.specs.declared.line.Line.{Line}
-use Rattle.gr_script.specs.declared.line.Line.TheVariants.{Step, Deliver, Hear, Sweep, Join, Depart}
+use Rattle.gr_script.specs.declared.line.Line.TheVariants.{Step, Deliver, Hear, Sweep, Join, Depart, Leave, Back}
 use Rattle.gr_script.specs.declared.line.Line.TheVariants as line
 use Rattle.gr_script.specs.Rules.{Heading, IsHeading, IsMember, IsStated, IsWithin, AreWithin, home_of, StandsAfter, AllStand}
 use Rattle.gr_world.specs.Doings.{Calls, Reports, Sweeps, Asks}
@@ -64,6 +64,8 @@ line_causal heading (Depart member) past is stands h =
     each_keep (IsCausal heading (member ∷ departed past)) heading.shards (hands_over heading (member ∷ departed past) member)
     (λ shard less mid k. hands_over_causal heading (member ∷ departed past) member shard mid is.members.1 k) (course heading past)
     (causal_more heading member (departed past) (course heading past) h)
+line_causal heading (Leave client moment) past is stands h = h
+line_causal heading (Back client moment) past is stands h = h
 
 -- Each event is one that may come after those before it.
 pub course_causal : (heading : Heading) (past : List Line) → IsHeading heading → AllStand heading past

@@ -14,7 +14,7 @@ use Rattle.gr_history.specs.Asks.{key_of}
 use Rattle.gr_history.specs.Made.{made}
 use Rattle.gr_script.specs.declared.line.Act.TheVariants as act
 use Rattle.gr_script.specs.declared.line.Line.{Line}
-use Rattle.gr_script.specs.declared.line.Line.TheVariants.{Step, Deliver, Hear, Sweep, Join, Depart}
+use Rattle.gr_script.specs.declared.line.Line.TheVariants.{Step, Deliver, Hear, Sweep, Join, Depart, Leave, Back}
 use Rattle.gr_script.specs.declared.line.Line.TheVariants as line
 use Rattle.gr_script.specs.Rules.{Heading, home_of}
 use Rattle.gr_script.specs.Steps.{departed}
@@ -142,6 +142,8 @@ line_asks heading gone (Hear member of number) before i t = rest_asks heading go
 line_asks heading gone (Sweep member moment) before i t = rest_asks heading gone (Sweep member moment) before i t tt
 line_asks heading gone (Join joiner provider) before i t = rest_asks heading gone (Join joiner provider) before i t tt
 line_asks heading gone (Depart member) before i t = rest_asks heading gone (Depart member) before i t tt
+line_asks heading gone (Leave client moment) before i t = rest_asks heading gone (Leave client moment) before i t tt
+line_asks heading gone (Back client moment) before i t = rest_asks heading gone (Back client moment) before i t tt
 
 -- The steps of a history are just those that the lines ask there, each once and in order.
 pub calls_stand-holds : (heading : Heading) (past : List Line) (i t : ℕ)
@@ -196,6 +198,8 @@ line_tells heading gone (Hear member of number) before client = ap counted (rest
 line_tells heading gone (Sweep member moment) before client = ap counted (rest_tells heading gone (Sweep member moment) before client tt)
 line_tells heading gone (Join joiner provider) before client = ap counted (rest_tells heading gone (Join joiner provider) before client tt)
 line_tells heading gone (Depart member) before client = ap counted (rest_tells heading gone (Depart member) before client tt)
+line_tells heading gone (Leave who moment) before client = ap counted (rest_tells heading gone (Leave who moment) before client tt)
+line_tells heading gone (Back who moment) before client = ap counted (rest_tells heading gone (Back who moment) before client tt)
 
 -- A client has one answer for each step, in order.
 pub answers_stand-holds : (heading : Heading) (past : List Line) (client : ℕ)

@@ -14,7 +14,7 @@ use Rattle.gr_law.specs.Integrity.{IsSound, IsGift, giver_of, IsClosed, IsHeardO
 use Rattle.gr_law.proofs.Made.{older_trans, older_itself, older_ids, older_genuine}
 use Rattle.gr_law.proofs.Steps.{true_isnt_false}
 use Rattle.gr_script.specs.declared.line.Line.{Line}
-use Rattle.gr_script.specs.declared.line.Line.TheVariants.{Step, Deliver, Hear, Sweep, Join, Depart}
+use Rattle.gr_script.specs.declared.line.Line.TheVariants.{Step, Deliver, Hear, Sweep, Join, Depart, Leave, Back}
 use Rattle.gr_script.specs.declared.line.Line.TheVariants as line
 use Rattle.gr_script.specs.Rules.{Heading, IsMember}
 use Rattle.gr_script.specs.Steps.{departs, departed, is_gone}
@@ -234,6 +234,8 @@ is_depart (Hear by from number) of e = absurd (cc)
 is_depart (Sweep by moment) of e = absurd (cc)
 is_depart (Join joiner provider) of e = absurd (cc)
 is_depart (Depart by) of e = let is : by ≡ of = cc in ap Depart is
+is_depart (Leave client moment) of e = absurd (cc)
+is_depart (Back client moment) of e = absurd (cc)
 
 find_left : (past : List Line) (of : ℕ) → is_gone (departed past) of ≡ true → IsLeftAt past of
 find_left [] of left = absurd (isnt_true left)

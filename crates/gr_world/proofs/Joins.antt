@@ -23,7 +23,7 @@ use Rattle.gr_law.proofs.Lists.{among_reverse}
 use Rattle.gr_law.proofs.Made.{made_member}
 use Rattle.gr_script.specs.declared.line.Act.TheVariants as act
 use Rattle.gr_script.specs.declared.line.Line.{Line}
-use Rattle.gr_script.specs.declared.line.Line.TheVariants.{Step, Deliver, Hear, Sweep, Join, Depart}
+use Rattle.gr_script.specs.declared.line.Line.TheVariants.{Step, Deliver, Hear, Sweep, Join, Depart, Leave, Back}
 use Rattle.gr_script.specs.declared.line.Line.TheVariants as line
 use Rattle.gr_script.specs.Rules.{Heading, IsMember, home_of}
 use Rattle.gr_script.specs.Steps.{joins_of, is_join_of, departed, is_gone}
@@ -196,6 +196,8 @@ JoinsNot j (Hear member of number) = Unit {0}
 JoinsNot j (Sweep member moment) = Unit {0}
 JoinsNot j (Join joiner provider) = (joiner ≡ j) → ⊥
 JoinsNot j (Depart member) = Unit {0}
+JoinsNot j (Leave client moment) = Unit {0}
+JoinsNot j (Back client moment) = Unit {0}
 
 joins_more : (j : ℕ) (line : Line) (past : List Line)
     → joins_of j (line ∷ past) ≡ (if is_join_of j line then 1 else 0) + joins_of j past
@@ -214,6 +216,10 @@ joins_apart j (Sweep member moment) past h =
     (tt, omega (arith, h, joins_more j (Sweep member moment) past))
 joins_apart j (Depart member) past h =
     (tt, omega (arith, h, joins_more j (Depart member) past))
+joins_apart j (Leave client moment) past h =
+    (tt, omega (arith, h, joins_more j (Leave client moment) past))
+joins_apart j (Back client moment) past h =
+    (tt, omega (arith, h, joins_more j (Back client moment) past))
 joins_apart j (Join joiner provider) past h = at_test (joiner == j) refl
     (sym (joins_more j (Join joiner provider) past) ∙ h)
   where
@@ -235,6 +241,8 @@ spared j (line.Report member) other m (Merges image) of = absurd of
 spared j (Hear member from number) other m (Merges image) of = absurd of
 spared j (Sweep member moment) other m (Merges image) of = absurd of
 spared j (Depart member) other m (Merges image) of = absurd of
+spared j (Leave client moment) other m (Merges image) of = absurd of
+spared j (Back client moment) other m (Merges image) of = absurd of
 spared j (Join joiner provider) other m (Merges image) of = λ same. other (of ∙ same)
 spared j at other m Reports of = tt
 spared j at other m (Hears report) of = tt
@@ -262,6 +270,8 @@ line_unmerged heading gone j (Hear member of number) now other none = rest_unmer
 line_unmerged heading gone j (Sweep member moment) now other none = rest_unmerged heading gone j (Sweep member moment) now tt other none
 line_unmerged heading gone j (Join joiner provider) now other none = rest_unmerged heading gone j (Join joiner provider) now tt other none
 line_unmerged heading gone j (Depart member) now other none = rest_unmerged heading gone j (Depart member) now tt other none
+line_unmerged heading gone j (Leave client moment) now other none = rest_unmerged heading gone j (Leave client moment) now tt other none
+line_unmerged heading gone j (Back client moment) now other none = rest_unmerged heading gone j (Back client moment) now tt other none
 
 pub course_unmerged : (heading : Heading) (j : ℕ) (past : List Line) → joins_of j past ≡ 0 → NoImages j (course heading past)
 course_unmerged heading j [] h = λ shard. tt

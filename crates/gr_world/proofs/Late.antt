@@ -12,7 +12,7 @@ use Rattle.gr_history.specs.declared.deed.Deed.TheVariants.{Call, Asked, Taken, 
 use Rattle.gr_law.specs.Grids.{Among, Older}
 use Rattle.gr_script.specs.declared.line.Act.TheVariants as act
 use Rattle.gr_script.specs.declared.line.Line.{Line}
-use Rattle.gr_script.specs.declared.line.Line.TheVariants.{Step, Deliver, Hear, Sweep, Join, Depart}
+use Rattle.gr_script.specs.declared.line.Line.TheVariants.{Step, Deliver, Hear, Sweep, Join, Depart, Leave, Back}
 use Rattle.gr_script.specs.declared.line.Line.TheVariants as line
 use Rattle.gr_script.specs.Rules.{Heading, IsHeading, home_of, AllStand}
 use Rattle.gr_script.specs.Steps.{departed}
@@ -137,6 +137,12 @@ all_follow heading (Join joiner provider ∷ past) stand =
     (all_follow heading past stand.1)
 all_follow heading (Depart member ∷ past) stand =
     quiet_keeps heading (departed past) AllFollow (quiet_follow heading) (Depart member) (course heading past) tt
+    (all_follow heading past stand.1)
+all_follow heading (Leave client moment ∷ past) stand =
+    quiet_keeps heading (departed past) AllFollow (quiet_follow heading) (Leave client moment) (course heading past) tt
+    (all_follow heading past stand.1)
+all_follow heading (Back client moment ∷ past) stand =
+    quiet_keeps heading (departed past) AllFollow (quiet_follow heading) (Back client moment) (course heading past) tt
     (all_follow heading past stand.1)
 
 -- ---- a deed of a client's step that is newer than a peek has a greater number

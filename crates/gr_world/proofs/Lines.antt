@@ -13,7 +13,7 @@ use Rattle.gr_history.specs.Asks.{key_of}
 use Rattle.gr_history.specs.Gifts.{own_changes, image_of}
 use Rattle.gr_script.specs.declared.line.Act.TheVariants as act
 use Rattle.gr_script.specs.declared.line.Line.{Line}
-use Rattle.gr_script.specs.declared.line.Line.TheVariants.{Step, Deliver, Hear, Sweep, Join, Depart}
+use Rattle.gr_script.specs.declared.line.Line.TheVariants.{Step, Deliver, Hear, Sweep, Join, Depart, Leave, Back}
 use Rattle.gr_script.specs.declared.line.Line.TheVariants as line
 use Rattle.gr_script.specs.Rules.{Heading, IsHeading, AllStand, AllNameStaying, NamesStaying, Stays, home_of}
 use Rattle.gr_script.specs.Steps.{departs, departed, is_gone, is_join_from}
@@ -151,6 +151,8 @@ module _ (heading : Heading) (past : List Line) (P : List Event → Type 0) wher
       (λ shard less. handed_keeps heading (of ∷ departed past) P of shard
       (λ taker giver e at_giver. by.copied of shard taker giver less (or_right (of == taker) (is_gone (departed past) taker) e)
       (record { stated = at_giver.stated; stays = or_right (of == giver) (is_gone (departed past) giver) at_giver.stays }))) now h
+  line_keeps (Leave client moment) is stays by now h = h
+  line_keeps (Back client moment) is stays by now h = h
 
 -- ---- what each deed keeps
 

@@ -6,7 +6,7 @@ use Rattle.std.proofs.lemmas.Bool.Decides.{nat_tests}
 use Rattle.gr_script.specs.declared.line.Act.{Act}
 use Rattle.gr_script.specs.declared.line.Act.TheVariants as act
 use Rattle.gr_script.specs.declared.line.Line.{Line}
-use Rattle.gr_script.specs.declared.line.Line.TheVariants.{Step, Deliver, Hear, Sweep, Join, Depart}
+use Rattle.gr_script.specs.declared.line.Line.TheVariants.{Step, Deliver, Hear, Sweep, Join, Depart, Leave, Back}
 use Rattle.gr_script.specs.declared.line.Line.TheVariants as line
 use Rattle.gr_script.specs.Rules.{Heading, StandsAfter, AllStand}
 use Rattle.gr_script.specs.Steps.{step_count}
@@ -29,6 +29,8 @@ number_at client (Hear to of number) = None
 number_at client (Sweep of moment) = None
 number_at client (Join joiner provider) = None
 number_at client (Depart of) = None
+number_at client (Leave who moment) = None
+number_at client (Back who moment) = None
 
 abbrev pub numbers : ℕ → List Line → List ℕ
 numbers client [] = []
@@ -101,6 +103,8 @@ next_number heading client (Hear to of seq) past number stands h = absurd (cc)
 next_number heading client (Sweep of moment) past number stands h = absurd (cc)
 next_number heading client (Join joiner provider) past number stands h = absurd (cc)
 next_number heading client (Depart of) past number stands h = absurd (cc)
+next_number heading client (Leave who moment) past number stands h = absurd (cc)
+next_number heading client (Back who moment) past number stands h = absurd (cc)
 
 below_steps : (heading : Heading) (client : ℕ) (past : List Line) → AllStand heading past
     → AllBelow (step_count client past + 1) (numbers client past)

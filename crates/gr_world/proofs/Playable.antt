@@ -7,7 +7,7 @@ use Rattle.std.proofs.lemmas.Grind.{reverse_onto}
 use Rattle.std.proofs.lemmas.List.{reverse-reverse, take_more}
 use Rattle.std.proofs.lemmas.List.Elements.{All-from_recursion, filter_map-append}
 use Rattle.gr_script.specs.declared.line.Line.{Line}
-use Rattle.gr_script.specs.declared.line.Line.TheVariants.{Step, Deliver, Hear, Sweep, Join, Depart}
+use Rattle.gr_script.specs.declared.line.Line.TheVariants.{Step, Deliver, Hear, Sweep, Join, Depart, Leave, Back}
 use Rattle.gr_script.specs.declared.line.Line.TheVariants as line
 use Rattle.gr_script.specs.Rules.{Heading, IsHeading, IsScript, IsWithin, Differ, StandsAfter, AllStand, home_of}
 use Rattle.gr_script.specs.Steps.{departs, departed}
@@ -38,6 +38,8 @@ line_playable heading (Depart member) past is stands stays = absurd (no stays)
   where
     no : Some member ≡ None → ⊥
     no e = cc
+line_playable heading (Leave client moment) past is stands stays = tt
+line_playable heading (Back client moment) past is stands stays = tt
 
 -- who departed on the first line, and on the others
 first_stays : (one : Option ℕ) (rest : List ℕ) → cons_option one rest ≡ [] → (one ≡ None) × (rest ≡ [])

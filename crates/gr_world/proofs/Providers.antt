@@ -12,7 +12,7 @@ use Rattle.gr_law.specs.Grids.{Among, Older}
 use Rattle.gr_law.specs.Integrity.{IsGift, IsSound, giver_of}
 use Rattle.gr_law.proofs.Made.{older_genuine}
 use Rattle.gr_script.specs.declared.line.Line.{Line}
-use Rattle.gr_script.specs.declared.line.Line.TheVariants.{Step, Deliver, Hear, Sweep, Join, Depart}
+use Rattle.gr_script.specs.declared.line.Line.TheVariants.{Step, Deliver, Hear, Sweep, Join, Depart, Leave, Back}
 use Rattle.gr_script.specs.declared.line.Line.TheVariants as line
 use Rattle.gr_script.specs.Rules.{Heading, NamesStaying, StandsAfter}
 use Rattle.gr_script.specs.Steps.{departed, is_gone, is_join_from, joins_from}
@@ -123,6 +123,8 @@ giver_stays (Sweep of moment) past heading i names e = absurd (isnt_true e)
 giver_stays (Join joiner provider) past heading i names e =
     subst (λ m. is_gone (departed past) m ≡ false) (equal_numbers provider i e) names.1
 giver_stays (Depart of) past heading i names e = absurd (isnt_true e)
+giver_stays (Leave client moment) past heading i names e = absurd (isnt_true e)
+giver_stays (Back client moment) past heading i names e = absurd (isnt_true e)
 
 -- a line after which one that gave an image before stays
 stays_behind : (one : Line) (past : List Line) (heading : Heading) (i : ℕ) → StandsAfter heading past one → Provided past i
@@ -140,6 +142,8 @@ stays_behind (Depart of) past heading i stands p stays = at_test (of == i) refl
         let none : joins_from i past ≡ 0 = subst (λ m. joins_from m past ≡ 0) (equal_numbers of i e) stands.1 in
         absurd (omega (arith, none, p))
     at_test false e = stays
+stays_behind (Leave client moment) past heading i stands p stays = stays
+stays_behind (Back client moment) past heading i stands p stays = stays
 
 providers_stay : (heading : Heading) (past : List Line) → AreFit heading past → (i : ℕ) → Provided past i
     → is_gone (departed past) i ≡ false

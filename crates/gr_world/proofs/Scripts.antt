@@ -1,6 +1,6 @@
 -- The rows are scripts.
 use Rattle.std.proofs.Common.{ℕ, ◌≤◌, List, [], ◌∷◌, length, codes, refl, arith, reverse}
-use Rattle.gr_script.specs.Rules.{heading, IsHeading, IsScript, IsWithin, AreWithin, AllStand, AllNameStaying}
+use Rattle.gr_script.specs.Rules.{heading, IsHeading, IsScript, IsWithin, AreWithin, AllStand, AllNameStaying, AllAttend}
 use Rattle.gr_world.specs.Rows.{two_members, three_members, concurrent, repeated, joining}
 
 -- two facts as one
@@ -73,11 +73,36 @@ repeated-staying = refl & refl & refl & tt
 joining-staying : AllNameStaying three_members joining
 joining-staying = refl & (refl & refl) & refl & refl & refl & refl & refl & refl & refl & refl & refl & refl & tt
 
+-- and no client leaves
+concurrent-attended : AllAttend concurrent
+concurrent-attended = refl & tt & tt & refl & refl & tt
+
+repeated-attended : AllAttend repeated
+repeated-attended = tt & tt & refl & tt
+
+joining-attended : AllAttend joining
+joining-attended = refl & tt & tt & tt & tt & tt & tt & tt & tt & refl & tt & refl & tt
+
 pub concurrent-script : IsScript two_members (reverse concurrent)
-concurrent-script = record { heading = two-heading; lines_stand = concurrent-stand; names_staying = concurrent-staying }
+concurrent-script = record {
+  heading = two-heading;
+  lines_stand = concurrent-stand;
+  names_staying = concurrent-staying;
+  attended = concurrent-attended;
+}
 
 pub repeated-script : IsScript two_members (reverse repeated)
-repeated-script = record { heading = two-heading; lines_stand = repeated-stand; names_staying = repeated-staying }
+repeated-script = record {
+  heading = two-heading;
+  lines_stand = repeated-stand;
+  names_staying = repeated-staying;
+  attended = repeated-attended;
+}
 
 pub joining-script : IsScript three_members (reverse joining)
-joining-script = record { heading = three-heading; lines_stand = joining-stand; names_staying = joining-staying }
+joining-script = record {
+  heading = three-heading;
+  lines_stand = joining-stand;
+  names_staying = joining-staying;
+  attended = joining-attended;
+}

@@ -13,7 +13,7 @@ use Rattle.gr_history.specs.declared.record.ClientRecord.{ClientRecord}
 use Rattle.gr_law.specs.Grids.{Among}
 use Rattle.gr_script.specs.declared.line.Act.TheVariants as act
 use Rattle.gr_script.specs.declared.line.Line.{Line}
-use Rattle.gr_script.specs.declared.line.Line.TheVariants.{Step, Deliver, Hear, Sweep, Join, Depart}
+use Rattle.gr_script.specs.declared.line.Line.TheVariants.{Step, Deliver, Hear, Sweep, Join, Depart, Leave, Back}
 use Rattle.gr_script.specs.declared.line.Line.TheVariants as line
 use Rattle.gr_script.specs.Rules.{Heading, IsHeading, IsScript, IsStated, AllStand, StandsAfter, home_of}
 use Rattle.gr_script.specs.Steps.{departed}
@@ -147,6 +147,8 @@ asked_stated heading member shard (last ∷ past) stand asking a =
     at_line (Sweep of moment) stands next (inl is) = absurd (no_asking asking is)
     at_line (Join joiner provider) stands next (inl is) = absurd (no_asking asking is)
     at_line (Depart of) stands next (inl is) = absurd (no_asking asking is)
+    at_line (Leave client moment) stands next (inl is) = absurd (no_asking asking is)
+    at_line (Back client moment) stands next (inl is) = absurd (no_asking asking is)
 
 course_placed : (heading : Heading) (past : List Line) → AllStand heading past → ArePlaced heading (histories_at (course heading past))
 course_placed heading past stand member shard client number deed within a is =

@@ -25,7 +25,7 @@ use Rattle.gr_law.specs.Grids.{Among}
 use Rattle.gr_law.proofs.Lists.{among_either}
 use Rattle.gr_script.specs.declared.line.Act.TheVariants as act
 use Rattle.gr_script.specs.declared.line.Line.{Line}
-use Rattle.gr_script.specs.declared.line.Line.TheVariants.{Step, Deliver, Hear, Sweep, Join, Depart}
+use Rattle.gr_script.specs.declared.line.Line.TheVariants.{Step, Deliver, Hear, Sweep, Join, Depart, Leave, Back}
 use Rattle.gr_script.specs.declared.line.Line.TheVariants as line
 use Rattle.gr_script.specs.declared.line.Step.{Step as StepOf}
 use Rattle.gr_script.specs.Rules.{Heading, home_of}
@@ -131,6 +131,8 @@ served_replies heading client (last ∷ past) =
     at_line (Sweep of moment) = tt
     at_line (Join joiner provider) = tt
     at_line (Depart of) = tt
+    at_line (Leave client moment) = tt
+    at_line (Back client moment) = tt
 
 -- ---- the answers
 
@@ -165,6 +167,8 @@ line_answers heading gone client (Hear to of number) before = no_answer (told cl
 line_answers heading gone client (Sweep of moment) before = no_answer (told client before) _ (rest_tells heading gone (Sweep of moment) before client tt)
 line_answers heading gone client (Join joiner provider) before = no_answer (told client before) _ (rest_tells heading gone (Join joiner provider) before client tt)
 line_answers heading gone client (Depart of) before = no_answer (told client before) _ (rest_tells heading gone (Depart of) before client tt)
+line_answers heading gone client (Leave who moment) before = no_answer (told client before) _ (rest_tells heading gone (Leave who moment) before client tt)
+line_answers heading gone client (Back who moment) before = no_answer (told client before) _ (rest_tells heading gone (Back who moment) before client tt)
 
 pub served_answers : (heading : Heading) (client : ℕ) (past : List Line)
     → reverse (map (λ one. one.answer) (told client (course heading past))) ≡ map answer_of (served_in heading client past)
@@ -285,6 +289,8 @@ module _ (heading : Heading) (client : ℕ) (shard : ℕ) (within : shard < head
   line_deeds gone (Sweep of moment) before = rest_same gone (Sweep of moment) before tt
   line_deeds gone (Join joiner provider) before = rest_same gone (Join joiner provider) before tt
   line_deeds gone (Depart of) before = rest_same gone (Depart of) before tt
+  line_deeds gone (Leave client moment) before = rest_same gone (Leave client moment) before tt
+  line_deeds gone (Back client moment) before = rest_same gone (Back client moment) before tt
 
   -- The member's history has the deeds of the client's steps, each once and in order.
   pub served_deeds : (past : List Line)
@@ -318,6 +324,10 @@ more_events heading gone one (Join joiner provider) before a =
     quiet_keeps heading gone (Among one) (λ m s doing now quiet e. inr e) (Join joiner provider) before tt a
 more_events heading gone one (Depart of) before a =
     quiet_keeps heading gone (Among one) (λ m s doing now quiet e. inr e) (Depart of) before tt a
+more_events heading gone one (Leave client moment) before a =
+    quiet_keeps heading gone (Among one) (λ m s doing now quiet e. inr e) (Leave client moment) before tt a
+more_events heading gone one (Back client moment) before a =
+    quiet_keeps heading gone (Among one) (λ m s doing now quiet e. inr e) (Back client moment) before tt a
 
 module _ (heading : Heading) (client number : ℕ) (peek : Peek) where
   -- another step is no peek
@@ -353,6 +363,8 @@ module _ (heading : Heading) (client number : ℕ) (peek : Peek) where
   peek_at gone (Sweep of moment) before a = absurd a
   peek_at gone (Join joiner provider) before a = absurd a
   peek_at gone (Depart of) before a = absurd a
+  peek_at gone (Leave client moment) before a = absurd a
+  peek_at gone (Back client moment) before a = absurd a
 
   -- What the client looked at is an event of the course.
   pub peek_stood : (past : List Line) → Among (Looked number peek) (served_in heading client past)

@@ -11,7 +11,7 @@ use Rattle.gr_history.specs.Gifts.{own_changes, image_of}
 use Rattle.gr_history.specs.Ids.{id_of, ids}
 use Rattle.gr_law.specs.Grids.{Among}
 use Rattle.gr_script.specs.declared.line.Line.{Line}
-use Rattle.gr_script.specs.declared.line.Line.TheVariants.{Step, Deliver, Hear, Sweep, Join, Depart}
+use Rattle.gr_script.specs.declared.line.Line.TheVariants.{Step, Deliver, Hear, Sweep, Join, Depart, Leave, Back}
 use Rattle.gr_script.specs.declared.line.Line.TheVariants as line
 use Rattle.gr_script.specs.Rules.{Heading}
 use Rattle.gr_script.specs.Steps.{is_gone}
@@ -82,6 +82,8 @@ IsNoStep (Hear member of number) = Unit {0}
 IsNoStep (Sweep member moment) = Unit {0}
 IsNoStep (Join joiner provider) = Unit {0}
 IsNoStep (Depart member) = Unit {0}
+IsNoStep (Leave client moment) = Unit {0}
+IsNoStep (Back client moment) = Unit {0}
 
 -- the line at which the member joins
 abbrev pub IsJoinOf : ℕ → Line → Type 0
@@ -153,3 +155,5 @@ rest_keeps heading gone P (Depart member) keeps quiet now h =
     (λ shard less. hands_keep heading (member ∷ gone) P member shard
     (λ taker giver low mid. takes_keep heading (suc taker) shard P (reverse (taken_of member (history (suc giver) shard mid)))
     (λ change a. keeps (suc taker) shard (Takes change) tt) mid)) now h
+rest_keeps heading gone P (Leave client moment) keeps quiet now h = h
+rest_keeps heading gone P (Back client moment) keeps quiet now h = h

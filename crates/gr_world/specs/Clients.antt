@@ -10,7 +10,7 @@ use Rattle.gr_history.specs.declared.query_ask.QueryAsk.{QueryAsk}
 use Rattle.gr_history.specs.Asks.{key_of}
 use Rattle.gr_script.specs.declared.line.Act.TheVariants as act
 use Rattle.gr_script.specs.declared.line.Line.{Line}
-use Rattle.gr_script.specs.declared.line.Line.TheVariants.{Step, Deliver, Hear, Sweep, Join, Depart}
+use Rattle.gr_script.specs.declared.line.Line.TheVariants.{Step, Deliver, Hear, Sweep, Join, Depart, Leave, Back}
 use Rattle.gr_script.specs.declared.line.Line.TheVariants as line
 use Rattle.gr_script.specs.Rules.{Heading, home_of}
 use Rattle.gr_world.specs.Events.{Event, Did, Peeked, Gathered}
@@ -57,6 +57,8 @@ asked_at heading member shard (Hear to of number) = None
 asked_at heading member shard (Sweep of moment) = None
 asked_at heading member shard (Join joiner provider) = None
 asked_at heading member shard (Depart of) = None
+asked_at heading member shard (Leave client moment) = None
+asked_at heading member shard (Back client moment) = None
 
 -- what the lines ask there, the last one first
 abbrev pub asked : Heading → ℕ → ℕ → List Line → List Asking

@@ -18,7 +18,7 @@ use Rattle.gr_history.specs.Ids.{id_of, ids}
 use Rattle.gr_history.specs.Standing.{present}
 use Rattle.gr_script.specs.declared.line.Act.TheVariants as act
 use Rattle.gr_script.specs.declared.line.Line.{Line}
-use Rattle.gr_script.specs.declared.line.Line.TheVariants.{Step, Deliver, Hear, Sweep, Join, Depart}
+use Rattle.gr_script.specs.declared.line.Line.TheVariants.{Step, Deliver, Hear, Sweep, Join, Depart, Leave, Back}
 use Rattle.gr_script.specs.declared.line.Line.TheVariants as line
 use Rattle.gr_script.specs.Rules.{Heading, home_of}
 use Rattle.gr_script.specs.Steps.{departed, is_gone}
@@ -166,7 +166,8 @@ hands_over heading gone of shard =
 
 -- ---- the lines
 
--- The table: what is done on each kind of line, where these members have departed.
+-- The table: what is done on each kind of line, where these members have departed. A script is expanded before it is played,
+-- so no client leaves or comes back in one that is.
 abbrev pub after : Heading → List ℕ → Line → List Event → List Event
 after heading gone (Step client number (act.Call ask)) before =
     does heading (home_of heading client) (shard_of (key_of ask) heading.shards) (Calls client number ask) before
@@ -178,6 +179,8 @@ after heading gone (Hear member of number) before = for_each heading.shards (hea
 after heading gone (Sweep member moment) before = for_each heading.shards (sweeps_at heading gone member moment) before
 after heading gone (Join joiner provider) before = for_each heading.shards (joins_at heading gone joiner provider) before
 after heading gone (Depart member) before = for_each heading.shards (hands_over heading (member ∷ gone) member) before
+after heading gone (Leave client moment) before = before
+after heading gone (Back client moment) before = before
 
 -- all that the lines do, which are listed the last one first
 abbrev pub course : Heading → List Line → List Event

@@ -16,7 +16,7 @@ use Rattle.gr_history.specs.Queries.{query_gives}
 use Rattle.gr_shard.specs.Records.{IsRecordOf}
 use Rattle.gr_shard.specs.View.{Account, after_deed}
 use Rattle.gr_script.specs.declared.line.Line.{Line}
-use Rattle.gr_script.specs.declared.line.Line.TheVariants.{Step, Deliver, Hear, Sweep, Join, Depart}
+use Rattle.gr_script.specs.declared.line.Line.TheVariants.{Step, Deliver, Hear, Sweep, Join, Depart, Leave, Back}
 use Rattle.gr_script.specs.declared.line.Line.TheVariants as line
 use Rattle.gr_script.specs.Rules.{Heading, IsMember, IsStated, home_of}
 use Rattle.gr_world.specs.Events.{Event, history}
@@ -150,3 +150,5 @@ CanPlay heading (Hear by of number) = IsMember heading by × IsMember heading of
 CanPlay heading (Sweep member moment) = IsMember heading member
 CanPlay heading (Join joiner provider) = IsMember heading joiner
 CanPlay heading (Depart member) = ⊥
+CanPlay heading (Leave client moment) = Unit {0}
+CanPlay heading (Back client moment) = Unit {0}

@@ -251,6 +251,7 @@ impl World {
             }
             Line::Join { member, from } => Ok(self.join(stage, member, from)?),
             Line::Depart { .. } => unreachable!(),
+            Line::Leave { .. } | Line::Back { .. } => Ok(()),
         }
     }
 

@@ -21,11 +21,12 @@ push_step-requires-clause-next c =
     record {
       line = c.args.next.line.now;
       ahead_is = c.requires;
-      reads = printed_says t.runs (said t) c.args.next.line.now step _ printed whole refl c.if-serves.ensures.stated c.if-serves.ensures.staying;
+      reads = printed_says t.runs (said t) c.args.next.line.now step _ printed whole refl c.if-serves.ensures.stated c.if-serves.ensures.staying
+          c.if-serves.ensures.here;
     }
 
-pub returns-in-Some-clause-some : goal.returns-in-Some-clause-some
-returns-in-Some-clause-some c =
+pub returns-in_ok-push_step-in-Some-clause-some : goal.returns-in_ok-push_step-in-Some-clause-some
+returns-in_ok-push_step-in-Some-clause-some c =
     let t = c.args.past.now in
     let step = c.in-Some.step in
     let printed = subst (λ (found : Option PlainStep). IfSome found (IsPrinted c.args.next.line.now)) c.in-Some.is c.in_ok-step.ensures in
@@ -33,10 +34,11 @@ returns-in-Some-clause-some c =
     let next : IsNext t (act_saying step.client step.act ∷ said t) c.args.next.after.now = record {
       line = c.args.next.line.now;
       ahead_is = c.requires;
-      reads = printed_says t.runs (said t) c.args.next.line.now step _ printed whole refl c.if-serves.ensures.stated c.if-serves.ensures.staying;
+      reads = printed_says t.runs (said t) c.args.next.line.now step _ printed whole refl c.if-serves.ensures.stated c.if-serves.ensures.staying
+          c.if-serves.ensures.here;
     } in
     record {
-      taken = c.push_step.ensures.taken;
-      reads = next.reads ∙ ap read (sym (ap said c.push_step.ensures.taken ∙ said_next t _ _ next));
-      lines = c.push_step.ensures.line;
+      taken = c.in_ok-push_step-in-Some.ensures.taken;
+      reads = next.reads ∙ ap read (sym (ap said c.in_ok-push_step-in-Some.ensures.taken ∙ said_next t _ _ next));
+      lines = c.in_ok-push_step-in-Some.ensures.line;
     }

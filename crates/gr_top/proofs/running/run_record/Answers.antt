@@ -5,15 +5,15 @@ use Rattle.gr_top.proofs.Endings.{within}
 use Rattle.gr_top.proofs.running.run_record.Goals as goal
 
 pub returns-in-Err : goal.returns-in-Err
-returns-in-Err g c histories = c.in-Err.ensures (request.Run histories) tt refl
+returns-in-Err g c detail = c.in-Err.ensures (request.Run detail) tt refl
 
-pub returns-in-Ok-run : goal.returns-in-Ok-run
-returns-in-Ok-run g c histories =
-    let given = c.in-Ok.ensures (request.Run histories) tt refl in
-    let left : IsRunOf _ _ = record { text = given.0; script = c.in-Ok.script; given = given.1; left = c.in-Ok-run.ensures.lawful } in
+pub returns-in-Ok-run_expanded : goal.returns-in-Ok-run_expanded
+returns-in-Ok-run_expanded g c detail =
+    let given = c.in-Ok.ensures (request.Run detail) tt refl in
+    let left : IsRunOf _ _ = record { text = given.0; script = c.in-Ok.script; given = given.1; left = c.in-Ok-run_expanded.ensures } in
     record { within = within _ given.0 given.1.whole; keeps = left; prints = (left, refl) }
 
 pub returns : goal.returns
-returns g c histories sink untouched =
-    let given = c.in-Ok.ensures (request.Run histories) tt refl in
+returns g c detail sink untouched =
+    let given = c.in-Ok.ensures (request.Run detail) tt refl in
     (tt, within _ given.0 given.1.whole, untouched)

@@ -1,4 +1,4 @@
-use Rattle.std.proofs.Common.{◌≡◌, ◌∙◌, ℕ, ◌<◌, ◌^◌, ◌∷◌, Some, option_map, sym, ap, subst}
+use Rattle.std.proofs.Common.{◌≡◌, ◌∙◌, ℕ, ◌<◌, ◌^◌, ◌∷◌, Some, option_map, refl, sym, ap, subst}
 use Rattle.gr_script.specs.Past.{number}
 use Rattle.gr_script.specs.Printed.{saying_in}
 use Rattle.gr_script.specs.Said.{line_of}
@@ -37,8 +37,22 @@ returns-clause-line c =
     let is = line_by_count c.self.inside.tallies.steps (said t) c.args.saying _ _ c.line_of.result
     (c.number-first.ensures ∙ ap (number 0) c.as_slice-items.ensures) c.of-seq.ensures c.self.invariant.0.tallied.steps c.line_of.ensures
     ∙ ap (λ (s : Taken). line_of (said s) c.args.saying) c.self.view_is in
-    ap lines_taken c.put.ensures
+    ap lines_taken c.in_ok-put.ensures
     ∙ line_next c.args.self.now c.args.saying c.unwrap-line.result c.args.after.now c.requires.next (sym is ∙ c.unwrap-line.ensures)
+
+pub put-requires-clause-next : goal.put-requires-clause-next
+put-requires-clause-next c =
+    let t : Taken = record { runs = c.self.inside.runs; text = c.self.inside.text.now; count = c.self.inside.count } in
+    let is = line_by_count c.self.inside.tallies.steps (said t) c.args.saying _ _ c.line_of.result
+    (c.number-first.ensures ∙ ap (number 0) c.as_slice-items.ensures) c.of-seq.ensures c.self.invariant.0.tallied.steps c.line_of.ensures
+    ∙ ap (λ (s : Taken). line_of (said s) c.args.saying) c.self.view_is in (
+      c.args.saying,
+      refl,
+      c.number-first.ensures ∙ ap (number 0) c.as_slice-items.ensures,
+      (λ _. c.number-second.ensures ∙ ap (number 1) c.as_slice-items.ensures),
+      sym is ∙ c.unwrap-line.ensures,
+      c.requires.next,
+    )
 
 pub put-requires-clause-narrow : goal.put-requires-clause-narrow
 put-requires-clause-narrow c =

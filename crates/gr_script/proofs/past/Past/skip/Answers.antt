@@ -13,7 +13,7 @@ invariant_of-self c =
     let next = subst (λ (s : Taken). IsNext s (said s) after) (sym c.self.view_is) c.requires in (
       subst
           (λ (p : List Saying).
-          IsIndex held.stage held.setting held.founders held.sizes held.homes held.tallies held.counted p)
+          IsIndex held.stage held.setting held.founders held.sizes held.homes held.tallies held.counted held.attendance held.returned p)
           (sym (said_next t (said t) after next)) c.self.invariant.0,
       taken_next t (said t) after c.self.invariant.1 next,
       ahead_next t (said t) after next,
