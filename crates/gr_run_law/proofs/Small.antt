@@ -1,7 +1,5 @@
 -- Threads leave the small run.
-use Rattle.std.proofs.Common.{◌≡◌, ℕ, zero, suc, ◌<◌, ◌≤◌, ◌⊎◌, List, [], ◌∷◌, refl, arith, inl, inr, Option, Some, map, reverse, flat_map}
-use Rattle.std.proofs.Common.{length, sym, ap, subst}
-use Rattle.std.proofs.Common.{ne_eqb, eqb-true, ◌==◌, Bool, true, false, if◌then◌else◌}
+use Rattle.std.proofs.Common.{◌≡◌, ℕ, zero, suc, ◌<◌, ◌≤◌, ◌⊎◌, List, [], ◌∷◌, refl, arith, inl, inr, Option, Some, map, reverse, flat_map, length, sym, ap, subst, ne_eqb, eqb-true, ◌==◌, Bool, true, false, if◌then◌else◌}
 use Rattle.std.specs.List.{filter_map}
 use native.Mathlib.Decide.{ℕ_discrete}
 use mathlib.Core.Logic.{dite}
@@ -33,10 +31,8 @@ use Rattle.gr_world.specs.Served.{Called, Queried, Looked, all_deeds_of}
 use Rattle.gr_run_law.specs.Duties.{given_to, gift_due, duty_of}
 use Rattle.gr_run_law.specs.Plans.{draws_for, courier_of, reports_posted, changes_posted}
 use Rattle.gr_run_law.specs.Shares.{Owner, Client, Thread, Giver, AreShared, Stands}
-use Rattle.gr_run_law.specs.Threads.{AreLeftByThreads, HeardOf, Merged, GotFrom, IsWrittenBy, IsSession, IsThread, IsMailed, LooksFit}
-use Rattle.gr_run_law.specs.Threads.{IsLook, IsReadyBefore, work_at, duty_at, got_from, round_of, client_place, member_place}
-use Rattle.gr_run_law.specs.Small.{only, three, small_lines, image_0, image_1, small_histories, small_served, small_owned, small_places}
-use Rattle.gr_run_law.specs.Small.{small_works, small_taken}
+use Rattle.gr_run_law.specs.Threads.{AreLeftByThreads, HeardOf, Merged, GotFrom, IsWrittenBy, IsSession, IsThread, IsMailed, LooksFit, IsLook, IsReadyBefore, work_at, duty_at, got_from, round_of, client_place, member_place}
+use Rattle.gr_run_law.specs.Small.{only, three, small_lines, image_0, image_1, small_histories, small_served, small_owned, small_places, small_works, small_taken}
 
 -- two facts as one
 infixr 10 ◌&◌

@@ -7,9 +7,8 @@ ghost use Rattle.gr_script.specs.Plain.{IsPlain};
 ghost use Rattle.gr_script.specs.Printed.{act_saying, saying_in};
 ghost use Rattle.gr_script.specs.Said.{line_of as line_said};
 ghost use Rattle.gr_script.specs.declared.saying.Saying.{Saying};
-ghost use Rattle.gr_script.specs.Past.{stage, region, members, founders, clients, steps, reports, joins, gifts, hears, heard_on};
+ghost use Rattle.gr_script.specs.Past.{stage, region, members, founders, clients, steps, reports, joins, gifts, hears, heard_on, homes as homes_of, home, number as number_in, setting, sizes};
 ghost use Rattle.gr_script.specs.Refusals.{asks, is_away, is_gone, last_moment, open_count};
-ghost use Rattle.gr_script.specs.Past.{homes as homes_of, home, number as number_in, setting, sizes};
 ghost use Rattle.gr_script.specs.Taken.{IsNext, IsTaken, advanced, ahead, lines_taken, said};
 ghost use Rattle.gr_script.specs.Texts.{lines_of};
 ghost use Rattle.gr_script.specs.Limits.{most_lines};
@@ -86,9 +85,8 @@ pub(crate) struct Ahead<'a> {
 
 impl<'a> Model for Past<'a> {
     ghost use Rattle.std.specs.Prelude.{◌≡◌};
-    ghost use Rattle.gr_script.specs.Taken.{Taken};
     ghost use Rattle.gr_script.specs.Index.{IsIndex};
-    ghost use Rattle.gr_script.specs.Taken.{IsTaken, ahead, said};
+    ghost use Rattle.gr_script.specs.Taken.{IsTaken, Taken, ahead, said};
     ghost use Rattle.gr_script.specs.Texts.{lines_of};
 
     ghost Value = { Taken };
