@@ -1,4 +1,1 @@
 pub mod Answers
-pub mod Marked
-pub mod Turning
-pub mod Under
