@@ -37,6 +37,7 @@ impl Departing {
     }
 
     /// Does what a line names.
+    #[inline(always)]
     pub fn play(&mut self, stage: Stage, line: Line) -> Result<(), Memory>
         requires work { IsAtWork (heading_at stage) self.old.world }
         requires stated { CanDo (heading_at stage) line }
@@ -80,6 +81,7 @@ impl Departing {
     }
 
     /// Does what is played in place of a line.
+    #[inline(always)]
     pub fn turn(&mut self, stage: Stage, turn: Turn) -> Result<(), Memory>
         requires work { IsAtWork (heading_at stage) self.old.world }
         requires stated { AllByRecursion (CanDo (heading_at stage)) (lines_in turn) }

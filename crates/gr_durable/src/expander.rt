@@ -76,6 +76,7 @@ impl Expander {
     }
 
     // Takes in a step.
+    #[inline(always)]
     fn step(&mut self, alloc: Global, client: u8, seq: u32, act: Act) -> Result<Line, Memory>
         requires { (clients : ℕ) × (past : List ALine) × IsExpander clients self.old past × (client ≤ clients) }
         ensures kept { OnOk result ((clients : ℕ) (past : List ALine) → IsExpander clients self.old past
@@ -89,6 +90,7 @@ impl Expander {
     }
 
     // Takes in the delivery of a step.
+    #[inline(always)]
     fn deliver(&self, to: u8, client: u8, seq: u32) -> Line
         requires { (clients : ℕ) × (past : List ALine) × IsExpander clients self.now past × Fits clients past (line.Deliver to client seq) }
         ensures { (clients : ℕ) (past : List ALine) → IsExpander clients self.now past → Fits clients past (line.Deliver to client seq)
@@ -147,6 +149,7 @@ impl Expander {
     }
 
     /// Takes in the next line, and tells what is played in its place.
+    #[inline(always)]
     pub fn take(&mut self, alloc: Global, line: Line) -> Result<Turn, Memory>
         requires { (clients : ℕ) × (past : List ALine) × IsExpander clients self.old past × Fits clients past line }
         ensures kept { OnOk result ((clients : ℕ) (past : List ALine) → IsExpander clients self.old past → Fits clients past line

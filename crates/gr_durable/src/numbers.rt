@@ -35,6 +35,7 @@ impl Numbers {
     }
 
     /// Takes in the client's next step, and tells its new number.
+    #[inline(always)]
     pub(crate) fn step(&mut self, seq: u32) -> Result<u32, Memory>
         ensures number { IfOk result (λ number. number ≡ seq + self.old.added) }
         ensures stepped { OnOk result (self.new ≡ stepped self.old seq) }
@@ -49,6 +50,7 @@ impl Numbers {
     }
 
     /// The new number of a step that was taken in.
+    #[inline(always)]
     pub(crate) fn of(&self, seq: u32) -> u32
         requires { seq ≤ self.now.kept + length self.now.moved }
         ensures { result ≡ (if nat_le seq self.now.kept then seq else get_or self.now.moved (seq - self.now.kept - 1) 0) }
