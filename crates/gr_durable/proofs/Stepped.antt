@@ -94,30 +94,30 @@ new_within h client number (line.Step own seq done ∷ past) all within =
     let counted = one_step client own seq done past in
     elim (cases_eq own client) [
       | inl is ↦ elim (cases_eq seq number) [
-            | inl same ↦
-                let mine = eq-eqb own client is in
-                let this = eq-eqb seq number same in
-                let next = all.0.1 in
-                let steps = ap (λ (c : ℕ). step_count c past) is in
-                let here : new_number client number (line.Step own seq done ∷ past) ≡ number + added client past =
-                ap (λ (b : Bool). cond (b && eqb seq number) (number + added client past) (new_number client number past)) mine
-                ∙ ap (λ (b : Bool). cond b (number + added client past) (new_number client number past)) this in
-                let more : step_count client (line.Step own seq done ∷ past) ≡ 1 + step_count client past =
-                counted ∙ ap (λ (b : Bool). cond b 1 0 + step_count client past) mine in
-                (omega (arith, here, within.0), omega (arith, here, more, next, steps, same))
-            | inr other ↦
-                let mine = eq-eqb own client is in
-                let apart = ne_eqb seq number other in
-                let next = all.0.1 in
-                let steps = ap (λ (c : ℕ). step_count c past) is in
-                let here : new_number client number (line.Step own seq done ∷ past) ≡ new_number client number past =
-                ap (λ (b : Bool). cond (b && eqb seq number) (number + added client past) (new_number client number past)) mine
-                ∙ ap (λ (b : Bool). cond b (number + added client past) (new_number client number past)) apart in
-                let more : step_count client (line.Step own seq done ∷ past) ≡ 1 + step_count client past =
-                counted ∙ ap (λ (b : Bool). cond b 1 0 + step_count client past) mine in
-                let rest = new_within h client number past all.1 (within.0, omega (arith, within.1, more, next, steps, other)) in
-                (omega (arith, here, rest.0), omega (arith, here, more, rest.1))
-          ]
+        | inl same ↦
+            let mine = eq-eqb own client is in
+            let this = eq-eqb seq number same in
+            let next = all.0.1 in
+            let steps = ap (λ (c : ℕ). step_count c past) is in
+            let here : new_number client number (line.Step own seq done ∷ past) ≡ number + added client past =
+            ap (λ (b : Bool). cond (b && eqb seq number) (number + added client past) (new_number client number past)) mine
+            ∙ ap (λ (b : Bool). cond b (number + added client past) (new_number client number past)) this in
+            let more : step_count client (line.Step own seq done ∷ past) ≡ 1 + step_count client past =
+            counted ∙ ap (λ (b : Bool). cond b 1 0 + step_count client past) mine in
+            (omega (arith, here, within.0), omega (arith, here, more, next, steps, same))
+        | inr other ↦
+            let mine = eq-eqb own client is in
+            let apart = ne_eqb seq number other in
+            let next = all.0.1 in
+            let steps = ap (λ (c : ℕ). step_count c past) is in
+            let here : new_number client number (line.Step own seq done ∷ past) ≡ new_number client number past =
+            ap (λ (b : Bool). cond (b && eqb seq number) (number + added client past) (new_number client number past)) mine
+            ∙ ap (λ (b : Bool). cond b (number + added client past) (new_number client number past)) apart in
+            let more : step_count client (line.Step own seq done ∷ past) ≡ 1 + step_count client past =
+            counted ∙ ap (λ (b : Bool). cond b 1 0 + step_count client past) mine in
+            let rest = new_within h client number past all.1 (within.0, omega (arith, within.1, more, next, steps, other)) in
+            (omega (arith, here, rest.0), omega (arith, here, more, rest.1))
+      ]
       | inr foreign ↦
           let mine = ne_eqb own client foreign in
           let here : new_number client number (line.Step own seq done ∷ past) ≡ new_number client number past =

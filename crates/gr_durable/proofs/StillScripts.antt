@@ -119,8 +119,7 @@ all_stand h (line.Report member ∷ past) all =
     let same = reports_are past in
     ((all.0.0, omega (arith, same, all.0.1)), all_stand h past all.1)
 all_stand h (line.Hear by of number ∷ past) all =
-    let same = hears_are past in
-    (
+    let same = hears_are past in (
       (
         all.0.0,
         all.0.1,

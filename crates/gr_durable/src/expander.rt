@@ -106,7 +106,8 @@ impl Expander {
             → IsExpander clients self.new (line.Leave client moment ∷ past)) }
         ensures lines { IfOk result (λ lines. lines ≡ []) }
     {
-        self.attendance.note(alloc, &Line::Leave { client, moment })?;
+        self.attendance
+            .note(alloc, &Line::Leave { client, moment })?;
         LineList::new(alloc)
     }
 
@@ -123,13 +124,7 @@ impl Expander {
     {
         let number = u128::from(client);
         let late = is_late(self.attendance.moment(number), moment);
-        steps_on(
-            alloc,
-            client,
-            first,
-            late,
-            self.attendance.names(number),
-        )
+        steps_on(alloc, client, first, late, self.attendance.names(number))
     }
 
     // Takes in that a client is back.

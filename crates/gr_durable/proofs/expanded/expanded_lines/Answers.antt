@@ -14,8 +14,7 @@ take-requires c =
     let line = c.line-item.result in
     let i = c.loop-line.line-index in
     let past = reverse (take i c.as_slice-line-items.result.now) in
-    let FitsAt : List Line → Type 0 = λ lines. i < length lines → line ≡ get_or lines i line → Fits clients (reverse (take i lines)) line in
-    (
+    let FitsAt : List Line → Type 0 = λ lines. i < length lines → line ≡ get_or lines i line → Fits clients (reverse (take i lines)) line in (
       clients,
       past,
       c.loop-line.invariant.kept,
