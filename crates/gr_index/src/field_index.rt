@@ -8,7 +8,7 @@ ghost use Rattle.gr_oql.specs.Events.{Present};
 ghost use Rattle.gr_index.specs.Cells.{cell_cmp, is_cell, cell_of, left_behind, keys_between};
 ghost use Rattle.gr_index.specs.Index.{scalar_in, nowhere, turned_map, IsIndexOf, AreKeysWith};
 
-use crate::cell::{Cell, Mark, Place};
+use crate::cell::{Cell, Place};
 use gr_oql::Turned;
 use gr_value::{Copied, Key, KeyList, Memory, Scalar, Text, Value};
 use std::alloc::Global;
@@ -129,14 +129,8 @@ impl FieldIndex {
     pub fn equal(&self, alloc: Global, scalar: &Scalar) -> Result<KeyList, Memory>
         ensures { IfOk result (λ keys. (map : Present) → IsIndexOf map self.now → AreKeysWith self.now.field scalar.now map keys) }
     {
-        let from = Cell {
-            mark: Mark::of(alloc, scalar)?,
-            place: Place::Before,
-        };
-        let to = Cell {
-            mark: Mark::of(alloc, scalar)?,
-            place: Place::Behind,
-        };
-        keys_between(alloc, &self.cells, from, to)
+        let from = Cell::placed(alloc, scalar, Place::Before)?;
+        let to = Cell::placed(alloc, scalar, Place::Behind)?;
+        Ok(keys_between(alloc, &self.cells, from, to)?)
     }
 }

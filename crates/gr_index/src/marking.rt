@@ -1,5 +1,5 @@
 ghost use Rattle.std.specs.Prelude.{◌≡◌, IfOk};
-ghost use Rattle.gr_index.specs.Cells.{mark_of, cell_at};
+ghost use Rattle.gr_index.specs.Cells.{mark_of, placed, cell_at};
 
 use crate::cell::{Cell, Mark, Place};
 use crate::words::Words;
@@ -22,12 +22,18 @@ impl Mark {
 }
 
 impl Cell {
-    pub(crate) fn at(alloc: Global, scalar: &Scalar, key: &Key) -> Result<Cell, Memory>
-        ensures { IfOk result (λ cell. cell ≡ cell_at scalar.now key.now) }
+    pub(crate) fn placed(alloc: Global, scalar: &Scalar, place: Place) -> Result<Cell, Memory>
+        ensures { IfOk result (λ cell. cell ≡ placed scalar.now place) }
     {
         Ok(Cell {
             mark: Mark::of(alloc, scalar)?,
-            place: Place::At(key.copy(alloc)?),
+            place,
         })
+    }
+
+    pub(crate) fn at(alloc: Global, scalar: &Scalar, key: &Key) -> Result<Cell, Memory>
+        ensures { IfOk result (λ cell. cell ≡ cell_at scalar.now key.now) }
+    {
+        Cell::placed(alloc, scalar, Place::At(key.copy(alloc)?))
     }
 }
