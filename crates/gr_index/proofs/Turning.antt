@@ -5,14 +5,13 @@ use Rattle.std.specs.List.{list_any}
 use Rattle.std.specs.BTreeMap.{is_at}
 use Rattle.std.proofs.lemmas.Slice.Eq.{bytes_eq-Decides}
 use Rattle.gr_value.specs.declared.scalar.Scalar.{Scalar}
-use Rattle.gr_value.specs.declared.value.Field.{Field}
 use Rattle.gr_value.specs.Scalars.{scalar_eq}
 use Rattle.gr_value.specs.Sameness.{scalar_eq-Decides}
 use Rattle.gr_oql.specs.declared.event.Turned.{Turned}
 use Rattle.gr_oql.specs.Events.{Present}
 use Rattle.gr_index.specs.declared.cell.Cell.{Cell}
 use Rattle.gr_index.specs.Cells.{cell_cmp, cell_at, cell_of, is_cell, left_behind}
-use Rattle.gr_index.specs.Index.{Index, scalar_in, is_scalar, turned_map, has, IsIndexOf}
+use Rattle.gr_index.specs.Index.{scalar_in, is_scalar, turned_map, has, IsIndexOf}
 use Rattle.gr_index.proofs.Marked.{cell_is_at}
 
 or_none : (n : Bool) → cond n true false ≡ n

@@ -2,9 +2,8 @@
 use Rattle.std.proofs.Common.{◌≡◌, ◌↔◌, ◌∙◌, ap, sym, refl, subst, ℕ, List, [], ◌∷◌, ◌++◌, Bool, true, false, ◌&&◌, ◌||◌, Option, Some, None, bytes_eq, map}
 use Rattle.std.specs.Prelude.{cond, not}
 use Rattle.std.specs.Borrow.{Bor}
-use Rattle.std.specs.List.{list_any, filter, Contains, AllByRecursion}
+use Rattle.std.specs.List.{list_any, filter, AllByRecursion}
 use Rattle.std.specs.List.Sorted.{IsStrictlySortedBy}
-use Rattle.std.specs.BTreeMap.{is_at}
 use Rattle.std.specs.BTreeMap.Range.{range_contains}
 use Rattle.std.specs.declared.cmp.Ordering.{Ordering}
 use Rattle.std.specs.declared.cmp.Ordering.TheVariants.{Less, Equal, Greater}
@@ -16,14 +15,13 @@ use Rattle.std.proofs.lemmas.Map.Text.{is_eq-slice_cmp}
 use Rattle.std.proofs.lemmas.Map.Views.{Contains-from_any, list_any-from_Contains}
 use Rattle.std.proofs.lemmas.Slice.Eq.{bytes_eq-Decides}
 use Rattle.gr_value.specs.declared.scalar.Scalar.{Scalar}
-use Rattle.gr_value.specs.Scalars.{scalar_eq}
 use Rattle.gr_value.specs.Sameness.{scalar_eq-Decides}
 use Rattle.gr_oql.specs.Events.{Present}
 use Rattle.gr_index.specs.declared.cell.Cell.{Cell}
 use Rattle.gr_index.specs.declared.cell.Mark.{Mark}
 use Rattle.gr_index.specs.declared.cell.Place.{Place}
 use Rattle.gr_index.specs.declared.cell.Place.TheVariants.{Before, At, Behind}
-use Rattle.gr_index.specs.Cells.{cell_cmp, mark_of, placed, cell_at, with_key, keys_in, keys_between}
+use Rattle.gr_index.specs.Cells.{cell_cmp, mark_of, placed, with_key, keys_in, keys_between}
 use Rattle.gr_index.specs.Index.{Index, scalar_in, is_scalar, has, IsIndexOf, AreKeysWith}
 use Rattle.gr_index.proofs.Marked.{mark_cmp, mark_total, both_equal}
 

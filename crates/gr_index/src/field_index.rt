@@ -1,9 +1,8 @@
-ghost use Rattle.std.specs.Prelude.{◌≡◌, ℕ, List, IfOk, OnOk, OnErr, cond, true, false, option_copied};
+ghost use Rattle.std.specs.Prelude.{◌≡◌, IfOk, OnOk, OnErr, cond, true, false, option_copied};
 ghost use Rattle.std.specs.BTreeSet.{contains};
 ghost use Rattle.std.specs.List.Sorted.{IsStrictlySortedBy};
 ghost use Rattle.std.specs.declared.cmp.Ordering.TheVariants.{Less};
 ghost use Rattle.gr_index.specs.declared.cell.Cell.{Cell};
-ghost use Rattle.gr_value.specs.declared.value.Field.{Field};
 ghost use Rattle.gr_oql.specs.Events.{Present};
 ghost use Rattle.gr_index.specs.Cells.{cell_cmp, is_cell, cell_of, left_behind, keys_between};
 ghost use Rattle.gr_index.specs.Index.{scalar_in, nowhere, turned_map, IsIndexOf, AreKeysWith};

@@ -1,4 +1,4 @@
-use Rattle.std.proofs.Common.{◌≡◌, ◌∙◌, sym, ap, subst}
+use Rattle.std.proofs.Common.{◌≡◌, ◌∙◌, ap, subst}
 use Rattle.std.specs.List.Sorted.{IsStrictlySortedBy}
 use Rattle.gr_index.specs.declared.cell.Place.TheVariants.{Before, Behind}
 use Rattle.gr_index.specs.Cells.{cell_cmp, placed, keys_between}

@@ -1,6 +1,6 @@
 use Rattle.std.proofs.Common.{◌≡◌, ◌∙◌, sym, ap, subst, option_copied, rules}
 use Rattle.gr_index.specs.Cells.{cell_of, left_behind}
-use Rattle.gr_index.specs.Index.{Index, scalar_in, IsIndexOf}
+use Rattle.gr_index.specs.Index.{scalar_in, IsIndexOf}
 use Rattle.gr_index.proofs.Turning.{turned_index}
 use Rattle.gr_index.proofs.field_index.FieldIndex.turn.Goals as goal
 
