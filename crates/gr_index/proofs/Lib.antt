@@ -1,1 +1,4 @@
 pub mod Answers
+pub mod Marked
+pub mod Turning
+pub mod Under
