@@ -1,3 +1,4 @@
+pub mod Amid
 pub mod Acts
 pub mod Doable
 pub mod Turns

@@ -67,15 +67,15 @@ impl Departing {
     }
 
     // Does what these lines name, in their order.
-    fn play_all(&mut self, stage: Stage, lines: &LineList) -> Result<(), Memory>
+    fn play_all(&mut self, stage: Stage, lines: LineList) -> Result<(), Memory>
         requires work { IsAtWork (heading_at stage) self.old.world }
-        requires stated { AllByRecursion (CanDo (heading_at stage)) lines.now }
+        requires stated { AllByRecursion (CanDo (heading_at stage)) lines }
         ensures done { IfOk result
-            (λ _. PlaysAt stage.entry (λ heading. after_all heading self.old.gone.items lines.now) self.old.world self.new.world) }
-        ensures gone { OnOk result (self.new.gone.items ≡ gone_after lines.now self.old.gone.items) }
+            (λ _. PlaysAt stage.entry (λ heading. after_all heading self.old.gone.items lines) self.old.world self.new.world) }
+        ensures gone { OnOk result (self.new.gone.items ≡ gone_after lines self.old.gone.items) }
     {
-        for line in lines.as_slice() {
-            self.play(stage, line.copy(stage.alloc)?)?;
+        for line in lines.into_vec() {
+            self.play(stage, line)?;
         }
         Ok(())
     }
@@ -91,7 +91,7 @@ impl Departing {
     {
         match turn {
             Turn::Line(line) => Ok(self.play(stage, line)?),
-            Turn::Lines(lines) => Ok(self.play_all(stage, &lines)?),
+            Turn::Lines(lines) => Ok(self.play_all(stage, lines)?),
         }
     }
 }
