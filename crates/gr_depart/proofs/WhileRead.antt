@@ -1,9 +1,10 @@
 -- A text's script is played while it is read.
-use Rattle.std.proofs.Common.{◌≡◌, ◌∙◌, ℕ, ◌+◌, ◌<◌, List, [], ◌∷◌, ◌++◌, length, reverse, refl, Bool, false, Option, Some, None, IfNone, IfSome, Ok, sym, ap, subst, arith}
+use Rattle.std.proofs.Common.{◌≡◌, ◌∙◌, ℕ, ◌+◌, ◌<◌, List, [], ◌∷◌, ◌++◌, length, reverse, refl, Bool, false, Option, Some, None, IfNone, IfSome, Result, Ok, Err, MatchResult, IsErrAnd, sym, ap, subst, arith}
 use Rattle.std.specs.List.{AllByRecursion, cons_option}
 use Rattle.std.proofs.lemmas.List.{reverse-reverse}
 use Rattle.gr_history.specs.declared.record.Record.{Record}
 use Rattle.gr_script.specs.declared.ending.ScriptEnd.{ScriptEnd}
+use Rattle.gr_script.specs.declared.ending.ScriptEnd.TheVariants.{Memory}
 use Rattle.gr_script.specs.declared.line.Line.{Line}
 use Rattle.gr_script.specs.Expanded.{expanded, expansion}
 use Rattle.gr_script.specs.Rules.{Heading, IsScript}
@@ -131,6 +132,12 @@ pub record AreLaws : Type 0 where
   pub in_order : (heading : Heading) (lines : List Line) → IsScript heading lines → (left : Record) → IsReplayed heading lines left
       → FollowsLines heading lines (histories_in left)
   pub shut : (heading : Heading) (lines : List Line) → IsScript heading lines → AreShut heading (reverse lines)
+
+-- Want of memory may end it at any place.
+pub out_of_memory : (text : List ℕ) (played : Result Record ScriptEnd) → IsErrAnd played (λ end. end ≡ Memory)
+    → MatchResult played (IsPlayed text) (λ end. Ends end (script_of false text))
+out_of_memory text (Ok left) no = absurd no
+out_of_memory text (Err end) is = subst (λ (why : ScriptEnd). Ends why (script_of false text)) (sym is) tt
 
 -- A later fault ends the reading of the text.
 pub still_ends : (text : List ℕ) (heading : Heading) (t : Taken) (next : Option Line) (world : Departing) (expander : Expander)
