@@ -136,7 +136,7 @@ pub record AreLaws : Type 0 where
 -- Want of memory may end it at any place.
 pub out_of_memory : (text : List ℕ) (played : Result Record ScriptEnd) → IsErrAnd played (λ end. end ≡ Memory)
     → MatchResult played (IsPlayed text) (λ end. Ends end (script_of false text))
-out_of_memory text (Ok left) no = absurd no
+out_of_memory text (Ok record_of) none = absurd none
 out_of_memory text (Err end) is = subst (λ (why : ScriptEnd). Ends why (script_of false text)) (sym is) tt
 
 -- A later fault ends the reading of the text.
