@@ -1,4 +1,2 @@
-pub mod Asked
 pub mod Endings
-pub mod Wanted
 pub mod Wording
