@@ -42,6 +42,16 @@ pub fn are_causes_so(alloc: Global) -> io::Result<bool> {
             6,
         ),
         (Cause::Memory, "georep: no memory\n", 7),
+        (
+            Cause::NoMember(8),
+            "georep: the script has no member 8\n",
+            9,
+        ),
+        (
+            Cause::OtherRegion,
+            "georep: the query asks another region\n",
+            10,
+        ),
     ];
     for (cause, line, status) in &causes {
         if !is_cause_so(alloc, cause, line, *status)? {

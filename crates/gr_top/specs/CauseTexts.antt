@@ -2,7 +2,7 @@
 use Rattle.std.specs.Prelude.{ℕ, ◌+◌, List, [], ◌++◌, codes, decimal}
 use Rattle.gr_script.specs.Reasons.{number_of, name_of}
 use Rattle.gr_top.specs.declared.cause.Cause.{Cause}
-use Rattle.gr_top.specs.declared.cause.Cause.TheVariants.{Finished, Usage, ReadFault, TooLarge, Script, WriteFault, Memory}
+use Rattle.gr_top.specs.declared.cause.Cause.TheVariants.{Finished, Usage, ReadFault, TooLarge, Script, WriteFault, Memory, NoMember, OtherRegion}
 
 abbrev pub text_of_cause : Cause → List ℕ
 text_of_cause Finished = []
@@ -14,3 +14,5 @@ text_of_cause (Script fault) =
     ++ codes "\n"
 text_of_cause WriteFault = codes "georep: the output can't be written\n"
 text_of_cause Memory = codes "georep: no memory\n"
+text_of_cause (NoMember member) = codes "georep: the script has no member " ++ decimal member ++ codes "\n"
+text_of_cause OtherRegion = codes "georep: the query asks another region\n"

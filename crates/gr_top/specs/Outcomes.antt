@@ -1,5 +1,5 @@
 -- What each cause says of the words, the source, the sink and the record.
-use Rattle.std.specs.Prelude.{◌≡◌, ◌⊎◌, ℕ, ◌+◌, List, length, Option, Some, None, Result, Ok, Err, Bool, true, false, IfSome, IsSomeAnd}
+use Rattle.std.specs.Prelude.{◌≡◌, ◌⊎◌, ℕ, ◌+◌, ◌≤◌, List, length, Option, Some, None, Result, Ok, Err, Bool, true, false, IfSome, IsSomeAnd}
 use Rattle.std.specs.Io.KnownBytes.{Appends, Consumes}
 use Rattle.gr_history.specs.declared.record.Record.{Record}
 use Rattle.gr_io.specs.Ends.{AppendsPart}
@@ -14,18 +14,21 @@ use Rattle.gr_script.specs.Cuts.{line_count}
 use Rattle.gr_script.specs.Drill.{IsDrill}
 use Rattle.gr_script.specs.Expanded.{expansion}
 use Rattle.gr_script.specs.Printed.{script_text}
+use Rattle.gr_script.specs.Rules.{Heading}
 use Rattle.gr_script.specs.Said.{script_of}
 use Rattle.gr_script.specs.Scripts.{heading_of}
 use Rattle.gr_world.specs.Played.{IsPlayed}
 use Rattle.gr_top.specs.declared.cause.Cause.{Cause}
-use Rattle.gr_top.specs.declared.cause.Cause.TheVariants.{Finished, Usage, ReadFault, TooLarge, Script, WriteFault, Memory}
+use Rattle.gr_top.specs.declared.cause.Cause.TheVariants.{Finished, Usage, ReadFault, TooLarge, Script, WriteFault, Memory, NoMember, OtherRegion}
 use Rattle.gr_top.specs.Causes.{status_of}
 use Rattle.gr_top.specs.CauseTexts.{text_of_cause}
 use Rattle.gr_top.specs.declared.words.Detail.{Detail}
-use Rattle.gr_top.specs.declared.words.Mode.TheVariants.{Check, Replay}
+use Rattle.gr_top.specs.declared.words.Mode.TheVariants.{Check, Replay, At}
 use Rattle.gr_top.specs.declared.words.Request.{Request}
 use Rattle.gr_top.specs.declared.words.Request.TheVariants.{Alone, Run, Drill}
+use Rattle.gr_top.specs.declared.words.Wanted.{Wanted}
 use Rattle.gr_top.specs.ReportTexts.{report_text}
+use Rattle.gr_top.specs.Wants.{HasWanted, LacksWanted, IsWantedText}
 use Rattle.gr_top.specs.Words.{request_of}
 use Rattle.gr_top.specs.Arguments.{AreWords}
 
@@ -60,6 +63,26 @@ pub record IsReplayOf (source : Stream) (record_of : Record) : Type 0 where
   pub text : List ℕ
   pub whole : IsWhole source text
   pub played : IsPlayed text record_of
+
+-- So it is, and that script has the member of which something is wanted, and a query's region.
+pub record IsReplayFor (member : ℕ) (wanted : Wanted) (source : Stream) (record_of : Record) : Type 0 where
+  pub replay : IsReplayOf source record_of
+  pub has : HasWanted member wanted replay.played.heading
+
+-- The source had a script, which lacks what is wanted of a member: why is the cause.
+pub record IsScriptWithout (member : ℕ) (wanted : Wanted) (source : Stream) (why : Cause) : Type 0 where
+  pub text : List ℕ
+  pub script : TheScript
+  pub given : IsGiven false source text script
+  pub lacks : LacksWanted member wanted (heading_of script) why
+
+-- so it is where something is wanted of a member
+abbrev pub IsWithout : Request → Stream → Cause → Type 0
+IsWithout (Alone Check) source why = ⊥
+IsWithout (Alone (Replay detail)) source why = ⊥
+IsWithout (Alone (At member wanted)) source why = IsScriptWithout member wanted source why
+IsWithout (Run detail) source why = ⊥
+IsWithout (Drill start steps) source why = ⊥
 
 -- The record is what threads left of the script which the source had, expanded, in whatever order they and their mail
 -- went.
@@ -105,6 +128,7 @@ IsWithinMost source = TookAtMost most_bytes source
 abbrev pub Keeps : Request → Stream → Option Record → Type 0
 Keeps (Alone Check) source kept = kept ≡ None
 Keeps (Alone (Replay detail)) source kept = IfSome kept (IsReplayOf source)
+Keeps (Alone (At member wanted)) source kept = IfSome kept (IsReplayFor member wanted source)
 Keeps (Run detail) source kept = IfSome kept (IsRunOf source)
 Keeps (Drill start steps) source kept =
     IsUntouched source × IfSome kept (λ record_of. (script : TheScript) × IsDrillOf start steps script record_of)
@@ -116,11 +140,13 @@ pub record IsPrinted (source : Stream) (printed : List ℕ) : Type 0 where
   pub given : IsGiven false source text script
   pub printed_is : printed ≡ script_text (heading_of script) script.lines
 
--- What is printed: the script, the text of the record, or its summary.
+-- What is printed: the script, the text of the record, what is wanted of a member, or the summary.
 abbrev pub Prints : Request → Stream → Option Record → List ℕ → Type 0
 Prints (Alone Check) source kept text = (kept ≡ None) × IsPrinted source text
 Prints (Alone (Replay detail)) source kept text =
     IsSomeAnd kept (λ record_of. IsReplayOf source record_of × (text ≡ report_text detail record_of))
+Prints (Alone (At member wanted)) source kept text =
+    IsSomeAnd kept (λ record_of. IsReplayFor member wanted source record_of × IsWantedText member wanted record_of text)
 Prints (Run detail) source kept text =
     IsSomeAnd kept (λ record_of. IsRunOf source record_of × (text ≡ report_text detail record_of))
 Prints (Drill start steps) source kept text =
@@ -147,11 +173,18 @@ Explains request source sink kept (Script fault) =
 Explains request source sink kept WriteFault =
     (text : List ℕ) × Prints request source kept text × AppendsPart sink.bytes_before sink.bytes_after text × Counted sink
 Explains request source sink kept Memory = Keeps request source kept × IsWithinMost source × IsUntouched sink
+Explains request source sink kept (NoMember member) = (kept ≡ None) × IsWithout request source (NoMember member) × IsUntouched sink
+Explains request source sink kept OtherRegion = (kept ≡ None) × IsWithout request source OtherRegion × IsUntouched sink
+
+-- The place of a word that isn't understood is told, or that memory was refused for a query, the third word.
+abbrev pub IsMisunderstood : ℕ → Cause → Type 0
+IsMisunderstood place cause = (cause ≡ Usage place) ⊎ ((cause ≡ Memory) × (2 ≤ place))
 
 -- The same by the words. Where they aren't understood nothing happens.
 abbrev pub Answers : Result Request ℕ → Stream → Stream → Option Record → Cause → Type 0
 Answers (Ok request) source sink kept cause = Explains request source sink kept cause
-Answers (Err place) source sink kept cause = (cause ≡ Usage place) × (kept ≡ None) × IsUntouched source × IsUntouched sink
+Answers (Err place) source sink kept cause =
+    IsMisunderstood place cause × (kept ≡ None) × IsUntouched source × IsUntouched sink
 
 -- The cause explains it whatever sink stood by untouched, with no record kept.
 abbrev pub Stops : Request → Stream → Cause → Type 0

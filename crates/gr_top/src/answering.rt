@@ -7,6 +7,7 @@ ghost use Rattle.gr_top.specs.declared.words.Mode.TheVariants as mode;
 ghost use Rattle.gr_top.specs.declared.words.Request.TheVariants as request;
 ghost use Rattle.gr_io.specs.Streams.{stream};
 
+use crate::asking::answer_at;
 use crate::giving::{cause_of, script_from, text_from};
 use crate::handing::{Played, ended, hand_out, report_outcome};
 use crate::words::{Detail, Mode, mode_of};
@@ -81,6 +82,7 @@ pub(crate) fn answer_alone<S: Source, K: Sink>(
     match mode {
         Mode::Check => ended(check(alloc, source, sink), None),
         Mode::Replay { detail } => replay_answer(alloc, detail, source, sink),
+        Mode::At { member, wanted } => answer_at(alloc, member, &wanted, source, sink),
     }
 }
 
@@ -101,8 +103,8 @@ pub fn replay_words<S: Source, K: Sink>(
         (stream (K.held sink.old) (K.held sink.new) (K.faults sink.old) (K.faults sink.new))
         result.kept result.cause }
 {
-    match mode_of(words) {
-        Err(place) => ended(Cause::Usage(place), None),
+    match mode_of(alloc, words) {
+        Err(cause) => ended(cause, None),
         Ok(mode) => answer_alone(alloc, mode, source, sink),
     }
 }

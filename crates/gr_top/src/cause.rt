@@ -16,6 +16,10 @@ pub enum Cause {
     Script(ScriptFault),
     WriteFault,
     Memory,
+    /// The script has no member of this number.
+    NoMember(u8),
+    /// The query asks another region than the script's.
+    OtherRegion,
 }
 
 impl Cause {
@@ -31,6 +35,8 @@ impl Cause {
             Cause::Script(_) => 5,
             Cause::WriteFault => 6,
             Cause::Memory => 7,
+            Cause::NoMember(_) => 9,
+            Cause::OtherRegion => 10,
         }
     }
 }

@@ -40,6 +40,12 @@ pub(crate) fn tell<K: Sink>(errors: &mut K, cause: &Cause) -> Result<(), WriteFa
         }
         Cause::WriteFault => write_each(errors, &["georep: the output can't be written\n"]),
         Cause::Memory => write_each(errors, &["georep: no memory\n"]),
+        Cause::NoMember(member) => {
+            let mut number = Buffer::new();
+            let number = number.format(*member);
+            write_each(errors, &["georep: the script has no member ", number, "\n"])
+        }
+        Cause::OtherRegion => write_each(errors, &["georep: the query asks another region\n"]),
     }
 }
 

@@ -3,12 +3,15 @@
 
 mod answering;
 mod arguments;
+mod asking;
 mod cause;
 mod cause_texts;
 mod concluding;
 mod giving;
 mod handing;
+mod member_words;
 mod report_texts;
+mod row_texts;
 mod running;
 mod words;
 

@@ -145,8 +145,8 @@ pub fn georep<R: Threads + Wait + Sync, S: Source, K: Sink, G: Gate>(
         (stream (K.held sink.old) (K.held sink.new) (K.faults sink.old) (K.faults sink.new))
         result.kept result.cause }
 {
-    match request_of(words) {
-        Err(place) => ended(Cause::Usage(place), None),
+    match request_of(alloc, words) {
+        Err(cause) => ended(cause, None),
         Ok(Request::Alone(mode)) => answer_alone(alloc, mode, source, sink),
         Ok(Request::Run { detail }) => run_answer(rt, alloc, detail, source, sink, gate),
         Ok(Request::Drill { start, steps }) => drill_answer(rt, alloc, start, steps, sink, gate),

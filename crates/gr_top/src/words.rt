@@ -1,8 +1,13 @@
-ghost use Rattle.std.specs.Prelude.{◌≡◌, map, string_bytes, IfOk};
+ghost use Rattle.std.specs.Prelude.{◌≡◌, ℕ, Result, map, string_bytes, IfOk};
 ghost use Rattle.gr_top.specs.Words.{alone, asked_alone, asked_replay, asked_run, behind_drill, behind_flag, behind_report};
-ghost use Rattle.gr_top.specs.Words.{behind_start, IsFit, mode_of, number_in, request_of, told_behind};
+ghost use Rattle.gr_top.specs.Words.{behind_start, IsFit, mode_of, number_in, request_of, told_behind, Understands};
+ghost use Rattle.gr_top.specs.declared.words.Mode.{Mode as TheMode};
 
+use crate::Cause;
+use crate::member_words::behind_ask;
+use gr_oql::Query;
 use gr_script::number_of;
+use std::alloc::Global;
 
 /// What a report tells besides what clients were told and what stands at the members.
 #[derive(Clone, Copy)]
@@ -15,17 +20,26 @@ pub(crate) enum Detail {
     Tables,
 }
 
+/// What is wanted of a member.
+#[derive(Drop)]
+pub(crate) enum Wanted {
+    /// The rows that a query finds in its last region.
+    Rows(Query),
+}
+
 /// What needs no threads.
-#[derive(Clone, Copy)]
+#[derive(Drop)]
 pub(crate) enum Mode {
     /// Prints the script.
     Check,
     /// Replays the script and prints the report.
     Replay { detail: Detail },
+    /// Replays the script and prints what is wanted of this member.
+    At { member: u8, wanted: Wanted },
 }
 
 /// What the words ask for.
-#[derive(Clone, Copy)]
+#[derive(Drop)]
 pub(crate) enum Request {
     Alone(Mode),
     /// Runs the script and prints the report.
@@ -40,7 +54,8 @@ const MOST_START: u32 = 2_147_483_646;
 /// The most steps of a drill.
 const MOST_STEPS: u32 = 50_000;
 
-fn alone<X: Copy>(place: u32, asked: X, words: &[String]) -> Result<X, u32>
+/// What is asked for, where no word is left.
+pub(crate) fn alone<X: Drop>(place: u32, asked: X, words: &[String]) -> Result<X, u32>
     ensures { result ≡ alone place asked (map (λ word. string_bytes word) words.now) }
 {
     if words.is_empty() {
@@ -81,19 +96,30 @@ fn behind_flag(detail: Detail, words: &[String]) -> Result<Mode, u32>
     }
 }
 
+/// What is understood of words, by the cause that is told where they aren't.
+pub(crate) fn understood<X>(asked: Result<X, u32>) -> Result<X, Cause>
+    ensures { Understands asked result }
+{
+    match asked {
+        Ok(asked) => Ok(asked),
+        Err(place) => Err(Cause::Usage(place)),
+    }
+}
+
 /// The mode that the words name, or the place of the first word that isn't understood, counted from 0.
-pub(crate) fn mode_of(words: &[String]) -> Result<Mode, u32>
-    ensures { result ≡ mode_of (map (λ word. string_bytes word) words.now) }
+pub(crate) fn mode_of(alloc: Global, words: &[String]) -> Result<Mode, Cause>
+    ensures { Understands (mode_of (map (λ word. string_bytes word) words.now)) result }
 {
     let [word, rest @ ..] = words else {
-        return Err(0);
+        return Err(Cause::Usage(0));
     };
     match word.as_str() {
-        "check" => alone(1, Mode::Check, rest),
-        "replay" => asked_replay(behind_report(rest)),
-        "--history" => behind_flag(Detail::Histories, rest),
-        "--tables" => behind_flag(Detail::Tables, rest),
-        _ => Err(0),
+        "check" => understood(alone(1, Mode::Check, rest)),
+        "replay" => understood(asked_replay(behind_report(rest))),
+        "ask" => behind_ask(alloc, rest),
+        "--history" => understood(behind_flag(Detail::Histories, rest)),
+        "--tables" => understood(behind_flag(Detail::Tables, rest)),
+        _ => Err(Cause::Usage(0)),
     }
 }
 
@@ -157,19 +183,28 @@ fn told_behind(detail: Detail, words: &[String]) -> Result<Request, u32>
     }
 }
 
+fn alone_of(mode: Result<Mode, Cause>) -> Result<Request, Cause>
+    ensures { (asked : Result TheMode ℕ) → Understands asked mode → Understands (asked_alone asked) result }
+{
+    match mode {
+        Ok(mode) => Ok(Request::Alone(mode)),
+        Err(cause) => Err(cause),
+    }
+}
+
 /// What the words ask for, or the place of the first word that isn't understood, counted from 0.
-pub(crate) fn request_of(words: &[String]) -> Result<Request, u32>
-    ensures exact { result ≡ request_of (map (λ word. string_bytes word) words.now) }
+pub(crate) fn request_of(alloc: Global, words: &[String]) -> Result<Request, Cause>
+    ensures exact { Understands (request_of (map (λ word. string_bytes word) words.now)) result }
     ensures fit { IfOk result IsFit }
 {
     let [word, rest @ ..] = words else {
-        return Err(0);
+        return Err(Cause::Usage(0));
     };
     match word.as_str() {
-        "run" => asked_run(behind_report(rest)),
-        "drill" => behind_drill(rest),
-        "--history" => told_behind(Detail::Histories, rest),
-        "--tables" => told_behind(Detail::Tables, rest),
-        _ => asked_alone(mode_of(words)),
+        "run" => understood(asked_run(behind_report(rest))),
+        "drill" => understood(behind_drill(rest)),
+        "--history" => understood(told_behind(Detail::Histories, rest)),
+        "--tables" => understood(told_behind(Detail::Tables, rest)),
+        _ => alone_of(mode_of(alloc, words)),
     }
 }
