@@ -15,7 +15,7 @@ impl Operand {
         ensures { option_copied result ≡ scalar_at value.now self.now }
     {
         match self {
-            Operand::Field(name) => value.field(name.as_str()),
+            Operand::Field(name) => value.field_named(name),
             Operand::Literal(scalar) => Some(scalar),
         }
     }
@@ -48,10 +48,10 @@ impl Test {
         ensures { result ≡ test_truth value.now self.now }
     {
         match self {
-            Test::Defined(name) => Truth::from(value.field(name.as_str()).is_some()),
-            Test::Undefined(name) => Truth::from(value.field(name.as_str()).is_none()),
+            Test::Defined(name) => Truth::from(value.field_named(name).is_some()),
+            Test::Undefined(name) => Truth::from(value.field_named(name).is_none()),
             Test::Like { field, pattern } => {
-                like_truth(value.field(field.as_str()), pattern.as_str())
+                like_truth(value.field_named(field), pattern.as_str())
             }
             Test::Among { operand, literals } => among(operand.scalar(value), literals.as_slice()),
             Test::Compare {

@@ -80,10 +80,7 @@ fn compared(relation: Relation, one: &Scalar, two: &Scalar) -> Truth
     match (one, two) {
         (Scalar::Int(one), Scalar::Int(two)) => by_order(relation, one.cmp(two)),
         (Scalar::Text(one), Scalar::Text(two)) => {
-            by_order(
-                relation,
-                one.as_str().as_bytes().cmp(two.as_str().as_bytes()),
-            )
+            by_order(relation, one.bytes().cmp(two.bytes()))
         }
         (Scalar::Bool(one), Scalar::Bool(two)) => by_sameness(relation, one == two),
         (Scalar::Null, Scalar::Null) => by_sameness(relation, true),

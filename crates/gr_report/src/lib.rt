@@ -23,3 +23,4 @@ pub use laws::steps_read_as_their_lines;
 pub use put::{put_number, put_text};
 pub use reporting::{report, report_in, report_open};
 pub use summing::summary;
+pub use written::{Written, put_all};

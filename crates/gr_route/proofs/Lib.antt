@@ -1,2 +1,9 @@
 pub mod Reaching
 pub mod Numbering
+pub mod Finite
+pub mod Leaving
+pub mod Touching
+pub mod Moving
+pub mod Lists
+pub mod Finding
+pub mod Adding

@@ -29,7 +29,7 @@ fn meets(value: Option<&Value>, must: &Must) -> bool
 {
     match value {
         None => false,
-        Some(value) => is_scalar(value.field(must.field.as_str()), &must.equal),
+        Some(value) => is_scalar(value.field_named(&must.field), &must.equal),
     }
 }
 

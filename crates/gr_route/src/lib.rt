@@ -1,11 +1,16 @@
-//! Which of the enrolled queries a change can concern.
+//! Which queries a change can concern, and the events of all queries that a history opened.
 #![tactic(auto)]
 
+mod by_key;
+mod coming;
 mod enrolled;
 mod laws;
+mod openings;
 mod router;
 #[cfg(test)]
 mod tests;
+mod turning;
 
 pub use laws::unreached_queries_are_told_nothing;
+pub use openings::{Opening, OpeningList, events};
 pub use router::{IdList, Router};

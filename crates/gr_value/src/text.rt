@@ -122,8 +122,8 @@ impl Text {
         })
     }
 
-    // Without a look at whether the bytes are UTF-8, which `as_str` takes.
-    pub(crate) fn bytes(&self) -> &[u8]
+    /// Its bytes, without the look at whether they are UTF-8 that `as_str` takes.
+    pub fn bytes(&self) -> &[u8]
         ensures bytes { result.now ≡ self.now }
         ensures utf8 { IsTrue (is_utf8 self.now) }
     {

@@ -76,15 +76,28 @@ impl Value {
         self.shared.as_slice()
     }
 
-    /// The scalar of the field with this name.
-    pub fn field(&self, name: &str) -> Option<&Scalar>
+    fn find(&self, name: &[u8]) -> Option<&Scalar>
         ensures { option_copied result ≡ field_of name.now self.now }
     {
         let field = self
             .fields()
             .iter()
-            .find(|field| field.name.bytes() == name.as_bytes())?;
+            .find(|field| field.name.bytes() == name)?;
         Some(&field.scalar)
+    }
+
+    /// The scalar of the field with this name.
+    pub fn field(&self, name: &str) -> Option<&Scalar>
+        ensures { option_copied result ≡ field_of name.now self.now }
+    {
+        self.find(name.as_bytes())
+    }
+
+    /// The same of a name that is held as a text.
+    pub fn field_named(&self, name: &Text) -> Option<&Scalar>
+        ensures { option_copied result ≡ field_of name.now self.now }
+    {
+        self.find(name.bytes())
     }
 
     /// Whether both have the same fields.

@@ -1,0 +1,89 @@
+-- What stands at the keys, deed by deed.
+use Rattle.std.specs.Prelude.{◌≡◌, ℕ, List, [], ◌∷◌, ◌++◌, Bool, ◌&&◌, not, map, filter, bytes_eq, Option, Some, None, if◌then◌else◌}
+use Rattle.std.specs.List.{fold}
+use Rattle.std.specs.Ordering.{nat_cmp}
+use Rattle.std.specs.Cmp.Lexicographic.{slice_cmp}
+use Rattle.std.specs.FinMap as finite
+use Rattle.gr_vector.specs.Ids.{has_id}
+use Rattle.gr_stamp.specs.declared.change.Change.{Change}
+use Rattle.gr_stamp.specs.Winner.{wins}
+use Rattle.gr_oql.specs.declared.event.Turned.{Turned}
+use Rattle.gr_history.specs.declared.deed.Deed.{Deed}
+use Rattle.gr_history.specs.declared.deed.Deed.TheVariants.{Call, Asked, Taken, Gave, Imaged, Reported, Heard, Swept}
+use Rattle.gr_history.specs.Ids.{id_of, ids}
+use Rattle.gr_history.specs.Regions.{with_key}
+use Rattle.gr_history.specs.Standing.{drops, standing}
+use Rattle.gr_history.specs.Turned.{is_other, turned_by, turned}
+
+-- what stands by the bytes of keys
+abbrev pub ByKey : Type 0 → Type 0
+ByKey V = finite.FinMap (slice_cmp nat_cmp) V
+
+abbrev pub names_in : {V : Type 0} → ByKey V → List (List ℕ)
+names_in all = map (λ entry. entry.0) (finite.entries all)
+
+-- with this at a key, or nothing
+abbrev pub with_value : {V : Type 0} → List ℕ → Option V → ByKey V → ByKey V
+with_value key None all = finite.remove all key
+with_value key (Some value) all = finite.insert all key value
+
+abbrev pub Changes : Type 0
+Changes = ByKey Change
+
+-- They are what stands behind this history.
+abbrev pub Stand : Changes → List Deed → Type 0
+Stand changes past = (key : List ℕ) → finite.get changes key ≡ standing key past
+
+-- the keys that each deed turns, the oldest deed first
+abbrev pub turned_each : List Deed → List (List Turned)
+turned_each [] = []
+turned_each (deed ∷ past) = turned_each past ++ turned deed past ∷ []
+
+-- ---- a deed, by what came in and what stands before it
+
+-- the rows of an image that a history doesn't know
+abbrev pub fresh : List Deed → List Change → List Change
+fresh past rows = filter (λ row. not (has_id (id_of row) (ids past))) rows
+
+abbrev pub better : List ℕ → Change → Option Change → Option Change
+better key change before = if bytes_eq change.key key && wins change before then Some change else before
+
+-- what wins once these changes came in, the newest first, where this one won before
+abbrev pub won_over : List ℕ → List Change → Option Change → Option Change
+won_over key [] before = before
+won_over key (change ∷ came) before = better key change (won_over key came before)
+
+-- what a deed leaves at a key
+abbrev pub left_at : Deed → List Change → List ℕ → Option Change → Option Change
+left_at deed came key before = if drops key deed before then None else won_over key came before
+
+abbrev pub turns_in : Deed → List Change → Changes → List ℕ → Bool
+turns_in deed came changes key = is_other (finite.get changes key) (left_at deed came key (finite.get changes key))
+
+abbrev pub turned_in : Deed → List Change → Changes → List ℕ → Turned
+turned_in deed came changes key = turned_by key (finite.get changes key) (left_at deed came key (finite.get changes key))
+
+abbrev pub moved_in : Deed → List Change → Changes → List ℕ → List ℕ × Option Change
+moved_in deed came changes key = (key, left_at deed came key (finite.get changes key))
+
+abbrev pub with_move : Changes → List ℕ × Option Change → Changes
+with_move changes move = with_value move.0 move.1 changes
+
+-- ---- the keys that a deed can turn
+
+abbrev pub could_drop : Deed → Changes → List (List ℕ)
+could_drop (Call client to seq ask reply made) changes = []
+could_drop (Asked client seq ask reply) changes = []
+could_drop (Taken change verdict) changes = []
+could_drop (Gave to what) changes = []
+could_drop (Imaged image) changes = names_in changes
+could_drop (Reported report) changes = []
+could_drop (Heard report) changes = []
+could_drop (Swept moment expired) changes = expired
+
+abbrev pub with_keys : List (List ℕ) → List (List ℕ) → List (List ℕ)
+with_keys keys more = fold (λ keys key. with_key key keys) keys more
+
+-- in order and each once
+abbrev pub touched : Deed → Changes → List Change → List (List ℕ)
+touched deed changes came = with_keys (with_keys [] (could_drop deed changes)) (map (λ change. change.key) came)
