@@ -3,6 +3,7 @@ use Rattle.std.proofs.Common.{◌≡◌, ◌∙◌, ℕ, suc, ◌+◌, ◌-◌, 
 use Rattle.std.specs.Prelude.{Option, Some, None, filter, flat_map}
 use Rattle.std.specs.List.{position, position_or_len}
 use Rattle.std.specs.BTreeSet.{insert_key}
+use Rattle.std.specs.FinMap as finite
 use Rattle.std.specs.Ordering.{nat_cmp, match_ordering}
 use Rattle.std.specs.Cmp.Lexicographic.{slice_cmp}
 use Rattle.std.proofs.Math.Seq.{drop-cons, drop-length}
@@ -15,7 +16,7 @@ use Rattle.gr_history.specs.declared.deed.Deed.{Deed}
 use Rattle.gr_history.specs.Regions.{with_key}
 use Rattle.gr_route.specs.Openings.{opened_by, openings_from}
 use Rattle.gr_route.specs.declared.openings.Opening.{Opening}
-use Rattle.gr_route.specs.Turning.{better, won_over, with_keys}
+use Rattle.gr_route.specs.Turning.{Changes, winners, with_keys, with_won}
 
 fold_last : {A B : Type 0} → (f : B → A → B) (start : B) (xs : List A) (x : A) → fold f start (xs ++ x ∷ []) ≡ f (fold f start xs) x
 fold_last f start [] x = refl
@@ -61,18 +62,18 @@ told_more f xs i d lt = ap (flat_map f) (take_more xs i d lt) ∙ sym (flat_map_
 
 -- ---- changes from the last to the first
 
-pub won_none : (key : List ℕ) (came : List Change) (stands : Option Change) → won_over key (drop (length came - 0) came) stands ≡ stands
-won_none key came stands =
+pub winners_none : (changes : Changes) (came : List Change) → finite.empty ≡ winners changes (drop (length came - 0) came)
+winners_none changes came =
     let all : length came - 0 ≡ length came = omega arith in
-    ap (λ n. won_over key (drop n came) stands) all ∙ ap (λ rest. won_over key rest stands) (drop-length came)
+    sym (ap (λ n. winners changes (drop n came)) all ∙ ap (winners changes) (drop-length came))
 
-pub won_more : (key : List ℕ) (came : List Change) (n : ℕ) (d : Change) (stands : Option Change) → n < length came
-    → better key (get_or came (length came - 1 - n) d) (won_over key (drop (length came - n) came) stands)
-    ≡ won_over key (drop (length came - (n + 1)) came) stands
-won_more key came n d stands lt =
-    ap (λ at. better key (get_or came (length came - 1 - n) d) (won_over key (drop at came) stands)) next
-    ∙ sym (ap (λ rest. won_over key rest stands) (drop-cons came (length came - 1 - n) d (omega (arith, lt))))
-    ∙ ap (λ at. won_over key (drop at came) stands) before
+pub winners_more : (changes : Changes) (came : List Change) (n : ℕ) (d : Change) → n < length came
+    → with_won changes (get_or came (length came - 1 - n) d) (winners changes (drop (length came - n) came))
+    ≡ winners changes (drop (length came - (n + 1)) came)
+winners_more changes came n d lt =
+    ap (λ at. with_won changes (get_or came (length came - 1 - n) d) (winners changes (drop at came))) next
+    ∙ sym (ap (winners changes) (drop-cons came (length came - 1 - n) d (omega (arith, lt))))
+    ∙ ap (λ at. winners changes (drop at came)) before
   where
     next : length came - n ≡ suc (length came - 1 - n)
     next = omega (arith, lt)

@@ -5,7 +5,18 @@ use Rattle.gr_stamp.specs.declared.change.Change.{Change}
 use Rattle.gr_stamp.specs.Winner.{winner, wins}
 use Rattle.gr_history.specs.declared.deed.Deed.{Deed}
 use Rattle.gr_history.specs.Standing.{came, drops, has_key, lasting, standing}
-use Rattle.gr_route.specs.Turning.{better, won_over, left_at}
+
+abbrev pub better : List ℕ → Change → Option Change → Option Change
+better key change before = if bytes_eq change.key key && wins change before then Some change else before
+
+-- what wins at a key once these changes came in, the newest first, where this one won before
+abbrev pub won_over : List ℕ → List Change → Option Change → Option Change
+won_over key [] before = before
+won_over key (change ∷ came) before = better key change (won_over key came before)
+
+-- what a deed leaves at a key
+abbrev pub left_at : Deed → List Change → List ℕ → Option Change → Option Change
+left_at deed came key before = if drops key deed before then None else won_over key came before
 
 won : (key : List ℕ) (came past : List Change) → winner key (came ++ past) ≡ won_over key came (winner key past)
 won key [] past = refl

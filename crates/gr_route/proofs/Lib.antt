@@ -2,8 +2,9 @@ pub mod Reaching
 pub mod Numbering
 pub mod Finite
 pub mod Leaving
+pub mod Coming
+pub mod Naming
 pub mod Touching
 pub mod Moving
 pub mod Lists
-pub mod Finding
 pub mod Adding

@@ -1,19 +1,21 @@
 -- What stands at the keys, deed by deed.
-use Rattle.std.specs.Prelude.{◌≡◌, ℕ, List, [], ◌∷◌, ◌++◌, Bool, ◌&&◌, not, map, filter, bytes_eq, Option, Some, None, if◌then◌else◌}
+use Rattle.std.specs.Prelude.{◌≡◌, ℕ, List, [], ◌∷◌, ◌++◌, Bool, not, map, filter, Option, Some, None, if◌then◌else◌}
+use Rattle.std.specs.Option.{option_or}
 use Rattle.std.specs.List.{fold}
 use Rattle.std.specs.Ordering.{nat_cmp}
 use Rattle.std.specs.Cmp.Lexicographic.{slice_cmp}
 use Rattle.std.specs.FinMap as finite
-use Rattle.gr_vector.specs.Ids.{has_id}
+use Rattle.gr_vector.specs.Ids.{Id, has_id}
 use Rattle.gr_stamp.specs.declared.change.Change.{Change}
 use Rattle.gr_stamp.specs.Winner.{wins}
 use Rattle.gr_oql.specs.declared.event.Turned.{Turned}
 use Rattle.gr_history.specs.declared.deed.Deed.{Deed}
 use Rattle.gr_history.specs.declared.deed.Deed.TheVariants.{Call, Asked, Taken, Gave, Imaged, Reported, Heard, Swept}
-use Rattle.gr_history.specs.Ids.{id_of, ids}
+use Rattle.gr_history.specs.Ids.{id_of, known}
 use Rattle.gr_history.specs.Regions.{with_key}
 use Rattle.gr_history.specs.Standing.{drops, standing}
 use Rattle.gr_history.specs.Turned.{is_other, turned_by, turned}
+use Rattle.gr_route.specs.declared.turning.Standing.{Standing}
 
 -- what stands by the bytes of keys
 abbrev pub ByKey : Type 0 → Type 0
@@ -34,42 +36,64 @@ Changes = ByKey Change
 abbrev pub Stand : Changes → List Deed → Type 0
 Stand changes past = (key : List ℕ) → finite.get changes key ≡ standing key past
 
+-- What stands at the keys, and the ids that are known, are those behind this history.
+abbrev pub IsBehind : List Deed → Standing → Type 0
+IsBehind past one = Stand one.changes past × (one.known.ids ≡ known past)
+
 -- the keys that each deed turns, the oldest deed first
 abbrev pub turned_each : List Deed → List (List Turned)
 turned_each [] = []
 turned_each (deed ∷ past) = turned_each past ++ turned deed past ∷ []
 
--- ---- a deed, by what came in and what stands before it
+-- ---- what comes in at a deed
 
--- the rows of an image that a history doesn't know
-abbrev pub fresh : List Deed → List Change → List Change
-fresh past rows = filter (λ row. not (has_id (id_of row) (ids past))) rows
+-- the rows of an image that aren't among these ids
+abbrev pub fresh : List Id → List Change → List Change
+fresh ids rows = filter (λ row. not (has_id (id_of row) ids)) rows
 
-abbrev pub better : List ℕ → Change → Option Change → Option Change
-better key change before = if bytes_eq change.key key && wins change before then Some change else before
+-- what wins at a key, by what won of what came in, where this stands before
+abbrev pub won_at : Changes → List ℕ → Option Change → Option Change
+won_at won key before = option_or (finite.get won key) before
 
--- what wins once these changes came in, the newest first, where this one won before
-abbrev pub won_over : List ℕ → List Change → Option Change → Option Change
-won_over key [] before = before
-won_over key (change ∷ came) before = better key change (won_over key came before)
+abbrev pub with_won : Changes → Change → Changes → Changes
+with_won changes change won =
+    if wins change (won_at won change.key (finite.get changes change.key)) then finite.insert won change.key change else won
+
+-- what wins at the keys of what came in, the newest first, where it isn't what stands
+abbrev pub winners : Changes → List Change → Changes
+winners changes [] = finite.empty
+winners changes (change ∷ came) = with_won changes change (winners changes came)
+
+-- ---- a deed, by what won and what stands before it
 
 -- what a deed leaves at a key
-abbrev pub left_at : Deed → List Change → List ℕ → Option Change → Option Change
-left_at deed came key before = if drops key deed before then None else won_over key came before
+abbrev pub left_by : Deed → Changes → List ℕ → Option Change → Option Change
+left_by deed won key before = if drops key deed before then None else won_at won key before
 
-abbrev pub turns_in : Deed → List Change → Changes → List ℕ → Bool
-turns_in deed came changes key = is_other (finite.get changes key) (left_at deed came key (finite.get changes key))
+abbrev pub turns_by : Deed → Changes → Changes → List ℕ → Bool
+turns_by deed won changes key = is_other (finite.get changes key) (left_by deed won key (finite.get changes key))
 
-abbrev pub turned_in : Deed → List Change → Changes → List ℕ → Turned
-turned_in deed came changes key = turned_by key (finite.get changes key) (left_at deed came key (finite.get changes key))
+abbrev pub turned_in : Deed → Changes → Changes → List ℕ → Turned
+turned_in deed won changes key = turned_by key (finite.get changes key) (left_by deed won key (finite.get changes key))
 
-abbrev pub moved_in : Deed → List Change → Changes → List ℕ → List ℕ × Option Change
-moved_in deed came changes key = (key, left_at deed came key (finite.get changes key))
+abbrev pub moved_by : Deed → Changes → Changes → List ℕ → List ℕ × Option Change
+moved_by deed won changes key = (key, left_by deed won key (finite.get changes key))
 
 abbrev pub with_move : Changes → List ℕ × Option Change → Changes
 with_move changes move = with_value move.0 move.1 changes
 
 -- ---- the keys that a deed can turn
+
+-- the keys that a sweep or an image names
+abbrev pub mentioned : Deed → List (List ℕ)
+mentioned (Call client to seq ask reply made) = []
+mentioned (Asked client seq ask reply) = []
+mentioned (Taken change verdict) = []
+mentioned (Gave to what) = []
+mentioned (Imaged image) = map (λ change. change.key) image.rows
+mentioned (Reported report) = []
+mentioned (Heard report) = []
+mentioned (Swept moment expired) = expired
 
 abbrev pub could_drop : Deed → Changes → List (List ℕ)
 could_drop (Call client to seq ask reply made) changes = []

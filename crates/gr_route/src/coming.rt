@@ -1,50 +1,25 @@
-ghost use Rattle.std.specs.Prelude.{◌≡◌, [], ◌∷◌, reverse, IfOk, option_copied};
-ghost use Rattle.gr_vector.specs.Ids.{is_same_id, has_id};
-ghost use Rattle.gr_history.specs.Ids.{id_of, ids, ids_at};
+ghost use Rattle.std.specs.Prelude.{◌≡◌, [], ◌∷◌, List, IfOk, OnOk, option_copied};
+ghost use Rattle.gr_vector.specs.Order.{united};
+ghost use Rattle.gr_history.specs.declared.deed.Deed.{Deed};
+ghost use Rattle.gr_history.specs.Ids.{ids_at, known};
 ghost use Rattle.gr_history.specs.Standing.{came};
-ghost use Rattle.gr_route.specs.Turning.{fresh, better, won_over};
+ghost use Rattle.gr_stamp.specs.Winner.{wins};
+ghost use Rattle.gr_route.specs.Turning.{fresh, winners, with_won};
 
+use crate::by_key::ByKey;
 use gr_history::{Deed, Verdict};
-use gr_stamp::{Change, ChangeList, Stamp, decide};
-use gr_value::{Copied, Key, Memory};
+use gr_stamp::{Change, ChangeList, decide};
+use gr_value::{Copied, Memory};
+use gr_vector::Vector;
 use std::alloc::Global;
 
-fn is_same_id(one: &Stamp, two: &Stamp) -> bool
-    ensures { result ≡ is_same_id (record { member = one.now.member; rv = one.now.rv }) (record { member = two.now.member; rv = two.now.rv }) }
-{
-    one.member() == two.member() && one.rv() == two.rv()
-}
-
-// Whether a change comes to be known by a deed.
-fn brings(deed: &Deed, change: &Change) -> bool
-    ensures { result ≡ has_id (id_of change.now) (ids_at deed.now) }
-{
-    let stamp = &change.stamp;
-    match deed {
-        Deed::Call {
-            made: Some(made),
-            ..
-        } => is_same_id(&made.stamp, stamp),
-        Deed::Taken { change: taken, .. } => is_same_id(&taken.stamp, stamp),
-        Deed::Imaged { image } => image.vector.holds(stamp.member(), stamp.rv()),
-        _ => false,
-    }
-}
-
-#[tactic(auto, using(crate::proofs::Finding::known_any))]
-fn is_known(past: &[Deed], change: &Change) -> bool
-    ensures { result ≡ has_id (id_of change.now) (ids (reverse past.now)) }
-{
-    past.iter().any(|deed| brings(deed, change))
-}
-
 // Those of the rows of an image that aren't known.
-fn fresh_rows(alloc: Global, rows: &[Change], past: &[Deed]) -> Result<ChangeList, Memory>
-    ensures { IfOk result (λ found. found ≡ fresh (reverse past.now) rows.now) }
+fn fresh_rows(alloc: Global, rows: &[Change], known: &Vector) -> Result<ChangeList, Memory>
+    ensures { IfOk result (λ found. found ≡ fresh known.now.ids rows.now) }
 {
     let mut found = ChangeList::new(alloc)?;
     for row in rows {
-        if !is_known(past, row) {
+        if !known.holds(row.stamp.member(), row.stamp.rv()) {
             found.push(row.copy(alloc)?)?;
         }
     }
@@ -59,9 +34,10 @@ fn one(alloc: Global, change: &Change) -> Result<ChangeList, Memory>
     Ok(all)
 }
 
-/// The changes that come in at a deed.
-pub fn came(alloc: Global, deed: &Deed, past: &[Deed]) -> Result<ChangeList, Memory>
-    ensures { IfOk result (λ all. all ≡ came deed.now (reverse past.now)) }
+/// The changes that come in at a deed, where these ids are known.
+#[tactic(auto, using(crate::proofs::Coming::fresh_known))]
+pub(crate) fn came(alloc: Global, deed: &Deed, ids: &Vector) -> Result<ChangeList, Memory>
+    ensures { IfOk result (λ all. (past : List Deed) → ids.now.ids ≡ known past → all ≡ came deed.now past) }
 {
     match deed {
         Deed::Call {
@@ -72,35 +48,67 @@ pub fn came(alloc: Global, deed: &Deed, past: &[Deed]) -> Result<ChangeList, Mem
             change,
             verdict: Verdict::Applied | Verdict::Discarded,
         } => one(alloc, change),
-        Deed::Imaged { image } => fresh_rows(alloc, image.rows.as_slice(), past),
+        Deed::Imaged { image } => fresh_rows(alloc, image.rows.as_slice(), ids),
         _ => Ok(ChangeList::new(alloc)?),
     }
 }
 
-// The change, where it is of the key and wins over what stands, else what stands.
-fn better<'a>(key: &Key, change: &'a Change, stands: Option<&'a Change>) -> Option<&'a Change>
-    ensures { option_copied result ≡ better key.now change.now (option_copied stands.entry) }
+/// Notes the ids that come to be known at a deed.
+pub(crate) fn note(ids: &mut Vector, deed: &Deed) -> Result<(), Memory>
+    ensures { OnOk result (ids.new.ids ≡ united ids.old.ids (ids_at deed.now)) }
 {
-    let held = match stands {
-        None => None,
-        Some(held) => Some(&held.stamp),
-    };
-    if change.key == *key && decide(held, &change.stamp) {
-        Some(change)
-    } else {
-        stands
+    match deed {
+        Deed::Call {
+            made: Some(change),
+            ..
+        }
+        | Deed::Taken { change, .. } => {
+            let _fresh = ids.note(change.stamp.member(), change.stamp.rv())?;
+            Ok(())
+        }
+        Deed::Imaged { image } => ids.unite(&image.vector),
+        _ => Ok(()),
     }
 }
 
-/// What wins at a key once these changes came in, the newest first, where this one won before.
-#[tactic(auto, using(crate::proofs::Adding::won_none, crate::proofs::Adding::won_more))]
-pub fn won_over<'a>(key: &Key, came: &'a [Change], stands: Option<&'a Change>) -> Option<&'a Change>
-    ensures { option_copied result ≡ won_over key.now came.now (option_copied stands.entry) }
+fn wins(change: &Change, stands: Option<&Change>) -> bool
+    ensures { result ≡ wins change.now (option_copied stands.entry) }
 {
-    let mut best = stands;
+    match stands {
+        None => true,
+        Some(held) => decide(Some(&held.stamp), &change.stamp),
+    }
+}
+
+// Makes a change that came in win at its key, where it wins over what won there before.
+fn let_win(
+    alloc: Global,
+    standing: &ByKey<Change>,
+    won: &mut ByKey<Change>,
+    change: &Change,
+) -> Result<(), Memory>
+    ensures { OnOk result (won.new ≡ with_won standing.now change.now won.old) }
+{
+    let key = &change.key;
+    if wins(change, won.get(key).or(standing.get(key))) {
+        won.put(key.copy(alloc)?, change.copy(alloc)?)?;
+    }
+    Ok(())
+}
+
+/// What wins at the keys of what came in, the newest first, where it isn't what stands.
+#[tactic(auto, using(crate::proofs::Coming::winners_none, crate::proofs::Coming::winners_more))]
+pub(crate) fn winners(
+    alloc: Global,
+    standing: &ByKey<Change>,
+    came: &[Change],
+) -> Result<ByKey<Change>, Memory>
+    ensures { IfOk result (λ won. won ≡ winners standing.now came.now) }
+{
+    let mut won = ByKey::new(alloc);
     let count = came.len();
     for done in 0..count {
-        best = better(key, &came[count - 1 - done], best);
+        let_win(alloc, standing, &mut won, &came[count - 1 - done])?;
     }
-    best
+    Ok(won)
 }

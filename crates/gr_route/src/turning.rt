@@ -1,64 +1,37 @@
-ghost use Rattle.std.specs.Prelude.{◌≡◌, [], ◌∷◌, ◌++◌, map, filter, reverse, IfOk, OnOk, option_copied};
+ghost use Rattle.std.specs.Prelude.{◌≡◌, [], ◌∷◌, ◌++◌, List, map, filter, reverse, IfOk, OnOk, option_copied};
 ghost use Rattle.std.specs.List.{fold};
-ghost use Rattle.gr_history.specs.Standing.{has_key, names, drops};
+ghost use Rattle.gr_history.specs.declared.deed.Deed.{Deed};
+ghost use Rattle.gr_history.specs.Standing.{drops};
 ghost use Rattle.gr_history.specs.Turned.{is_other, value_of, turned_by, turned};
 ghost use Rattle.gr_stamp.specs.Winner.{is_there};
-ghost use Rattle.gr_route.specs.Turning.{Stand, left_at, could_drop, touched, turns_in, turned_in, moved_in, with_keys, with_value, with_move, turned_each};
+ghost use Rattle.gr_route.specs.Turning.{could_drop, left_by, mentioned, moved_by, touched, turned_in, turned_each, turns_by, winners, with_keys, with_move, with_value};
+ghost use Rattle.gr_route.specs.Turning.{IsBehind};
 
 use crate::by_key::ByKey;
-use crate::coming::{came, won_over};
+use crate::coming::{came, note, winners};
 use gr_history::Deed;
 use gr_oql::Turned;
 use gr_stamp::{Change, Kind};
 use gr_value::{Copied, ItemList, Key, KeyList, Memory, Value};
+use gr_vector::Vector;
 use std::alloc::Global;
 use std::collections::BTreeSet;
 
 /// The keys that a deed turns, in order.
 pub type TurnedList = ItemList<Turned>;
 
-#[tactic(auto, using(crate::proofs::Finding::key_any))]
-fn has_key(key: &Key, changes: &[Change]) -> bool
-    ensures { result ≡ has_key key.now changes.now }
-{
-    changes.iter().any(|change| change.key == *key)
+/// What stands at the keys, and the ids that are known.
+#[derive(Drop)]
+struct Standing {
+    changes: ByKey<Change>,
+    known: Vector,
 }
 
-#[tactic(auto, using(crate::proofs::Finding::name_any))]
-fn is_among(key: &Key, keys: &[Key]) -> bool
-    ensures { result ≡ names key.now keys.now }
-{
-    keys.iter().any(|other| other == key)
-}
-
-// Whether a deed drops a key at which this stands.
-fn drops(key: &Key, deed: &Deed, stands: Option<&Change>) -> bool
-    ensures { result ≡ drops key.now deed.now (option_copied stands.entry) }
-{
-    match (deed, stands) {
-        (Deed::Swept { expired, .. }, _) => is_among(key, expired.as_slice()),
-        (Deed::Imaged { image }, Some(change)) => {
-            let stamp = &change.stamp;
-            !has_key(key, image.rows.as_slice()) && image.vector.holds(stamp.member(), stamp.rv())
-        }
-        _ => false,
-    }
-}
-
-// What stands at a key behind a deed, by what came in and what stood before it.
-fn left_at<'a>(
-    key: &Key,
-    deed: &Deed,
-    came: &'a [Change],
-    before: Option<&'a Change>,
-) -> Option<&'a Change>
-    ensures { option_copied result ≡ left_at deed.now came.now key.now (option_copied before.entry) }
-{
-    if drops(key, deed, before) {
-        None
-    } else {
-        won_over(key, came, before)
-    }
+/// What a deed brings: the keys that it names, and what wins at the keys of what comes in.
+#[derive(Drop)]
+struct Brought {
+    named: BTreeSet<Key>,
+    won: ByKey<Change>,
 }
 
 // Whether another change stands than before.
@@ -164,6 +137,52 @@ fn touched(
     Ok(set)
 }
 
+// The keys that a sweep or an image names.
+fn named(alloc: Global, deed: &Deed) -> Result<BTreeSet<Key>, Memory>
+    ensures { IfOk result (λ set. set.keys ≡ with_keys [] (mentioned deed.now)) }
+{
+    let mut set = BTreeSet::new(alloc);
+    match deed {
+        Deed::Swept { expired, .. } => add_keys(alloc, &mut set, expired.as_slice())?,
+        Deed::Imaged { image } => add_changed(alloc, &mut set, image.rows.as_slice())?,
+        _ => {}
+    }
+    Ok(set)
+}
+
+// Whether a deed drops a key at which this stands.
+#[tactic(auto, using(crate::proofs::Naming::named_has, crate::proofs::Naming::row_named))]
+fn drops(key: &Key, deed: &Deed, named: &BTreeSet<Key>, stands: Option<&Change>) -> bool
+    requires { named.now.keys ≡ with_keys [] (mentioned deed.now) }
+    ensures { result ≡ drops key.now deed.now (option_copied stands.entry) }
+{
+    match (deed, stands) {
+        (Deed::Swept { .. }, _) => named.contains(key),
+        (Deed::Imaged { image }, Some(change)) => {
+            let stamp = &change.stamp;
+            !named.contains(key) && image.vector.holds(stamp.member(), stamp.rv())
+        }
+        _ => false,
+    }
+}
+
+// What stands at a key behind a deed, by what it brings and what stood before it.
+fn left_by<'a>(
+    key: &Key,
+    deed: &Deed,
+    brought: &'a Brought,
+    before: Option<&'a Change>,
+) -> Option<&'a Change>
+    requires { brought.now.named.keys ≡ with_keys [] (mentioned deed.now) }
+    ensures { option_copied result ≡ left_by deed.now brought.now.won key.now (option_copied before.entry) }
+{
+    if drops(key, deed, &brought.named, before) {
+        None
+    } else {
+        brought.won.get(key).or(before)
+    }
+}
+
 /// The keys that a deed turns, and what it leaves at each of them.
 #[derive(Drop)]
 struct Turns {
@@ -185,17 +204,18 @@ fn add_turn(
     alloc: Global,
     standing: &ByKey<Change>,
     deed: &Deed,
-    came: &[Change],
+    brought: &Brought,
     key: &Key,
     turns: &mut Turns,
 ) -> Result<(), Memory>
+    requires { brought.now.named.keys ≡ with_keys [] (mentioned deed.now) }
     ensures turned { OnOk result (turns.new.turned ≡ turns.old.turned
-        ++ map (turned_in deed.now came.now standing.now) (filter (turns_in deed.now came.now standing.now) (key.now ∷ []))) }
+        ++ map (turned_in deed.now brought.now.won standing.now) (filter (turns_by deed.now brought.now.won standing.now) (key.now ∷ []))) }
     ensures moves { OnOk result (turns.new.moves.items ≡ turns.old.moves.items
-        ++ map (moved_in deed.now came.now standing.now) (filter (turns_in deed.now came.now standing.now) (key.now ∷ []))) }
+        ++ map (moved_by deed.now brought.now.won standing.now) (filter (turns_by deed.now brought.now.won standing.now) (key.now ∷ []))) }
 {
     let before = standing.get(key);
-    let behind = left_at(key, deed, came, before);
+    let behind = left_by(key, deed, brought, before);
     if is_other(before, behind) {
         turns.turned.push(turned_by(alloc, key, before, behind)?)?;
         turns
@@ -210,22 +230,43 @@ fn find_turns(
     alloc: Global,
     standing: &ByKey<Change>,
     deed: &Deed,
-    came: &[Change],
+    brought: &Brought,
+    keys: &BTreeSet<Key>,
 ) -> Result<Turns, Memory>
+    requires { brought.now.named.keys ≡ with_keys [] (mentioned deed.now) }
     ensures turned { IfOk result (λ turns. turns.turned
-        ≡ map (turned_in deed.now came.now standing.now) (filter (turns_in deed.now came.now standing.now) (touched deed.now standing.now came.now))) }
+        ≡ map (turned_in deed.now brought.now.won standing.now) (filter (turns_by deed.now brought.now.won standing.now) keys.now.keys)) }
     ensures moves { IfOk result (λ turns. turns.moves.items
-        ≡ map (moved_in deed.now came.now standing.now) (filter (turns_in deed.now came.now standing.now) (touched deed.now standing.now came.now))) }
+        ≡ map (moved_by deed.now brought.now.won standing.now) (filter (turns_by deed.now brought.now.won standing.now) keys.now.keys)) }
 {
-    let keys = touched(alloc, standing, deed, came)?;
     let mut turns = Turns {
         turned: TurnedList::new(alloc)?,
         moves: Vec::new(alloc),
     };
-    for key in &keys {
-        add_turn(alloc, standing, deed, came, key, &mut turns)?;
+    for key in keys {
+        add_turn(alloc, standing, deed, brought, key, &mut turns)?;
     }
     Ok(turns)
+}
+
+// The keys that a deed turns, where these changes come in.
+fn turns_of(
+    alloc: Global,
+    standing: &ByKey<Change>,
+    deed: &Deed,
+    came: &[Change],
+) -> Result<Turns, Memory>
+    ensures turned { IfOk result (λ turns. turns.turned ≡ map (turned_in deed.now (winners standing.now came.now) standing.now)
+        (filter (turns_by deed.now (winners standing.now came.now) standing.now) (touched deed.now standing.now came.now))) }
+    ensures moves { IfOk result (λ turns. turns.moves.items ≡ map (moved_by deed.now (winners standing.now came.now) standing.now)
+        (filter (turns_by deed.now (winners standing.now came.now) standing.now) (touched deed.now standing.now came.now))) }
+{
+    let brought = Brought {
+        named: named(alloc, deed)?,
+        won: winners(alloc, standing, came)?,
+    };
+    let keys = touched(alloc, standing, deed, came)?;
+    find_turns(alloc, standing, deed, &brought, &keys)
 }
 
 // Makes this change, or none, stand at a key.
@@ -242,50 +283,41 @@ fn set(standing: &mut ByKey<Change>, key: Key, change: Option<Change>) -> Result
 }
 
 // Makes at each of these keys what is beside it stand.
-#[tactic(auto, using(crate::proofs::Adding::fold_more))]
-fn set_each(
-    alloc: Global,
-    standing: &mut ByKey<Change>,
-    moves: &[(Key, Option<Change>)],
-) -> Result<(), Memory>
-    ensures { OnOk result (standing.new ≡ fold with_move standing.old moves.now) }
+fn set_each(standing: &mut ByKey<Change>, moves: Vec<(Key, Option<Change>)>) -> Result<(), Memory>
+    ensures { OnOk result (standing.new ≡ fold with_move standing.old moves.items) }
 {
     for item in moves {
         let (key, change) = item;
-        let change = copied(alloc, change.as_ref())?;
-        set(standing, key.copy(alloc)?, change)?;
+        set(standing, key, change)?;
     }
     Ok(())
 }
 
 // Does a deed to what stands, and tells the keys that it turns.
-#[tactic(auto, using(crate::proofs::Moving::turned_found, crate::proofs::Moving::stand_behind))]
-fn turn(
-    alloc: Global,
-    standing: &mut ByKey<Change>,
-    deed: &Deed,
-    past: &[Deed],
-) -> Result<TurnedList, Memory>
-    requires { Stand standing.old (reverse past.now) }
-    ensures turned { IfOk result (λ all. all ≡ turned deed.now (reverse past.now)) }
-    ensures stand { OnOk result (Stand standing.new (deed.now ∷ reverse past.now)) }
+#[tactic(auto, using(crate::proofs::Moving::turned_found, crate::proofs::Moving::is_behind))]
+fn turn(alloc: Global, standing: &mut Standing, deed: &Deed) -> Result<TurnedList, Memory>
+    ensures turned { IfOk result (λ all. (past : List Deed) → IsBehind past standing.old → all ≡ turned deed.now past) }
+    ensures stands { OnOk result ((past : List Deed) → IsBehind past standing.old → IsBehind (deed.now ∷ past) standing.new) }
 {
-    let came = came(alloc, deed, past)?;
-    let Turns { turned, moves } = find_turns(alloc, standing, deed, came.as_slice())?;
-    set_each(alloc, standing, &moves)?;
+    let came = came(alloc, deed, &standing.known)?;
+    let Turns { turned, moves } = turns_of(alloc, &standing.changes, deed, came.as_slice())?;
+    set_each(&mut standing.changes, moves)?;
+    note(&mut standing.known, deed)?;
     Ok(turned)
 }
 
 /// The keys that each deed turns, the oldest deed first.
-#[tactic(auto, using(crate::proofs::Adding::newest))]
+#[tactic(auto, using(crate::proofs::Adding::newest, crate::proofs::Moving::is_behind_none))]
 pub fn turned_each(alloc: Global, deeds: &[Deed]) -> Result<Vec<TurnedList>, Memory>
     ensures { IfOk result (λ lists. lists.items ≡ turned_each (reverse deeds.now)) }
 {
-    let mut standing = ByKey::new(alloc);
+    let mut standing = Standing {
+        changes: ByKey::new(alloc),
+        known: Vector::new(alloc)?,
+    };
     let mut lists = Vec::new(alloc);
-    for place in 0..deeds.len() {
-        let turned = turn(alloc, &mut standing, &deeds[place], &deeds[..place])?;
-        lists.push(turned)?;
+    for deed in deeds {
+        lists.push(turn(alloc, &mut standing, deed)?)?;
     }
     Ok(lists)
 }
