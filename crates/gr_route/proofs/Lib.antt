@@ -2,7 +2,7 @@ pub mod Reaching
 pub mod Numbering
 pub mod Finite
 pub mod Leaving
-pub mod Coming
+pub mod Winning
 pub mod Naming
 pub mod Touching
 pub mod Moving

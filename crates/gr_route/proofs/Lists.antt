@@ -1,5 +1,5 @@
 -- What a query is told of deeds, as the turned keys of each have it.
-use Rattle.std.proofs.Common.{◌≡◌, ◌⊎◌, ℕ, suc, ◌+◌, ◌≤◌, List, [], ◌∷◌, ◌++◌, Bool, true, false, refl, sym, ap, ◌∙◌, inl, inr, length, take, drop, nat_le, arith, length-append, if◌then◌else◌}
+use Rattle.std.proofs.Common.{◌≡◌, ◌⊎◌, ℕ, suc, ◌+◌, ◌-◌, ◌≤◌, List, [], ◌∷◌, ◌++◌, Bool, true, false, refl, sym, ap, ◌∙◌, inl, inr, length, take, drop, nat_le, arith, length-append, if◌then◌else◌}
 use Rattle.std.specs.Prelude.{flat_map}
 use Rattle.std.proofs.lemmas.Bool.Decides.{nat_tests}
 use Rattle.std.proofs.lemmas.List.{drop_all, take_all, take-append-le, drop-append-le, drop-take, flat_map_more}
@@ -68,3 +68,15 @@ between question past from count =
     from_on question from (at_place (from + count) past)
     ∙ ap (λ lists. flat_map (told_all question) (drop from lists)) (up_to (from + count) past)
     ∙ ap (flat_map (told_all question)) (drop-take from count (turned_each past))
+
+-- so many of the lists behind a place give the events up to their end
+pub told_between : (question : Question) (past : List Deed) (lists : List (List Turned)) (place count : ℕ) → lists ≡ turned_each past
+    → flat_map (told_all question) (take (place + 1 + count - (place + 1)) (drop (place + 1) lists))
+    ≡ events question past (suc place) (suc place + count)
+told_between question past lists place count is =
+    let many : place + 1 + count - (place + 1) ≡ count = omega arith in
+    let next : place + 1 ≡ suc place = omega arith in
+    ap (λ n. flat_map (told_all question) (take n (drop (place + 1) lists))) many
+    ∙ ap (λ n. flat_map (told_all question) (take count (drop n lists))) next
+    ∙ ap (λ those. flat_map (told_all question) (take count (drop (suc place) those))) is
+    ∙ sym (between question past (suc place) count)

@@ -20,7 +20,7 @@ use Rattle.gr_law.proofs.Lists.{either}
 use Rattle.gr_law.proofs.Turning.{among_turned, turned_of, unturned_same}
 use Rattle.gr_route.specs.declared.turning.Standing.{Standing}
 use Rattle.gr_route.specs.Turning.{Changes, IsBehind, Stand, left_by, moved_by, touched, turned_in, turns_by, winners, with_move}
-use Rattle.gr_route.proofs.Coming.{filtered_alike, won_is}
+use Rattle.gr_route.proofs.Winning.{filtered_alike, won_is}
 use Rattle.gr_route.proofs.Finite.{get_with_value}
 use Rattle.gr_route.proofs.Leaving.{left_at, left_stands}
 use Rattle.gr_route.proofs.Touching.{touched_in_order, turned_touched}
@@ -34,7 +34,7 @@ abbrev move_at : Deed → List Deed → List ℕ → List ℕ × Option Change
 move_at deed past key = (key, standing key (deed ∷ past))
 
 module _ (deed : Deed) (past : List Deed) (changes : Changes) (stand : Stand changes past) where
-  won : Changes
+  abbrev pub won : Changes
   won = winners changes (came deed past)
 
   lefts : (key : List ℕ) → left_by deed won key (finite.get changes key) ≡ standing key (deed ∷ past)
@@ -118,6 +118,3 @@ is_behind deed past before behind moves is moves_are changed noted = (
       ∙ stand_behind deed past before.changes is.0 key,
   noted ∙ ap (λ (ids : List Id). united ids (ids_at deed)) is.1 ∙ sym (united-append [] (ids_at deed) (ids past)),
 )
-
-pub is_behind_none : (one : Standing) → one.changes ≡ finite.empty → one.known.ids ≡ [] → IsBehind [] one
-is_behind_none one changes known = (λ key. ap (λ all. finite.get all key) changes, known)

@@ -10,7 +10,7 @@ use Rattle.gr_history.specs.Regions.{with_key}
 use Rattle.gr_history.specs.Standing.{has_key, names}
 use Rattle.gr_law.proofs.Images.{cmp_same}
 use Rattle.gr_route.specs.Turning.{with_keys}
-use Rattle.gr_route.proofs.Coming.{bytes_swapped}
+use Rattle.gr_route.proofs.Winning.{bytes_swapped}
 
 abbrev has : List ℕ → List (List ℕ) → Bool
 has key keys = list_any (is_at (slice_cmp nat_cmp key)) keys

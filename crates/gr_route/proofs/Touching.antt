@@ -84,19 +84,20 @@ either_holds false b e = inr e
 
 has_among : (key : List ℕ) (came : List Change) → has_key key came ≡ true → Among key (map (λ change. change.key) came)
 has_among key [] e = absurd cc
-has_among key (change ∷ came) e = at_either (either_holds (bytes_eq change.key key) (has_key key came) e)
+has_among key (change ∷ came) e = at_either (either_holds (bytes_eq change.key key) (has_key key came) e) (has_among key came)
   where
-    at_either : (bytes_eq change.key key ≡ true) ⊎ (has_key key came ≡ true) → Among key (map (λ change. change.key) (change ∷ came))
-    at_either (inl is) = inl (sym ((bytes_eq-Decides change.key key).0 is))
-    at_either (inr has) = inr (has_among key came has)
+    at_either : (bytes_eq change.key key ≡ true) ⊎ (has_key key came ≡ true)
+        → (has_key key came ≡ true → Among key (map (λ change. change.key) came)) → Among key (map (λ change. change.key) (change ∷ came))
+    at_either (inl is) next = inl (sym ((bytes_eq-Decides change.key key).0 is))
+    at_either (inr has) next = inr (next has)
 
 names_among : (key : List ℕ) (keys : List (List ℕ)) → names key keys ≡ true → Among key keys
 names_among key [] e = absurd cc
-names_among key (first ∷ keys) e = at_either (either_holds (bytes_eq first key) (names key keys) e)
+names_among key (first ∷ keys) e = at_either (either_holds (bytes_eq first key) (names key keys) e) (names_among key keys)
   where
-    at_either : (bytes_eq first key ≡ true) ⊎ (names key keys ≡ true) → Among key (first ∷ keys)
-    at_either (inl is) = inl (sym ((bytes_eq-Decides first key).0 is))
-    at_either (inr named) = inr (names_among key keys named)
+    at_either : (bytes_eq first key ≡ true) ⊎ (names key keys ≡ true) → (names key keys ≡ true → Among key keys) → Among key (first ∷ keys)
+    at_either (inl is) next = inl (sym ((bytes_eq-Decides first key).0 is))
+    at_either (inr named) next = inr (next named)
 
 -- ---- a key that is dropped, and one that is turned
 

@@ -35,7 +35,7 @@ fn one(alloc: Global, change: &Change) -> Result<ChangeList, Memory>
 }
 
 /// The changes that come in at a deed, where these ids are known.
-#[tactic(auto, using(crate::proofs::Coming::fresh_known))]
+#[tactic(auto, using(crate::proofs::Winning::fresh_known))]
 pub(crate) fn came(alloc: Global, deed: &Deed, ids: &Vector) -> Result<ChangeList, Memory>
     ensures { IfOk result (λ all. (past : List Deed) → ids.now.ids ≡ known past → all ≡ came deed.now past) }
 {
@@ -97,7 +97,7 @@ fn let_win(
 }
 
 /// What wins at the keys of what came in, the newest first, where it isn't what stands.
-#[tactic(auto, using(crate::proofs::Coming::winners_none, crate::proofs::Coming::winners_more))]
+#[tactic(auto, using(crate::proofs::Adding::winners_none, crate::proofs::Adding::winners_more))]
 pub(crate) fn winners(
     alloc: Global,
     standing: &ByKey<Change>,

@@ -1,8 +1,11 @@
-ghost use Rattle.std.specs.Prelude.{◌≡◌, ◌+◌, ◌<◌, ◌≤◌, ◌++◌, flat_map, List, IfOk, OnOk, length};
+ghost use Rattle.std.specs.Prelude.{◌≡◌, ◌+◌, ◌<◌, ◌≤◌, ◌++◌, flat_map, List, IfOk, IfSome, OnOk, length, position};
 ghost use Rattle.std.specs.List.{position_or_len};
 ghost use Rattle.std.specs.Option.{option_to_list};
 ghost use Rattle.gr_oql.specs.Events.{told_all};
 ghost use Rattle.gr_history.specs.declared.deed.Deed.{Deed};
+ghost use Rattle.gr_history.specs.declared.deed.Deed.TheVariants.{Asked};
+ghost use Rattle.gr_history.specs.declared.query_reply.Row.{Row};
+ghost use Rattle.gr_history.specs.declared.query_reply.QueryReply.TheVariants.{Opened};
 ghost use Rattle.gr_history.specs.Queries.{name_of};
 ghost use Rattle.gr_route.specs.Openings.{ends, opened_by, openings};
 ghost use Rattle.gr_route.specs.Turning.{turned_each};
@@ -80,19 +83,53 @@ fn name_of(ask: &QueryAsk) -> &Key
     }
 }
 
-// How many of the deeds stand before the first that stops or closes the query.
-#[tactic(auto, using(crate::proofs::Adding::found_first, crate::proofs::Adding::found_none))]
+// Where the first of the deeds stands that stops or closes the query.
+fn end_at(client: u8, name: &Key, deeds: &[Deed]) -> Option<usize>
+    ensures place { result ≡ position (ends client name.now) deeds.now }
+    ensures within { IfSome result (λ place. place < length deeds.now) }
+{
+    deeds.iter().position(|deed| ends(client, name, deed))
+}
+
+// How many of the deeds stand before it.
 fn before_end(client: u8, name: &Key, deeds: &[Deed]) -> usize
     ensures count { result ≡ position_or_len (ends client name.now) deeds.now }
     ensures within { result ≤ length deeds.now }
 {
-    match deeds.iter().position(|deed| ends(client, name, deed)) {
+    match end_at(client, name, deeds) {
         Some(place) => place,
         None => deeds.len(),
     }
 }
 
-// What a deed opens, if anything, where these come behind it, by the keys that each deed turns.
+// What a step opens that is answered with rows, by the keys that each deed turns.
+fn opened_at(
+    alloc: Global,
+    lists: &[TurnedList],
+    place: usize,
+    client: u8,
+    seq: u32,
+    ask: &QueryAsk,
+    behind: &[Deed],
+) -> Result<Option<Opening>, Memory>
+    requires { place + 1 + length behind.now ≤ length lists.now }
+    ensures { IfOk result (λ opening. (history : List Deed) (rows : List Row) → lists.now ≡ turned_each history
+        → option_to_list opening ≡ opened_by history place (Asked client seq ask.now (Opened rows)) behind.now) }
+{
+    let QueryAsk::Enrol { name, query } = ask else {
+        return Ok(None);
+    };
+    let from = place + 1;
+    let count = before_end(client, name, behind);
+    Ok(Some(Opening {
+        client,
+        seq,
+        name: name.copy(alloc)?,
+        events: told_of(alloc, query, &lists[from..from + count])?,
+    }))
+}
+
+// What a deed opens, if anything, where these come behind it.
 fn opened_by(
     alloc: Global,
     lists: &[TurnedList],
@@ -104,23 +141,15 @@ fn opened_by(
     ensures { IfOk result (λ opening. (history : List Deed) → lists.now ≡ turned_each history
         → option_to_list opening ≡ opened_by history place deed.now behind.now) }
 {
-    let Deed::Asked {
-        client,
-        seq,
-        ask: QueryAsk::Enrol { name, query },
-        reply: QueryReply::Opened(_),
-    } = deed
-    else {
-        return Ok(None);
-    };
-    let from = place + 1;
-    let count = before_end(*client, name, behind);
-    Ok(Some(Opening {
-        client: *client,
-        seq: *seq,
-        name: name.copy(alloc)?,
-        events: told_of(alloc, query, &lists[from..from + count])?,
-    }))
+    match deed {
+        Deed::Asked {
+            client,
+            seq,
+            ask,
+            reply: QueryReply::Opened(_),
+        } => opened_at(alloc, lists, place, *client, *seq, ask, behind),
+        _ => Ok(None),
+    }
 }
 
 fn add(all: &mut OpeningList, opening: Option<Opening>) -> Result<(), Memory>

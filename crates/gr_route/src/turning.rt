@@ -294,7 +294,6 @@ fn set_each(standing: &mut ByKey<Change>, moves: Vec<(Key, Option<Change>)>) -> 
 }
 
 // Does a deed to what stands, and tells the keys that it turns.
-#[tactic(auto, using(crate::proofs::Moving::turned_found, crate::proofs::Moving::is_behind))]
 fn turn(alloc: Global, standing: &mut Standing, deed: &Deed) -> Result<TurnedList, Memory>
     ensures turned { IfOk result (λ all. (past : List Deed) → IsBehind past standing.old → all ≡ turned deed.now past) }
     ensures stands { OnOk result ((past : List Deed) → IsBehind past standing.old → IsBehind (deed.now ∷ past) standing.new) }
@@ -307,7 +306,7 @@ fn turn(alloc: Global, standing: &mut Standing, deed: &Deed) -> Result<TurnedLis
 }
 
 /// The keys that each deed turns, the oldest deed first.
-#[tactic(auto, using(crate::proofs::Adding::newest, crate::proofs::Moving::is_behind_none))]
+#[tactic(auto, using(crate::proofs::Adding::newest))]
 pub fn turned_each(alloc: Global, deeds: &[Deed]) -> Result<Vec<TurnedList>, Memory>
     ensures { IfOk result (λ lists. lists.items ≡ turned_each (reverse deeds.now)) }
 {

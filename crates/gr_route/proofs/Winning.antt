@@ -50,7 +50,7 @@ pub won_is : (changes : Changes) (came : List Change) (key : List ℕ)
     → won_at (winners changes came) key (finite.get changes key) ≡ won_over key came (finite.get changes key)
 won_is changes [] key = ap (λ found. option_or found (finite.get changes key)) (finite.get-empty {X = Change} (slice_cmp nat_cmp) key)
 won_is changes (change ∷ came) key =
-    at_wins (wins change (won_at won change.key (finite.get changes change.key))) refl (either (bytes_eq change.key key))
+    at_wins (won_is changes came key) (wins change (won_at won change.key (finite.get changes change.key))) refl (either (bytes_eq change.key key))
   where
     won : Changes
     won = winners changes came
@@ -58,36 +58,30 @@ won_is changes (change ∷ came) key =
     stands : Option Change
     stands = finite.get changes key
 
-    next : won_at won key stands ≡ won_over key came stands
-    next = won_is changes came key
-
     got : finite.get (finite.insert won change.key change) key ≡ cond (bytes_eq change.key key) (Some change) (finite.get won key)
     got =
         finite.get-insert nat_list_cmp_total won change.key change key
-        ∙ ap (λ b. cond b (Some change) (finite.get won key)) (is_eq-slice_cmp key change.key ∙ swapped)
+        ∙ ap (λ b. cond b (Some change) (finite.get won key)) (is_eq-slice_cmp key change.key ∙ bytes_swapped key change.key)
 
-    swapped : bytes_eq key change.key ≡ bytes_eq change.key key
-    swapped = bytes_swapped key change.key
-
-    at_wins : (b : Bool) → wins change (won_at won change.key (finite.get changes change.key)) ≡ b
+    at_wins : won_at won key stands ≡ won_over key came stands → (b : Bool) → wins change (won_at won change.key (finite.get changes change.key)) ≡ b
         → (bytes_eq change.key key ≡ true) ⊎ (bytes_eq change.key key ≡ false)
         → won_at (if b then finite.insert won change.key change else won) key stands ≡ better key change (won_over key came stands)
-    at_wins true e (inl is) =
+    at_wins next true e (inl is) =
         let same : change.key ≡ key = (bytes_eq-Decides change.key key).0 is in
         let best : wins change (won_over key came stands) ≡ true =
         ap (wins change) (sym next) ∙ ap (λ k. wins change (won_at won k (finite.get changes k))) (sym same) ∙ e in
         ap (λ found. option_or found stands) (got ∙ ap (λ b. cond b (Some change) (finite.get won key)) is)
         ∙ sym (ap (λ b. if b && wins change (won_over key came stands) then Some change else won_over key came stands) is
         ∙ ap (λ b. if b then Some change else won_over key came stands) best)
-    at_wins true e (inr isnt) =
+    at_wins next true e (inr isnt) =
         ap (λ found. option_or found stands) (got ∙ ap (λ b. cond b (Some change) (finite.get won key)) isnt) ∙ next
         ∙ sym (ap (λ b. if b && wins change (won_over key came stands) then Some change else won_over key came stands) isnt)
-    at_wins false e (inl is) =
+    at_wins next false e (inl is) =
         let same : change.key ≡ key = (bytes_eq-Decides change.key key).0 is in
         let worse : wins change (won_over key came stands) ≡ false =
         ap (wins change) (sym next) ∙ ap (λ k. wins change (won_at won k (finite.get changes k))) (sym same) ∙ e in
         next
         ∙ sym (ap (λ b. if b && wins change (won_over key came stands) then Some change else won_over key came stands) is
         ∙ ap (λ b. if b then Some change else won_over key came stands) worse)
-    at_wins false e (inr isnt) =
+    at_wins next false e (inr isnt) =
         next ∙ sym (ap (λ b. if b && wins change (won_over key came stands) then Some change else won_over key came stands) isnt)
