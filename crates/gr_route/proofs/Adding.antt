@@ -1,6 +1,6 @@
 -- One more of a list that is gone along.
-use Rattle.std.proofs.Common.{◌≡◌, ◌∙◌, ℕ, suc, ◌+◌, ◌-◌, ◌<◌, ◌≤◌, List, [], ◌∷◌, ◌++◌, Bool, true, false, not, nat_lt, cond, refl, sym, ap, subst, map, take, drop, length, reverse, fold, arith, get_or}
-use Rattle.std.specs.Prelude.{Option, Some, None, filter, flat_map}
+use Rattle.std.proofs.Common.{◌≡◌, ◌∙◌, ℕ, suc, ◌+◌, ◌-◌, ◌<◌, ◌≤◌, List, [], ◌∷◌, ◌++◌, Bool, true, false, not, nat_lt, cond, refl, sym, ap, map, take, drop, length, reverse, fold, arith, get_or}
+use Rattle.std.specs.Prelude.{Some, None, filter, flat_map}
 use Rattle.std.specs.List.{position, position_or_len}
 use Rattle.std.specs.BTreeSet.{insert_key}
 use Rattle.std.specs.FinMap as finite
@@ -15,7 +15,6 @@ use Rattle.gr_stamp.specs.declared.change.Change.{Change}
 use Rattle.gr_history.specs.declared.deed.Deed.{Deed}
 use Rattle.gr_history.specs.Regions.{with_key}
 use Rattle.gr_route.specs.Openings.{opened_by, openings_from}
-use Rattle.gr_route.specs.declared.openings.Opening.{Opening}
 use Rattle.gr_route.specs.Turning.{Changes, winners, with_keys, with_won}
 
 fold_last : {A B : Type 0} → (f : B → A → B) (start : B) (xs : List A) (x : A) → fold f start (xs ++ x ∷ []) ≡ f (fold f start xs) x

@@ -1,8 +1,6 @@
 -- What is found to turn is what the history turns, and what is left stands.
-use Rattle.std.proofs.Common.{◌≡◌, ◌⊎◌, ℕ, List, [], ◌∷◌, Bool, true, false, refl, sym, ap, ◌∙◌, subst, inl, inr, cond, bytes_eq, fold, if◌then◌else◌}
+use Rattle.std.proofs.Common.{◌≡◌, ◌⊎◌, ℕ, List, [], ◌∷◌, true, false, refl, sym, ap, ◌∙◌, inl, inr, cond, bytes_eq, fold, if◌then◌else◌}
 use Rattle.std.specs.Prelude.{Option, None, map, filter}
-use Rattle.std.specs.Ordering.{nat_cmp, eq_by_cmp}
-use Rattle.std.specs.Cmp.Lexicographic.{slice_cmp}
 use Rattle.std.specs.FinMap as finite
 use Rattle.std.proofs.lemmas.Map.Text.{is_eq-slice_cmp}
 use Rattle.std.proofs.lemmas.Slice.Eq.{bytes_eq-Decides}
@@ -10,7 +8,6 @@ use Rattle.gr_stamp.specs.declared.change.Change.{Change}
 use Rattle.gr_vector.specs.Ids.{Id}
 use Rattle.gr_vector.specs.Order.{united}
 use Rattle.gr_vector.proofs.Same.{united-append}
-use Rattle.gr_oql.specs.declared.event.Turned.{Turned}
 use Rattle.gr_history.specs.declared.deed.Deed.{Deed}
 use Rattle.gr_history.specs.Ids.{ids, ids_at}
 use Rattle.gr_history.specs.Standing.{came, drops, standing}

@@ -1,7 +1,7 @@
 -- What comes in at a deed, and what wins of it.
-use Rattle.std.proofs.Common.{◌≡◌, ◌⊎◌, ◌∙◌, ℕ, List, [], ◌∷◌, Bool, true, false, ◌&&◌, not, refl, sym, ap, subst, inl, inr, cond, bytes_eq, if◌then◌else◌}
-use Rattle.std.specs.Prelude.{Option, Some, None, filter}
-use Rattle.std.specs.Ordering.{nat_cmp, eq_by_cmp}
+use Rattle.std.proofs.Common.{◌≡◌, ◌⊎◌, ◌∙◌, ℕ, List, [], ◌∷◌, Bool, true, false, ◌&&◌, not, refl, sym, ap, inl, inr, cond, bytes_eq, if◌then◌else◌}
+use Rattle.std.specs.Prelude.{Option, Some, filter}
+use Rattle.std.specs.Ordering.{nat_cmp}
 use Rattle.std.specs.Cmp.Lexicographic.{slice_cmp}
 use Rattle.std.specs.FinMap as finite
 use Rattle.std.proofs.lemmas.Cmp.{nat_list_cmp_total}
@@ -14,7 +14,7 @@ use Rattle.gr_vector.specs.Ids.{Id, has_id}
 use Rattle.gr_history.specs.declared.deed.Deed.{Deed}
 use Rattle.gr_history.specs.Ids.{id_of, ids, known}
 use Rattle.gr_law.proofs.Lists.{either, known_ids}
-use Rattle.gr_route.specs.Turning.{Changes, fresh, winners, with_won, won_at}
+use Rattle.gr_route.specs.Turning.{Changes, fresh, winners, won_at}
 use Rattle.gr_route.proofs.Leaving.{better, won_over}
 
 true_isnt : true ≡ false → ⊥

@@ -1,4 +1,4 @@
-use Rattle.std.proofs.Common.{◌≡◌, ◌∙◌, ◌+◌, ◌-◌, ℕ, ap, arith, drop, length, min, reverse, take}
+use Rattle.std.proofs.Common.{◌∙◌, ◌+◌, ◌-◌, ap, arith, drop, length, reverse}
 use Rattle.std.proofs.lemmas.List.{length-drop, length-reverse, length-take}
 use Rattle.gr_route.proofs.Lists.{as_many}
 use Rattle.gr_route.proofs.openings.events.Goals as goal

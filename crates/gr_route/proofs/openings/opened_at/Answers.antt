@@ -1,7 +1,6 @@
-use Rattle.std.proofs.Common.{◌≡◌, ◌∙◌, ◌+◌, ℕ, suc, ap, sym, List, [], ◌∷◌}
+use Rattle.std.proofs.Common.{◌∙◌, ◌+◌, ℕ, suc, ap, List, [], ◌∷◌}
 use Rattle.gr_oql.specs.declared.event.Event.{Event}
 use Rattle.gr_history.specs.Turned.{events}
-use Rattle.gr_route.specs.declared.openings.Opening.{Opening}
 use Rattle.gr_route.proofs.Lists.{told_between}
 use Rattle.gr_route.proofs.openings.opened_at.Goals as goal
 
