@@ -1,6 +1,6 @@
 use Rattle.std.proofs.Common.{◌≡◌, drop}
-use Rattle.gr_top.specs.Wants.{shards_at}
-use Rattle.gr_top.proofs.asking.shards_at.Given as goal
+use Rattle.gr_ask.specs.Wants.{shards_at}
+use Rattle.gr_ask.proofs.wanted.shards_at.Given as goal
 
 -- the shards are among those that are left
 abbrev pub invariant-loop-one : goal.invariant-loop-one
