@@ -65,8 +65,23 @@ fn put_opening(
     put_text(out, "\n")
 }
 
-// Puts those openings last that are a client's, by what its queries were told at each shard.
-fn put_openings(
+// Puts an opening last where it is a client's, by what its queries were told at each shard.
+fn put_own(
+    alloc: Global,
+    out: &mut Vec<u8>,
+    shards: &[BTreeMap<u32, &[Event]>],
+    client: u8,
+    opening: &Opening,
+) -> Result<(), Memory>
+    ensures { OnOk result (out.new.items ≡ out.old.items ++ text_if_found client shards.now opening.now) }
+{
+    if opening.client != client {
+        return Ok(());
+    }
+    put_opening(alloc, out, shards, opening)
+}
+
+fn put_all_own(
     alloc: Global,
     out: &mut Vec<u8>,
     shards: &[BTreeMap<u32, &[Event]>],
@@ -76,9 +91,7 @@ fn put_openings(
     ensures { OnOk result (out.new.items ≡ out.old.items ++ flat_map (text_if_found client shards.now) openings.now) }
 {
     for opening in openings {
-        if opening.client == client {
-            put_opening(alloc, out, shards, opening)?;
-        }
+        put_own(alloc, out, shards, client, opening)?;
     }
     Ok(())
 }
@@ -97,7 +110,7 @@ fn put_client(
         return Ok(());
     };
     let told = told_by_shard(alloc, shards, client)?;
-    put_openings(alloc, out, &told, client, first.as_slice())
+    put_all_own(alloc, out, &told, client, first.as_slice())
 }
 
 fn put_clients(
