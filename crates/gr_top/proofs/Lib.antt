@@ -1,4 +1,5 @@
 pub mod Asked
 pub mod Endings
+pub mod Naming
 pub mod Wanted
 pub mod Wording

@@ -1,5 +1,6 @@
 -- What is wanted of a member of the script that the source had.
 use Rattle.std.proofs.Common.{◌≡◌, ◌∙◌, ℕ, ◌≤◌, List, refl, sym, ap, subst, false, Option, Some, None, Result, Ok, Err, IfOk, MatchResult}
+use Rattle.gr_ask.specs.declared.wanted.Wanted.{Wanted}
 use Rattle.gr_history.specs.declared.record.Record.{Record}
 use Rattle.gr_script.specs.declared.ending.ScriptFault.{ScriptFault}
 use Rattle.gr_script.specs.declared.line.Line.{Line}
@@ -20,7 +21,6 @@ use Rattle.gr_top.specs.declared.cause.Cause.{Cause}
 use Rattle.gr_top.specs.declared.cause.Cause.TheVariants.{Finished, Usage, ReadFault, TooLarge, Script, WriteFault, Memory, NoMember, OtherRegion}
 use Rattle.gr_top.specs.declared.words.Mode.TheVariants.{At}
 use Rattle.gr_top.specs.declared.words.Request.TheVariants.{Alone}
-use Rattle.gr_top.specs.declared.words.Wanted.{Wanted}
 use Rattle.gr_top.specs.Outcomes.{IsGiven, IsReplayFor, Stops}
 use Rattle.gr_top.specs.Wants.{HasWanted, IsElsewhere, IsOwn, LacksWanted}
 

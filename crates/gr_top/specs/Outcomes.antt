@@ -1,6 +1,8 @@
 -- What each cause says of the words, the source, the sink and the record.
 use Rattle.std.specs.Prelude.{◌≡◌, ◌⊎◌, ℕ, ◌+◌, ◌≤◌, List, length, Option, Some, None, Result, Ok, Err, Bool, true, false, IfSome, IsSomeAnd}
 use Rattle.std.specs.Io.KnownBytes.{Appends, Consumes}
+use Rattle.gr_ask.specs.Wants.{IsWantedText}
+use Rattle.gr_ask.specs.declared.wanted.Wanted.{Wanted}
 use Rattle.gr_history.specs.declared.record.Record.{Record}
 use Rattle.gr_io.specs.Ends.{AppendsPart}
 use Rattle.gr_io.specs.Streams.{Stream, IsUntouched, Counted, IsAllOf, TookAtMost, IsPut}
@@ -26,9 +28,8 @@ use Rattle.gr_top.specs.declared.words.Detail.{Detail}
 use Rattle.gr_top.specs.declared.words.Mode.TheVariants.{Check, Replay, At}
 use Rattle.gr_top.specs.declared.words.Request.{Request}
 use Rattle.gr_top.specs.declared.words.Request.TheVariants.{Alone, Run, Drill}
-use Rattle.gr_top.specs.declared.words.Wanted.{Wanted}
 use Rattle.gr_top.specs.ReportTexts.{report_text}
-use Rattle.gr_top.specs.Wants.{HasWanted, LacksWanted, IsWantedText}
+use Rattle.gr_top.specs.Wants.{HasWanted, LacksWanted}
 use Rattle.gr_top.specs.Words.{request_of}
 use Rattle.gr_top.specs.Arguments.{AreWords}
 

@@ -13,7 +13,7 @@ use Rattle.gr_top.specs.declared.words.Detail.{Detail}
 use Rattle.gr_top.specs.declared.words.Detail.TheVariants.{Plain, Histories, Tables}
 use Rattle.gr_top.specs.declared.words.Mode.{Mode}
 use Rattle.gr_top.specs.declared.words.Mode.TheVariants.{Check, Replay, At}
-use Rattle.gr_top.specs.declared.words.Wanted.TheVariants.{Rows}
+use Rattle.gr_ask.specs.declared.wanted.Wanted.TheVariants.{Rows, Events}
 use Rattle.gr_top.specs.declared.words.Request.{Request}
 use Rattle.gr_top.specs.declared.words.Request.TheVariants.{Alone, Run, Drill}
 
@@ -71,6 +71,15 @@ abbrev pub behind_ask : List (List ℕ) → Result Mode ℕ
 behind_ask [] = Err 1
 behind_ask (word ∷ words) = behind_member (number_in 8 word) words
 
+-- The words behind `events`: the number of a member.
+abbrev pub asked_events : Option ℕ → List (List ℕ) → Result Mode ℕ
+asked_events None words = Err 1
+asked_events (Some member) words = alone 2 (At member Events) words
+
+abbrev pub behind_events : List (List ℕ) → Result Mode ℕ
+behind_events [] = Err 1
+behind_events (word ∷ words) = asked_events (number_in 8 word) words
+
 -- ---- without threads
 
 abbrev pub asked_replay : Result Detail ℕ → Result Mode ℕ
@@ -83,17 +92,18 @@ behind_flag detail [] = Err 1
 behind_flag detail (word ∷ words) = if bytes_eq word (codes "replay") then alone 2 (Replay detail) words else Err 1
 
 -- The words are `check`, or `replay` with or without one of the flags `--history` and `--tables` before or behind it, or
--- `ask` with a member and a query. Else the place is that of the first word with which they cease to begin one of these
--- lists, or their number where they only end too early.
+-- `ask` with a member and a query, or `events` with a member. Else the place is that of the first word with which they
+-- cease to begin one of these lists, or their number where they only end too early.
 abbrev pub mode_of : List (List ℕ) → Result Mode ℕ
 mode_of [] = Err 0
 mode_of (word ∷ words) =
     if bytes_eq word (codes "check") then alone 1 Check words
     else (if bytes_eq word (codes "replay") then asked_replay (behind_report words)
     else (if bytes_eq word (codes "ask") then behind_ask words
+    else (if bytes_eq word (codes "events") then behind_events words
     else (if bytes_eq word (codes "--history") then behind_flag Histories words
     else (if bytes_eq word (codes "--tables") then behind_flag Tables words
-    else Err 0))))
+    else Err 0)))))
 
 abbrev pub asked_alone : Result Mode ℕ → Result Request ℕ
 asked_alone (Ok mode) = Ok (Alone mode)

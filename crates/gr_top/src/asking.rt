@@ -4,7 +4,7 @@ ghost use Rattle.gr_script.specs.Scripts.{heading_of};
 ghost use Rattle.gr_world.specs.Played.{IsPlayed};
 ghost use Rattle.gr_top.specs.Causes.{status_of};
 ghost use Rattle.gr_top.specs.Outcomes.{Explains, IsReplayFor, Stops};
-ghost use Rattle.gr_top.specs.Wants.{HasWanted, IsElsewhere, IsOwn, IsWantedText, LacksWanted, shards_at};
+ghost use Rattle.gr_top.specs.Wants.{HasWanted, IsElsewhere, IsOwn, LacksWanted};
 ghost use Rattle.gr_top.specs.declared.cause.Cause.TheVariants as cause;
 ghost use Rattle.gr_top.specs.declared.words.Mode.TheVariants as mode;
 ghost use Rattle.gr_top.specs.declared.words.Request.TheVariants as request;
@@ -12,13 +12,11 @@ ghost use Rattle.gr_io.specs.Streams.{stream, Stream};
 
 use crate::giving::script_from;
 use crate::handing::{ended, hand_out};
-use crate::row_texts::rows_text;
-use crate::words::Wanted;
 use crate::{Cause, Outcome};
+use gr_ask::{Wanted, wanted_text};
 use gr_depart::replay;
 use gr_durable::expand;
-use gr_history::{MemberRecord, Record, ShardRecord};
-use gr_index::ask;
+use gr_history::Record;
 use gr_io::{Sink, Source};
 use gr_script::{Form, Script};
 use gr_value::Memory;
@@ -30,6 +28,7 @@ fn find_region(wanted: &Wanted, script: &Script) -> Result<(), Cause>
         (λ why. (why ≡ cause.OtherRegion) × IsElsewhere wanted.now (heading_of script.now)) }
 {
     match wanted {
+        Wanted::Events => Ok(()),
         Wanted::Rows(query) if query.region().bytes() != script.region.bytes() => {
             Err(Cause::OtherRegion)
         }
@@ -72,36 +71,6 @@ fn record_for<S: Source>(
     match replayed(alloc, &script) {
         Ok(record_of) => Ok(record_of),
         Err(Memory) => Err(Cause::Memory),
-    }
-}
-
-// What is left of the shards of a member.
-fn shards_at(members: &[MemberRecord], member: u8) -> &[ShardRecord]
-    ensures { result.now ≡ shards_at member members.now }
-{
-    for one in members {
-        if one.member == member {
-            return one.shards.as_slice();
-        }
-    }
-    &[]
-}
-
-// The text of what is wanted of a member.
-fn wanted_text(
-    alloc: Global,
-    member: u8,
-    wanted: &Wanted,
-    record_of: &Record,
-) -> Result<Vec<u8>, Memory>
-    ensures { IfOk result (λ text. IsWantedText member wanted.now record_of.now text.items) }
-{
-    let shards = shards_at(record_of.members.as_slice(), member);
-    match wanted {
-        Wanted::Rows(query) => {
-            let rows = ask(alloc, query, shards)?;
-            rows_text(alloc, rows.as_slice())
-        }
     }
 }
 

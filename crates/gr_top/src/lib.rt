@@ -11,7 +11,6 @@ mod giving;
 mod handing;
 mod member_words;
 mod report_texts;
-mod row_texts;
 mod running;
 mod words;
 

@@ -1,9 +1,10 @@
 ghost use Rattle.std.specs.Prelude.{◌≡◌, map, string_bytes};
 ghost use Rattle.gr_oql.specs.Questions.{question_of};
-ghost use Rattle.gr_top.specs.Words.{behind_ask, behind_member, number_in, question_by, Understands, unread};
+ghost use Rattle.gr_top.specs.Words.{asked_events, behind_ask, behind_events, behind_member, number_in, question_by, Understands, unread};
 
 use crate::Cause;
-use crate::words::{Mode, Wanted, alone, understood};
+use crate::words::{Mode, alone, understood};
+use gr_ask::Wanted;
 use gr_oql::{OqlFault, Query, texts_ask_by_the_grammar};
 use gr_script::number_of;
 use std::alloc::Global;
@@ -61,5 +62,25 @@ pub(crate) fn behind_ask(alloc: Global, words: &[String]) -> Result<Mode, Cause>
     match words {
         [] => Err(Cause::Usage(1)),
         [word, rest @ ..] => behind_member(alloc, member_in(word.as_str()), rest),
+    }
+}
+
+fn asked_events(member: Option<u8>, words: &[String]) -> Result<Mode, u32>
+    ensures { result ≡ asked_events member (map (λ word. string_bytes word) words.now) }
+{
+    let Some(member) = member else {
+        return Err(1);
+    };
+    let wanted = Wanted::Events;
+    alone(2, Mode::At { member, wanted }, words)
+}
+
+/// What is asked for behind `events`.
+pub(crate) fn behind_events(words: &[String]) -> Result<Mode, u32>
+    ensures { result ≡ behind_events (map (λ word. string_bytes word) words.now) }
+{
+    match words {
+        [] => Err(1),
+        [word, rest @ ..] => asked_events(member_in(word.as_str()), rest),
     }
 }

@@ -1,11 +1,10 @@
-ghost use Rattle.std.specs.Prelude.{◌≡◌, ℕ, Result, map, string_bytes, IfOk};
+ghost use Rattle.std.specs.Prelude.{◌≡◌, map, string_bytes, IfOk};
 ghost use Rattle.gr_top.specs.Words.{alone, asked_alone, asked_replay, asked_run, behind_drill, behind_flag, behind_report};
 ghost use Rattle.gr_top.specs.Words.{behind_start, IsFit, mode_of, number_in, request_of, told_behind, Understands};
-ghost use Rattle.gr_top.specs.declared.words.Mode.{Mode as TheMode};
 
 use crate::Cause;
-use crate::member_words::behind_ask;
-use gr_oql::Query;
+use crate::member_words::{behind_ask, behind_events};
+use gr_ask::Wanted;
 use gr_script::number_of;
 use std::alloc::Global;
 
@@ -18,13 +17,6 @@ pub(crate) enum Detail {
     Histories,
     /// What clients hold of their queries.
     Tables,
-}
-
-/// What is wanted of a member.
-#[derive(Drop)]
-pub(crate) enum Wanted {
-    /// The rows that a query finds in its last region.
-    Rows(Query),
 }
 
 /// What needs no threads.
@@ -117,6 +109,7 @@ pub(crate) fn mode_of(alloc: Global, words: &[String]) -> Result<Mode, Cause>
         "check" => understood(alone(1, Mode::Check, rest)),
         "replay" => understood(asked_replay(behind_report(rest))),
         "ask" => behind_ask(alloc, rest),
+        "events" => understood(behind_events(rest)),
         "--history" => understood(behind_flag(Detail::Histories, rest)),
         "--tables" => understood(behind_flag(Detail::Tables, rest)),
         _ => Err(Cause::Usage(0)),
@@ -183,10 +176,12 @@ fn told_behind(detail: Detail, words: &[String]) -> Result<Request, u32>
     }
 }
 
-fn alone_of(mode: Result<Mode, Cause>) -> Result<Request, Cause>
-    ensures { (asked : Result TheMode ℕ) → Understands asked mode → Understands (asked_alone asked) result }
+// What is asked for without threads.
+fn asked_alone_of(alloc: Global, words: &[String]) -> Result<Request, Cause>
+    ensures exact { Understands (asked_alone (mode_of (map (λ word. string_bytes word) words.now))) result }
+    ensures fit { IfOk result IsFit }
 {
-    match mode {
+    match mode_of(alloc, words) {
         Ok(mode) => Ok(Request::Alone(mode)),
         Err(cause) => Err(cause),
     }
@@ -205,6 +200,6 @@ pub(crate) fn request_of(alloc: Global, words: &[String]) -> Result<Request, Cau
         "drill" => understood(behind_drill(rest)),
         "--history" => understood(told_behind(Detail::Histories, rest)),
         "--tables" => understood(told_behind(Detail::Tables, rest)),
-        _ => alone_of(mode_of(alloc, words)),
+        _ => asked_alone_of(alloc, words),
     }
 }
