@@ -1,11 +1,11 @@
 -- What the queries of a client were told is found by their steps.
-use Rattle.std.proofs.Common.{◌≡◌, ◌++◌, ℕ, List, [], ◌∷◌, ◌==◌, ap, flat_map, refl}
+use Rattle.std.proofs.Common.{◌≡◌, ℕ, List, [], ◌∷◌, ◌==◌, ap, flat_map, refl}
 use Rattle.std.specs.Prelude.{if◌then◌else◌}
 use Rattle.std.specs.Borrow.{Bor}
 use Rattle.std.specs.BTreeMap.{BTreeMap}
 use Rattle.gr_oql.specs.declared.event.Event.{Event}
 use Rattle.gr_route.specs.declared.openings.Opening.{Opening}
-use Rattle.gr_ask.specs.Told.{client_text, events_among, events_told, text_if_found, text_if_of, told_text}
+use Rattle.gr_ask.specs.Told.{events_among, events_told, text_if_found, text_if_of, told_text}
 
 one_text : (client : ℕ) (found : List (BTreeMap ℕ (Bor (List Event)))) (shards : List (List Opening))
     → ((seq : ℕ) → events_among seq found ≡ events_told client seq shards)
