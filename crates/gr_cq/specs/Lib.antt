@@ -5,4 +5,3 @@ pub mod Coming
 pub mod Foresight
 pub mod View
 pub mod Laws
-pub mod Concern

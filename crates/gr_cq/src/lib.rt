@@ -2,7 +2,6 @@
 #![tactic(auto)]
 
 mod coming;
-mod concern;
 mod foreseen;
 mod laws;
 mod open;
@@ -12,7 +11,6 @@ mod registry;
 mod waiting;
 
 pub use coming::Coming;
-pub use concern::can_concern;
 pub use foreseen::Foreseen;
 pub use gr_oql::Turned;
 pub use laws::queries_stay_apart;

@@ -149,12 +149,8 @@ impl PartialEq for Text {
 
     ghost laws = { Prim.search (comparing, rules) };
 
-    #[inline]
     fn eq(&self, other: &Text) -> bool {
-        match (&self.held, &other.held) {
-            (Held::Near(one), Held::Near(two)) => one.same(two),
-            _ => self.bytes() == other.bytes(),
-        }
+        self.bytes() == other.bytes()
     }
 }
 
