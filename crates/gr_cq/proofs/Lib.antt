@@ -2,3 +2,4 @@ pub mod Rooms
 pub mod Telling
 pub mod Finding
 pub mod Pairs
+pub mod Untold

@@ -5,3 +5,4 @@ pub mod Coming
 pub mod Foresight
 pub mod View
 pub mod Laws
+pub mod Concern

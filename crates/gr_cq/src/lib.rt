@@ -2,6 +2,7 @@
 #![tactic(auto)]
 
 mod coming;
+mod concern;
 mod foreseen;
 mod laws;
 mod open;
@@ -11,6 +12,7 @@ mod registry;
 mod waiting;
 
 pub use coming::Coming;
+pub use concern::can_concern;
 pub use foreseen::Foreseen;
 pub use gr_oql::Turned;
 pub use laws::queries_stay_apart;

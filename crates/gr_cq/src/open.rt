@@ -1,9 +1,10 @@
-ghost use Rattle.std.specs.Prelude.{◌≡◌, ◌≤◌, [], ◌++◌, length, map, true, false, Some, IfOk, IfSome, OnOk, OnErr, option_copied, option_map};
+ghost use Rattle.std.specs.Prelude.{◌≡◌, ◌≤◌, [], ◌∷◌, ◌++◌, length, map, true, false, Some, IfOk, IfSome, OnOk, OnErr, option_copied, option_map};
 ghost use Rattle.std.specs.List.{AllByRecursion};
 ghost use Rattle.gr_oql.specs.Events.{told_all};
 ghost use Rattle.gr_cq.specs.Entries.{is_at, find, changed_at, with_kept, kept_stopped, kept_taken, kept_with, coming_to, entry_opened};
 ghost use Rattle.gr_cq.specs.View.{kept_of, entry_of};
 
+use crate::concern::can_concern;
 use crate::waiting::Waiting;
 use gr_oql::{Event, EventList, Query, Turned};
 use gr_value::{Copied, Key, Memory};
@@ -93,14 +94,26 @@ impl Open {
     }
 }
 
+// Adds what a query is told of a key that can concern it.
+fn tell(alloc: Global, query: &Query, one: &Turned, events: &mut Vec<Event>) -> Result<(), Memory>
+    ensures { OnOk result (events.new.items ≡ events.old.items ++ told_all query.now (one.now ∷ [])) }
+{
+    if let Some(event) = Event::of(alloc, query, one)? {
+        events.push(event)?;
+    }
+    Ok(())
+}
+
 // What a query is told of all these keys, in order.
+#[tactic(auto, using(crate::proofs::Untold::told_next, crate::proofs::Untold::told_same))]
 fn told_all(alloc: Global, query: &Query, turned: &[Turned]) -> Result<Vec<Event>, Memory>
     ensures { IfOk result (λ events. events.items ≡ told_all query.now turned.now) }
 {
+    let must = query.must();
     let mut events = Vec::new(alloc);
     for one in turned {
-        if let Some(event) = Event::of(alloc, query, one)? {
-            events.push(event)?;
+        if can_concern(must, one) {
+            tell(alloc, query, one, &mut events)?;
         }
     }
     Ok(events)

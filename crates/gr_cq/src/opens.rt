@@ -55,7 +55,7 @@ pub fn coming_to_each(
 ) -> Result<Vec<Vec<Event>>, Memory>
     ensures { IfOk result (λ lists. events_in lists.items ≡ coming_to_each turned.now (entries_of all.now)) }
 {
-    let mut lists = Vec::new(alloc);
+    let mut lists = Vec::with_capacity(alloc, all.len())?;
     for one in all {
         lists.push(one.coming(alloc, turned)?)?;
     }

@@ -1,15 +1,11 @@
 -- Which of the enrolled queries a change can concern.
-use Rattle.std.specs.Prelude.{ℕ, suc, ◌≤◌, List, [], ◌∷◌, ◌||◌, Bool, true, false, Option, Some, None, map, filter, option_map}
+use Rattle.std.specs.Prelude.{ℕ, suc, ◌≤◌, List, [], ◌∷◌, Bool, Option, map, filter, option_map}
 use Rattle.std.specs.List.{filter_map}
-use Rattle.gr_value.specs.declared.scalar.Scalar.{Scalar}
-use Rattle.gr_value.specs.declared.value.Field.{Field}
-use Rattle.gr_value.specs.Fields.{field_of}
-use Rattle.gr_value.specs.Scalars.{scalar_eq}
 use Rattle.gr_oql.specs.declared.event.Event.{Event}
 use Rattle.gr_oql.specs.declared.event.Turned.{Turned}
-use Rattle.gr_oql.specs.declared.must.Must.{Must}
 use Rattle.gr_oql.specs.Events.{told}
 use Rattle.gr_oql.specs.Must.{must_of}
+use Rattle.gr_cq.specs.Concern.{can_concern}
 use Rattle.gr_route.specs.declared.enrolled.Enrolled.{Enrolled}
 
 -- the enrolled queries, in the order of their numbers, and the number that comes next
@@ -21,24 +17,6 @@ pub record Routes : Type 0 where
 abbrev pub Ascend : ℕ → ℕ → List Enrolled → Type 0
 Ascend from below [] = from ≤ below
 Ascend from below (one ∷ rest) = (from ≤ one.number) × Ascend (suc one.number) below rest
-
--- whether a field is there, and is this scalar
-abbrev pub is_scalar : Option Scalar → Scalar → Bool
-is_scalar None equal = false
-is_scalar (Some scalar) equal = scalar_eq scalar equal
-
-abbrev pub meets_fields : List Field → Must → Bool
-meets_fields fields must = is_scalar (field_of must.field fields) must.equal
-
--- an absent value meets nothing
-abbrev pub meets : Option (List Field) → Must → Bool
-meets None must = false
-meets (Some fields) must = meets_fields fields must
-
--- A change can concern a query that must have nothing, and one whose first must the old or the new value meets.
-abbrev pub can_concern : List Must → Turned → Bool
-can_concern [] turned = true
-can_concern (first ∷ rest) turned = meets turned.old first || meets turned.new first
 
 abbrev pub is_reached : Turned → Enrolled → Bool
 is_reached turned one = can_concern (must_of one.query) turned

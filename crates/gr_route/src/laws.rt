@@ -5,8 +5,9 @@ ghost use Rattle.gr_oql.specs.declared.must.Must.{Must};
 ghost use Rattle.gr_oql.specs.Events.{told};
 ghost use Rattle.gr_oql.specs.Must.{must_of, IsMet};
 ghost use Rattle.gr_oql.specs.Question.{Question};
+ghost use Rattle.gr_cq.specs.Concern.{meets_fields, can_concern};
 ghost use Rattle.gr_route.specs.declared.enrolled.Enrolled.{Enrolled};
-ghost use Rattle.gr_route.specs.Routes.{meets_fields, can_concern, is_reached, events_for};
+ghost use Rattle.gr_route.specs.Routes.{is_reached, events_for};
 
 /// A query that a change isn't routed to is told nothing of it. So the events for those that it is
 /// routed to are the events for all.

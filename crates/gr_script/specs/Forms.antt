@@ -4,7 +4,8 @@ use Rattle.std.specs.List.{find}
 use Rattle.gr_script.specs.declared.forms.LineKind.{LineKind}
 use Rattle.gr_script.specs.declared.forms.LineKind.TheVariants.{Georep, Region, Members, Shards, Inbox, Trouble, Floor, Client, Get, Put}
 use Rattle.gr_script.specs.declared.forms.LineKind.TheVariants.{PutIfAbsent, Replace, ReplaceIf, Destroy, Remove, Invalidate, Peek}
-use Rattle.gr_script.specs.declared.forms.LineKind.TheVariants.{Open, Stop, Close, Fetch, Deliver, Report, Hear, Sweep, Join, Depart, Leave, Back}
+use Rattle.gr_script.specs.declared.forms.LineKind.TheVariants.{Open, Stop, Close, Fetch, Deliver, Report}
+use Rattle.gr_script.specs.declared.forms.LineKind.TheVariants.{Hear, Sweep, Join, Depart, Leave, Back}
 use Rattle.gr_script.specs.declared.forms.FieldKind.{FieldKind}
 use Rattle.gr_script.specs.declared.forms.FieldKind.TheVariants as field
 use Rattle.gr_script.specs.Limits.{most_members, most_shards, most_inbox, most_trouble, most_clients, most_moment}

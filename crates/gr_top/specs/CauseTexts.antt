@@ -2,7 +2,8 @@
 use Rattle.std.specs.Prelude.{ℕ, ◌+◌, List, [], ◌++◌, codes, decimal}
 use Rattle.gr_script.specs.Reasons.{number_of, name_of}
 use Rattle.gr_top.specs.declared.cause.Cause.{Cause}
-use Rattle.gr_top.specs.declared.cause.Cause.TheVariants.{Finished, Usage, ReadFault, TooLarge, Script, WriteFault, Memory, NoMember, OtherRegion}
+use Rattle.gr_top.specs.declared.cause.Cause.TheVariants.{Finished, Usage, ReadFault, TooLarge}
+use Rattle.gr_top.specs.declared.cause.Cause.TheVariants.{Script, WriteFault, Memory, NoMember, OtherRegion}
 
 abbrev pub text_of_cause : Cause → List ℕ
 text_of_cause Finished = []

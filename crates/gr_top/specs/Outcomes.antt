@@ -1,5 +1,6 @@
 -- What each cause says of the words, the source, the sink and the record.
-use Rattle.std.specs.Prelude.{◌≡◌, ◌⊎◌, ℕ, ◌+◌, ◌≤◌, List, length, Option, Some, None, Result, Ok, Err, Bool, true, false, IfSome, IsSomeAnd}
+use Rattle.std.specs.Prelude.{◌≡◌, ◌⊎◌, ℕ, ◌+◌, ◌≤◌, List, length, Option, Some}
+use Rattle.std.specs.Prelude.{None, Result, Ok, Err, Bool, true, false, IfSome, IsSomeAnd}
 use Rattle.std.specs.Io.KnownBytes.{Appends, Consumes}
 use Rattle.gr_ask.specs.Wants.{IsWantedText}
 use Rattle.gr_ask.specs.declared.wanted.Wanted.{Wanted}
@@ -21,7 +22,8 @@ use Rattle.gr_script.specs.Said.{script_of}
 use Rattle.gr_script.specs.Scripts.{heading_of}
 use Rattle.gr_world.specs.Played.{IsPlayed}
 use Rattle.gr_top.specs.declared.cause.Cause.{Cause}
-use Rattle.gr_top.specs.declared.cause.Cause.TheVariants.{Finished, Usage, ReadFault, TooLarge, Script, WriteFault, Memory, NoMember, OtherRegion}
+use Rattle.gr_top.specs.declared.cause.Cause.TheVariants.{Finished, Usage, ReadFault, TooLarge}
+use Rattle.gr_top.specs.declared.cause.Cause.TheVariants.{Script, WriteFault, Memory, NoMember, OtherRegion}
 use Rattle.gr_top.specs.Causes.{status_of}
 use Rattle.gr_top.specs.CauseTexts.{text_of_cause}
 use Rattle.gr_top.specs.declared.words.Detail.{Detail}

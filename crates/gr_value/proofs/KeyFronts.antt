@@ -15,7 +15,7 @@ use Rattle.gr_value.specs.KeyFront.{front_from}
 below_256 : (byte : ℕ) → is_key_byte byte ≡ true → byte < 256
 below_256 byte is = grind arith
 
-a_digit_more : (x p r : ℕ) → x < 256 → r < p → x * p + r < 256 * p
+pub a_digit_more : (x p r : ℕ) → x < 256 → r < p → x * p + r < 256 * p
 a_digit_more x p r x_small r_small =
     let more : suc x ≤ 256 = omega arith in
     omega (arith, mul-le-mul_left p more)
@@ -77,12 +77,12 @@ counts byte n rest is none =
     let power : 0 < 256 ^ n = let below = front_below n [] refl in omega arith in
     omega (arith, mul-le-mul_left (256 ^ n) some)
 
-same_digit : (x y p r s : ℕ) (o : Ordering) → MatchOrdering o (x < y) (x ≡ y) (y < x) → r < p → s < p → x * p + r ≡ y * p + s → x ≡ y
+pub same_digit : (x y p r s : ℕ) (o : Ordering) → MatchOrdering o (x < y) (x ≡ y) (y < x) → r < p → s < p → x * p + r ≡ y * p + s → x ≡ y
 same_digit x y p r s Less h r_small s_small same = let less = less_by_digit x y p r s r_small h in absurd (omega arith)
 same_digit x y p r s Equal h r_small s_small same = h
 same_digit x y p r s Greater h r_small s_small same = let less = less_by_digit y x p s r s_small h in absurd (omega arith)
 
-same_rest : (x y p r s : ℕ) → x ≡ y → x * p + r ≡ y * p + s → r ≡ s
+pub same_rest : (x y p r s : ℕ) → x ≡ y → x * p + r ≡ y * p + s → r ≡ s
 same_rest x y p r s e same = let products = ap (λ (n : ℕ). n * p) e in omega arith
 
 -- where the fronts are equal, what is behind decides

@@ -1,8 +1,10 @@
+mod Alike
 mod Decimals
 mod FieldsRead
 mod FieldsTaken
 mod Kept
 mod Lexing
+mod Looking
 mod NumberLengths
 pub mod OneLine
 mod PlainBytes

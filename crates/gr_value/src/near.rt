@@ -1,4 +1,4 @@
-ghost use Rattle.std.specs.Prelude.{◌≡◌, ◌<◌, ◌≤◌, drop, length, MatchOption};
+ghost use Rattle.std.specs.Prelude.{◌≡◌, ◌<◌, ◌≤◌, bytes_eq, drop, length, MatchOption};
 ghost use Rattle.gr_value.specs.KeyFront.{front_of};
 
 use std::marker::Model;
@@ -66,6 +66,14 @@ impl Near {
         front_of(&self.all[6..])
     }
 
+    /// Whether both are the same bytes.
+    #[inline(always)]
+    pub fn same(&self, other: &Near) -> bool
+        ensures { result ≡ bytes_eq self.now other.now }
+    {
+        (self.len == other.len) & is_same(&self.all, &other.all)
+    }
+
     pub fn copy(&self) -> Near
         ensures { result ≡ self.now }
     {
@@ -74,6 +82,16 @@ impl Near {
             all: self.all,
         }
     }
+}
+
+// Of 14 bytes all are the same where the first eight and the last eight are.
+#[inline(always)]
+fn is_same(one: &[u8], two: &[u8]) -> bool
+    requires one { length one.now ≡ 14 }
+    requires two { length two.now ≡ 14 }
+    ensures { result ≡ bytes_eq one.now two.now }
+{
+    (front_of(one) == front_of(two)) & (front_of(&one[6..]) == front_of(&two[6..]))
 }
 
 /// Where bytes stand: in the value itself, or far in a place that the copies share.

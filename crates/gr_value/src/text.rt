@@ -149,8 +149,12 @@ impl PartialEq for Text {
 
     ghost laws = { Prim.search (comparing, rules) };
 
+    #[inline]
     fn eq(&self, other: &Text) -> bool {
-        self.bytes() == other.bytes()
+        match (&self.held, &other.held) {
+            (Held::Near(one), Held::Near(two)) => one.same(two),
+            _ => self.bytes() == other.bytes(),
+        }
     }
 }
 

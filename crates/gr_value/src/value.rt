@@ -76,28 +76,28 @@ impl Value {
         self.shared.as_slice()
     }
 
-    fn find(&self, name: &[u8]) -> Option<&Scalar>
+    /// The scalar of the field with this name.
+    pub fn field(&self, name: &str) -> Option<&Scalar>
         ensures { option_copied result ≡ field_of name.now self.now }
     {
         let field = self
             .fields()
             .iter()
-            .find(|field| field.name.bytes() == name)?;
+            .find(|field| field.name.bytes() == name.as_bytes())?;
         Some(&field.scalar)
     }
 
-    /// The scalar of the field with this name.
-    pub fn field(&self, name: &str) -> Option<&Scalar>
-        ensures { option_copied result ≡ field_of name.now self.now }
-    {
-        self.find(name.as_bytes())
-    }
-
     /// The same of a name that is held as a text.
+    #[tactic(auto, using(crate::proofs::Looking::found_here, crate::proofs::Looking::passed))]
     pub fn field_named(&self, name: &Text) -> Option<&Scalar>
         ensures { option_copied result ≡ field_of name.now self.now }
     {
-        self.find(name.bytes())
+        for field in self.fields() {
+            if field.name == *name {
+                return Some(&field.scalar);
+            }
+        }
+        None
     }
 
     /// Whether both have the same fields.

@@ -1,4 +1,5 @@
-use Rattle.gr_route.proofs.Reaching.{meets_is, untold, routed}
+use Rattle.gr_cq.proofs.Untold.{meets_is, untold}
+use Rattle.gr_route.proofs.Reaching.{routed}
 use Rattle.gr_route.proofs.laws.unreached_queries_are_told_nothing.Goals as goal
 
 pub returns-clause-met : goal.returns-clause-met
