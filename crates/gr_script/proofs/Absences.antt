@@ -1,5 +1,5 @@
 -- How clients stand, by what is kept of each.
-use Rattle.std.proofs.Common.{◌≡◌, ◌∙◌, ℕ, zero, suc, ◌+◌, ◌<◌, List, [], ◌∷◌, ◌++◌, Bool, true, false, cond, eqb, get_or, refl, sym, ap, ◌⊎◌, inl, inr}
+use Rattle.std.proofs.Common.{◌≡◌, ◌∙◌, ℕ, zero, suc, ◌<◌, List, [], ◌∷◌, ◌++◌, Bool, true, false, cond, eqb, get_or, refl, sym, ap, ◌⊎◌, inl, inr}
 use Rattle.std.proofs.Common.{◌≢◌}
 use Rattle.std.proofs.Common.{Option, slice_get, set, length, arith}
 use Rattle.std.specs.Option.{unwrap_or}

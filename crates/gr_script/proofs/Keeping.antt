@@ -1,5 +1,5 @@
 -- What is counted and said of a line that is taken in.
-use Rattle.std.proofs.Common.{◌≡◌, ◌∙◌, ℕ, ◌+◌, ◌<◌, ◌≤◌, ◌^◌, List, ◌∷◌, Bool, true, false, ◌&&◌, cond, eqb}
+use Rattle.std.proofs.Common.{◌≡◌, ◌∙◌, ℕ, ◌+◌, ◌<◌, ◌≤◌, ◌^◌, List, true}
 use Rattle.std.proofs.Common.{Option, Some, None, option_map, refl, ap, arith}
 use Rattle.std.specs.Option.{IsSome}
 use Rattle.gr_script.specs.declared.forms.LineKind.{LineKind}

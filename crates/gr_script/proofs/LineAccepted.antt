@@ -18,19 +18,18 @@ use Rattle.gr_script.specs.declared.line.Line.{Line}
 use Rattle.gr_script.specs.declared.line.Line.TheVariants.{Step, Deliver, Report, Hear, Sweep, Join, Depart, Leave, Back}
 use Rattle.gr_script.specs.declared.reason.Reason.TheVariants as reason
 use Rattle.gr_script.specs.declared.saying.Saying.{Saying}
-use Rattle.gr_script.specs.Absence.{asks, presence}
+use Rattle.gr_script.specs.Absence.{asks}
 use Rattle.gr_script.specs.Forms.{fields, rank}
-use Rattle.gr_script.specs.Past.{setting, region, members, founders, home, steps, reports, joins, gifts, hears, count_of, queries, stage}
+use Rattle.gr_script.specs.Past.{setting, region, members, founders, home, steps, reports, joins, gifts, hears, count_of, stage}
 use Rattle.gr_value.specs.KeyBytes.{IsKey}
 use Rattle.gr_script.specs.Plain.{IsPlain}
 use Rattle.gr_script.specs.Printed.{saying_in, act_saying, ask_saying, query_saying, IsLineKept, IsActKept, IsAskKept, IsQueryKept}
 use Rattle.gr_script.specs.Printing.{saying_text}
-use Rattle.gr_script.specs.Refusals.{asks as asks_here, is_away, is_full, is_gone, is_no_join, last_moment, open_count, tests, refusal}
+use Rattle.gr_script.specs.Refusals.{asks as asks_here, delivery_tests, is_away, is_full, is_gone, is_no_join, last_moment, open_count, tests, refusal}
 use Rattle.gr_script.specs.Rules.{IsHeading, IsWithin, IsStated, QuerySuits, ActSuits, StandsAfter, Stays, NamesStaying, Attends}
 use Rattle.gr_script.specs.Said.{heading_said, lines_said}
-use Rattle.gr_script.specs.Steps as lines
 use Rattle.gr_script.specs.Suiting.{IsShort, IsClient, IsOwnQuery, AllSuit}
-use Rattle.gr_script.proofs.Accepted.{Accepts, late, one_test, two_tests, three_tests, four_tests, room_left, there_is, differing}
+use Rattle.gr_script.proofs.Accepted.{Accepts, late, two_tests, three_tests, four_tests, room_left, there_is, differing}
 use Rattle.gr_script.proofs.Follows.{AllFollow}
 use Rattle.gr_script.proofs.Gone.{departed_said, gone_said, hears_said}
 use Rattle.gr_script.proofs.Standing.{asks_said}
@@ -102,6 +101,10 @@ module _ (past : List Saying) (whole : 4 ≤ stage past) where
   plain_accepts client (Query asked) c s plain kept = absurd plain
   plain_accepts client (Peek key) c s plain kept = peek_accepts client key c s kept
 
+  pub delivery_accepts : (to client seq : ℕ) → AllSuit (setting past) (fields kind.Deliver) (saying_in (Deliver to client seq)).items
+      → refusal (delivery_tests past to client seq) ≡ None → Accepts past (saying_in (Deliver to client seq))
+  delivery_accepts to client seq suit passes = accept (saying_in (Deliver to client seq)) refl suit passes
+
 module _ (past : List Saying) (all : AllFollow past) (head : IsHeading (heading_said past))
     (named : region past ≡ Some (heading_said past).region) (whole : 4 ≤ stage past) where
   client_suits : (client : ℕ) → IsStated client (heading_said past) → IsClient (setting past) client
@@ -158,8 +161,7 @@ module _ (past : List Saying) (all : AllFollow past) (head : IsHeading (heading_
       → Accepts past (saying_in line)
   line_accepts (Step client seq act) stands names here kept = act_accepts client act (client_suits client stands.0) (names, here) stands.2 kept
   line_accepts (Deliver to client seq) stands names here kept =
-      accept past whole (saying_in (Deliver to client seq)) refl
-      (tt, (member_suits to stands.0, ((client_suits client stands.1, kept), tt)))
+      delivery_accepts past whole to client seq (tt, (member_suits to stands.0, ((client_suits client stands.1, kept), tt)))
       (three_tests _ _ _ reason.Later reason.Itself reason.Gone
       (there_is seq (steps client past) _ (tallied (λ m. m.step) client past refl all) stands.2)
       (differing (eqb to (home client past)) stands.3) (stays_said to names))

@@ -1,5 +1,5 @@
 -- What is kept of the earlier lines, with one more behind the heading.
-use Rattle.std.proofs.Common.{◌≡◌, ◌∙◌, ◌+◌, ℕ, ◌≤◌, ◌<◌, List, [], ◌∷◌, ◌++◌, true, false, length, sym, arith}
+use Rattle.std.proofs.Common.{◌≡◌, ◌∙◌, ℕ, ◌≤◌, ◌<◌, List, [], ◌∷◌, ◌++◌, true, false, length, sym, arith}
 use Rattle.std.proofs.Common.{Option, zero, suc, replicate, refl}
 use Rattle.std.proofs.lemmas.Bool.{cond-false}
 use Rattle.gr_script.specs.declared.attendance.Presence.{Presence}

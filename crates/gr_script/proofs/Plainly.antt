@@ -1,9 +1,12 @@
--- A step whose line is spelled as it is printed.
+-- A step, and a delivery, whose line is spelled as it is printed.
 use Rattle.std.proofs.Common.{◌≡◌, ◌∙◌, ℕ, ◌+◌, ◌*◌, ◌-◌, ◌/◌, ◌%◌, ◌≤◌, ◌<◌, List, [], ◌∷◌, ◌++◌, Bool, true, false, ◌&&◌, eqb, Option, Some, None}
-use Rattle.std.proofs.Common.{refl, sym, ap, subst, arith, inl, inr, decimal, length, take, drop, slice_index_or}
-use Rattle.std.specs.Prelude.{IfSome, bytes_eq}
-use Rattle.std.proofs.lemmas.Bool.{cases_Bool, eqb-true, cond-true}
-use Rattle.std.proofs.lemmas.Fmt.{decimal_digit}
+use Rattle.std.proofs.Common.{refl, sym, ap, subst, arith, inl, inr, decimal, length, take, drop, slice_index_or, get_or, cond, leb, ◌^◌}
+use Rattle.std.specs.Prelude.{IfSome, bytes_eq, codes}
+use Rattle.std.specs.Char.{is_ascii_digit}
+use Rattle.std.specs.List.{fold, list_all}
+use Rattle.std.proofs.lemmas.Bool.{cases_Bool, eqb-true, cond-true, and_from, and_parts, le-leb, leb-true}
+use Rattle.std.proofs.lemmas.Fmt.{decimal_digit, decimal-digits_value}
+use Rattle.std.proofs.lemmas.Str.Parse.{IsDigitsTest, IsNumeralModel, numerals_by_fold}
 use Rattle.std.proofs.lemmas.List.{append-nil, take-append-drop}
 use Rattle.std.proofs.lemmas.Slice.Eq.{bytes_eq-Decides}
 use Rattle.itoa.proofs.Decimal.{decimal_two, pair}
@@ -18,8 +21,10 @@ use Rattle.gr_script.specs.declared.forms.LineKind.TheVariants as kind
 use Rattle.gr_script.specs.declared.line.Act.{Act}
 use Rattle.gr_script.specs.declared.line.Act.TheVariants.{Call, Query, Peek}
 use Rattle.gr_script.specs.Forms.{word}
-use Rattle.gr_script.specs.Plain.{IsPrinted, IsSpelled, IsPlain}
+use Rattle.gr_script.specs.Numerals.{begins_number, is_number, number_of, worth}
+use Rattle.gr_script.specs.Plain.{IsPrinted, IsSpelled, IsPlain, delivery_saying}
 use Rattle.gr_script.specs.Printed.{act_saying}
+use Rattle.gr_script.specs.Printing.{saying_text}
 use Rattle.gr_script.specs.Refusals.{is_replayed}
 use Rattle.gr_script.specs.Texts.{cut}
 use Rattle.gr_script.proofs.Texts.{with_first, cut_there}
@@ -49,21 +54,21 @@ cut_joined mark (byte ∷ bytes) =
           (joined_more mark byte bytes (cut mark bytes) (cut_joined mark bytes))
     ]
 
--- ---- the client
+-- ---- a number of one digit or two
 
 all_taken : (few : ℕ) (rest : List ℕ) (all : ℕ) → all ≡ few + length rest → take (all - few) rest ≡ rest
 all_taken few rest all is =
     let count : all - few ≡ length rest = omega (arith, is) in
     ap (λ (n : ℕ). take n rest) count ∙ take-length rest
 
-pub one_digit : (text : List ℕ) (n : ℕ) → 2 ≤ length text → slice_index_or text 0 0 ≡ 48 + n → slice_index_or text 1 0 ≡ 0x20 → n < 10
-    → text ≡ decimal n ++ 0x20 ∷ take (length text - 2) (drop 2 text)
-one_digit [] n long ones space few = absurd (omega (arith, long))
-one_digit (a ∷ []) n long ones space few = absurd (omega (arith, long))
-one_digit (a ∷ b ∷ rest) n long ones space few =
+pub one_digit : (mark : ℕ) (text : List ℕ) (n : ℕ) → 2 ≤ length text → slice_index_or text 0 0 ≡ 48 + n
+    → slice_index_or text 1 0 ≡ mark → n < 10 → text ≡ decimal n ++ mark ∷ take (length text - 2) (drop 2 text)
+one_digit mark [] n long ones behind few = absurd (omega (arith, long))
+one_digit mark (a ∷ []) n long ones behind few = absurd (omega (arith, long))
+one_digit mark (a ∷ b ∷ rest) n long ones behind few =
     let whole : take (length (a ∷ b ∷ rest) - 2) rest ≡ rest = all_taken 2 rest (length (a ∷ b ∷ rest)) (omega arith) in
-    (λ i. ones i ∷ space i ∷ sym whole i)
-    ∙ ap (λ (digits : List ℕ). digits ++ 0x20 ∷ take (length (a ∷ b ∷ rest) - 2) rest) (sym (decimal_digit n few))
+    (λ i. ones i ∷ behind i ∷ sym whole i)
+    ∙ ap (λ (digits : List ℕ). digits ++ mark ∷ take (length (a ∷ b ∷ rest) - 2) rest) (sym (decimal_digit n few))
 
 two_pair : (tens ones : ℕ) → ones < 10 → pair (tens * 10 + ones) ≡ (48 + tens) ∷ (48 + ones) ∷ []
 two_pair tens ones few =
@@ -71,16 +76,16 @@ two_pair tens ones few =
     let low : (tens * 10 + ones) % 10 ≡ ones = omega (arith, few) in
     (λ i. (48 + high i) ∷ (48 + low i) ∷ [])
 
-pub two_digits : (text : List ℕ) (tens ones : ℕ) → 3 ≤ length text → slice_index_or text 0 0 ≡ 48 + tens
-    → slice_index_or text 1 0 ≡ 48 + ones → slice_index_or text 2 0 ≡ 0x20 → 0 < tens → tens < 10 → ones < 10
-    → text ≡ decimal (tens * 10 + ones) ++ 0x20 ∷ take (length text - 3) (drop 3 text)
-two_digits [] tens ones long a_is b_is space some few small = absurd (omega (arith, long))
-two_digits (a ∷ []) tens ones long a_is b_is space some few small = absurd (omega (arith, long))
-two_digits (a ∷ b ∷ []) tens ones long a_is b_is space some few small = absurd (omega (arith, long))
-two_digits (a ∷ b ∷ c ∷ rest) tens ones long a_is b_is space some few small =
+pub two_digits : (mark : ℕ) (text : List ℕ) (tens ones : ℕ) → 3 ≤ length text → slice_index_or text 0 0 ≡ 48 + tens
+    → slice_index_or text 1 0 ≡ 48 + ones → slice_index_or text 2 0 ≡ mark → 0 < tens → tens < 10 → ones < 10
+    → text ≡ decimal (tens * 10 + ones) ++ mark ∷ take (length text - 3) (drop 3 text)
+two_digits mark [] tens ones long a_is b_is behind some few small = absurd (omega (arith, long))
+two_digits mark (a ∷ []) tens ones long a_is b_is behind some few small = absurd (omega (arith, long))
+two_digits mark (a ∷ b ∷ []) tens ones long a_is b_is behind some few small = absurd (omega (arith, long))
+two_digits mark (a ∷ b ∷ c ∷ rest) tens ones long a_is b_is behind some few small =
     let whole : take (length (a ∷ b ∷ c ∷ rest) - 3) rest ≡ rest = all_taken 3 rest (length (a ∷ b ∷ c ∷ rest)) (omega arith) in
-    (λ i. a_is i ∷ b_is i ∷ space i ∷ sym whole i)
-    ∙ ap (λ (digits : List ℕ). digits ++ 0x20 ∷ take (length (a ∷ b ∷ c ∷ rest) - 3) rest)
+    (λ i. a_is i ∷ b_is i ∷ behind i ∷ sym whole i)
+    ∙ ap (λ (digits : List ℕ). digits ++ mark ∷ take (length (a ∷ b ∷ c ∷ rest) - 3) rest)
     (sym (decimal_two (tens * 10 + ones) (omega (arith, some)) (omega (arith, few, small)) ∙ two_pair tens ones small))
 
 -- ---- what stands in front
@@ -164,3 +169,52 @@ quiet true client (Query asked) plain = absurd plain
 quiet true client (Peek key) plain = refl
 quiet true client (Call (ask.Get key)) plain = refl
 quiet true client (Call _) plain = refl
+
+-- ---- a number of any digits
+
+abbrev AreDigits : List ℕ → Type 0
+AreDigits text = list_all is_ascii_digit text ≡ true
+
+tells_digits : IsDigitsTest AreDigits
+tells_digits = record {
+  empty = refl;
+  parts = λ c cs all. let both = and_parts (is_ascii_digit c) (list_all is_ascii_digit cs) all in
+      let ends = and_parts (leb 48 c) (leb c 57) both.0 in ((leb-true 48 c ends.0, leb-true c 57 ends.1), both.1);
+  more = λ c cs within all. and_from _ _ (and_from _ _ (le-leb 48 c within.0) (le-leb c 57 within.1)) all;
+}
+
+abbrev worth_from : ℕ → List ℕ → ℕ
+worth_from number digits = fold (λ number digit. number * 10 + (digit - 0x30)) number digits
+
+numerals : IsNumeralModel AreDigits worth
+numerals = numerals_by_fold AreDigits tells_digits worth_from (record { empty = λ n. refl; more = λ n c cs within. refl })
+
+one_zero : (text : List ℕ) → begins_number text ≡ true → get_or text 0 0 ≡ 48 → length text ≡ 1
+one_zero [] begun zero = absurd (omega (arith, zero))
+one_zero (first ∷ more) begun zero = grind (arith, begun, zero)
+
+pub decimal_of : (text : List ℕ) (number : ℕ) → number_of text ≡ Some number → number < 2 ^ 32 → text ≡ decimal number
+decimal_of text number is few =
+    let read = some_only (is_number text) (worth text) number is in
+    let begun = and_parts (begins_number text && leb (length text) 20) (list_all is_ascii_digit text) read.0 in
+    let first = and_parts (begins_number text) (leb (length text) 20) begun.0 in
+    sym (decimal-digits_value numerals text begun.1 (some_digits text first.0) (one_zero text first.0) (omega (arith, few, read.1)))
+    ∙ ap decimal read.1
+  where
+    some_only : (test : Bool) (worth number : ℕ) → cond test (Some worth) None ≡ Some number → (test ≡ true) × (worth ≡ number)
+    some_only true worth number is = (refl, cc)
+    some_only false worth number is = absurd cc
+
+    some_digits : (text : List ℕ) → begins_number text ≡ true → 0 < length text
+    some_digits [] begun = absurd cc
+    some_digits (first ∷ more) begun = omega arith
+
+-- ---- a delivery
+
+pub delivery_printed : (line rest behind text : List ℕ) (to client seq : ℕ) → line ≡ codes "deliver " ++ rest
+    → rest ≡ decimal to ++ 0x20 ∷ behind → behind ≡ decimal client ++ 0x2E ∷ text → text ≡ decimal seq
+    → line ≡ saying_text (delivery_saying (record { to = to; client = client; seq = seq }))
+delivery_printed line rest behind text to client seq line_is rest_is behind_is text_is =
+    line_is
+    ∙ ap (λ (r : List ℕ). codes "deliver " ++ r) (rest_is ∙ ap (λ (b : List ℕ). decimal to ++ 0x20 ∷ b)
+    (behind_is ∙ ap (λ (t : List ℕ). decimal client ++ 0x2E ∷ t) text_is ∙ sym (append-nil (decimal client ++ 0x2E ∷ decimal seq))))

@@ -12,9 +12,9 @@ use Rattle.gr_script.specs.declared.line.Line.{Line}
 use Rattle.gr_script.specs.declared.reason.Reason.{Reason}
 use Rattle.gr_script.specs.declared.reason.Reason.TheVariants.{Away, Count, Gone}
 use Rattle.gr_script.specs.declared.saying.Saying.{Saying}
-use Rattle.gr_script.specs.Absence.{asks, presence, returned}
+use Rattle.gr_script.specs.Absence.{asks, returned}
 use Rattle.gr_script.specs.Forms.{rank}
-use Rattle.gr_script.specs.Past.{setting, region, founders, home, steps, reports, joins, gifts, hears, count_of, queries, stage}
+use Rattle.gr_script.specs.Past.{setting, region, founders, home, steps, reports, joins, gifts, hears, count_of, stage}
 use Rattle.gr_script.specs.Past.{next_rank}
 use Rattle.gr_script.specs.Refusals.{tests, refusal, is_missing, asks as asks_here, is_away, is_full, is_gone, last_moment, open_count}
 use Rattle.gr_script.specs.Rules.{Heading, IsWithin, IsStated, StandsAfter, AllBehind, AllStand, Stays, NamesStaying}

@@ -1,29 +1,33 @@
 -- What the lines say that were taken in, with one line more.
 use Rattle.std.proofs.Common.{◌≡◌, ◌∙◌, ℕ, zero, suc, ◌+◌, ◌≤◌, ◌<◌, List, [], ◌∷◌, ◌++◌, length, take, drop, take-suc, drop-cons}
-use Rattle.std.proofs.Common.{Bool, true, false, cond, Option, Some, Result, Ok, Err, refl, sym, ap, subst, arith, get_or}
+use Rattle.std.proofs.Common.{Bool, true, false, cond, Option, Some, None, Result, Ok, Err, refl, sym, ap, subst, arith, get_or}
 use Rattle.std.specs.List.{AllByRecursion, cons_option}
 use Rattle.std.proofs.lemmas.List.{length-take-le, length-drop}
+use Rattle.gr_script.specs.declared.forms.LineKind.TheVariants as kind
 use Rattle.gr_script.specs.declared.items.Setting.{Setting}
 use Rattle.gr_script.specs.declared.line.Line.{Line}
+use Rattle.gr_script.specs.declared.plain.Delivery.{Delivery}
 use Rattle.gr_script.specs.declared.plain.PlainStep.{PlainStep}
 use Rattle.gr_script.specs.declared.reason.Reason.{Reason}
 use Rattle.gr_script.specs.declared.saying.Saying.{Saying}
 use Rattle.gr_script.specs.Cuts.{is_skipped, text_said}
+use Rattle.gr_script.specs.Forms.{fields}
 use Rattle.gr_script.specs.Halts.{◌>>=◌}
 use Rattle.gr_script.specs.Items.{text_at}
 use Rattle.gr_script.specs.Kept.{CanBeKept}
 use Rattle.gr_script.specs.Past.{home, setting, stage}
-use Rattle.gr_script.specs.Plain.{IsPrinted}
+use Rattle.gr_script.specs.Plain.{IsPrinted, delivery_saying}
 use Rattle.gr_script.specs.Printed.{act_saying}
-use Rattle.gr_script.specs.Refusals.{is_away, is_gone, past_with, saying_at}
+use Rattle.gr_script.specs.Printing.{saying_text}
+use Rattle.gr_script.specs.Refusals.{delivery_tests, is_away, is_gone, past_with, refusal, saying_at}
 use Rattle.gr_script.specs.Said.{line_of, lines_said}
 use Rattle.gr_script.specs.Sayings.{go_on, sayings_from}
 use Rattle.gr_script.specs.Taken.{Taken, unless_longer, said_by, said, ahead, advanced, lines_taken, IsNext, IsTaken}
-use Rattle.gr_script.specs.Suiting.{IsClient}
+use Rattle.gr_script.specs.Suiting.{AllSuit, IsClient}
 use Rattle.gr_script.specs.Texts.{lines_of, IsLine}
 use Rattle.gr_script.proofs.Follows.{AllFollow, past_follows, with_length}
 use Rattle.gr_script.proofs.Accepted.{past_read}
-use Rattle.gr_script.proofs.LineAccepted.{plain_accepts}
+use Rattle.gr_script.proofs.LineAccepted.{delivery_accepts, plain_accepts}
 use Rattle.gr_script.proofs.Narrowed.{can_be_kept}
 use Rattle.gr_script.proofs.Plainly.{quiet}
 use Rattle.gr_script.proofs.RestsRead.{lines_are_lines}
@@ -200,3 +204,13 @@ printed_says runs past line step set printed whole is client stays here =
     ∙ past_read runs past (act_saying step.client step.act) (quiet runs step.client step.act printed.plain)
     (plain_accepts past whole step.client step.act (subst (λ (s : Setting). IsClient s step.client) is client) (stays, here) printed.plain
     printed.kept)
+
+-- A line that is printed for a delivery says that delivery.
+pub delivery_says : (past : List Saying) (line : List ℕ) (delivery : Delivery) → line ≡ saying_text (delivery_saying delivery)
+    → 4 ≤ stage past → AllSuit (setting past) (fields kind.Deliver) (delivery_saying delivery).items
+    → refusal (delivery_tests past delivery.to delivery.client delivery.seq) ≡ None
+    → past_with false past line ≡ Ok (delivery_saying delivery ∷ past)
+delivery_says past line delivery printed whole suit passes =
+    ap (past_with false past) printed
+    ∙ past_read false past (delivery_saying delivery) refl
+    (delivery_accepts past whole delivery.to delivery.client delivery.seq suit passes)

@@ -1,7 +1,6 @@
 -- Clients that leave and come back, and the queries that each has open.
 use Rattle.std.specs.Prelude.{◌≡◌, ℕ, ◌-◌, ◌+◌, ◌==◌, List, [], ◌∷◌, Bool, true, false, not, nat_le, bytes_eq, filter, length, get_or}
 use Rattle.std.specs.Prelude.{if◌then◌else◌}
-use Rattle.gr_history.specs.declared.query_ask.QueryAsk.{QueryAsk}
 use Rattle.gr_history.specs.declared.query_ask.QueryAsk.TheVariants as query
 use Rattle.gr_history.specs.Regions.{with_key}
 use Rattle.gr_script.specs.declared.attendance.Presence.{Presence}

@@ -1,12 +1,15 @@
--- A client's step that is no query's, spelled as it is printed.
+-- A client's step that is no query's, and a delivery, spelled as they are printed.
 use Rattle.std.specs.Prelude.{◌≡◌, ℕ, List, ◌∷◌, ◌++◌, ⊤}
 use Rattle.std.specs.Fmt.{decimal}
 use Rattle.gr_script.specs.declared.forms.LineKind.{LineKind}
 use Rattle.gr_script.specs.declared.line.Act.{Act}
 use Rattle.gr_script.specs.declared.line.Act.TheVariants.{Query}
+use Rattle.gr_script.specs.declared.line.Line.TheVariants.{Deliver}
+use Rattle.gr_script.specs.declared.plain.Delivery.{Delivery}
 use Rattle.gr_script.specs.declared.plain.PlainStep.{PlainStep}
+use Rattle.gr_script.specs.declared.saying.Saying.{Saying}
 use Rattle.gr_script.specs.Forms.{word}
-use Rattle.gr_script.specs.Printed.{act_saying, IsActKept}
+use Rattle.gr_script.specs.Printed.{act_saying, saying_in, IsActKept}
 use Rattle.gr_script.specs.Printing.{saying_text}
 
 -- a call or a peek
@@ -27,3 +30,7 @@ pub record IsPrinted (line : List ℕ) (step : PlainStep) : Type 0 where
   pub is : (act_saying step.client step.act).kind ≡ step.kind
   pub kept : IsActKept step.act
   pub plain : IsPlain step.act
+
+-- what the line of a delivery says
+abbrev pub delivery_saying : Delivery → Saying
+delivery_saying delivery = saying_in (Deliver delivery.to delivery.client delivery.seq)

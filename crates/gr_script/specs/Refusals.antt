@@ -78,15 +78,16 @@ abbrev pub query_tests : List Saying → Bool → List Item → List (Bool × Re
 query_tests past is_full items =
     (is_gone (home (number 0 items) past) past, Gone) ∷ (is_away (number 0 items) past, Away) ∷ (is_full, Count) ∷ []
 
+-- what a delivery may still be, to a member, of a client's step
+abbrev pub delivery_tests : List Saying → ℕ → ℕ → ℕ → List (Bool × Reason)
+delivery_tests past to client seq =
+    (is_missing seq (steps client past), Later) ∷ (to == home client past, Itself) ∷ (is_gone to past, Gone) ∷ []
+
 -- what a line with good fields may still be, and the reason against it, in order
 abbrev pub tests : List Saying → LineKind → List Item → List (Bool × Reason)
 tests past kind.Members items = (nat_lt (number 0 items) (number 1 items), Range) ∷ []
 tests past kind.Client items = (not (number 0 items == clients past + 1), Order) ∷ []
-tests past kind.Deliver items =
-    (is_missing (number 2 items) (steps (number 1 items) past), Later)
-    ∷ (number 0 items == home (number 1 items) past, Itself)
-    ∷ (is_gone (number 0 items) past, Gone)
-    ∷ []
+tests past kind.Deliver items = delivery_tests past (number 0 items) (number 1 items) (number 2 items)
 tests past kind.Hear items =
     (is_missing (number 2 items) (reports (number 1 items) past), Later)
     ∷ (number 0 items == number 1 items, Itself)

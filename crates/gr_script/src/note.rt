@@ -2,10 +2,11 @@ ghost use Rattle.std.specs.Prelude.{◌≡◌, ◌+◌, ◌++◌, ◌∷◌, [],
 ghost use Rattle.gr_script.specs.declared.forms.LineKind.TheVariants as kind;
 ghost use Rattle.gr_script.specs.Forms.{is_kind};
 ghost use Rattle.gr_script.specs.declared.saying.Saying.{Saying as ASaying};
-ghost use Rattle.gr_script.specs.Past.{count_of, heard_on, next_rank, number, key_in, is_query};
+ghost use Rattle.gr_script.specs.Past.{count_of, heard_on, homes as homes_of, next_rank, number, key_in, is_query, setting, sizes};
 
 use crate::forms::{LineKind, is_kind, rank};
-use crate::items::Item;
+use crate::items::{Item, Setting};
+use crate::past::Sizes;
 use crate::saying::{Saying, number};
 use gr_value::{Copied, ItemList, Key, Memory};
 use std::alloc::Global;
@@ -97,4 +98,34 @@ pub(crate) fn counted(test: bool, count: u32) -> u32
     ensures { result ≡ (if test then 1 else 0) + count }
 {
     if test { count + 1 } else { count }
+}
+
+/// What fields are compared with, where a line of the heading follows, and these are the clients then.
+pub(crate) fn setting_with(
+    alloc: Global,
+    line: &Saying,
+    before: Setting,
+    homes: &ItemList<u128>,
+) -> Result<Setting, Memory>
+    ensures { IfOk result
+        (λ set. (past : List ASaying) → before ≡ setting past → homes.now ≡ homes_of (line.now ∷ past) → set ≡ setting (line.now ∷ past)) }
+{
+    let members = stated_with(LineKind::Members, 0, line, before.members);
+    Ok(Setting {
+        region: region_with(alloc, line, before.region)?,
+        members,
+        clients: homes.len() as u128,
+    })
+}
+
+/// The numbers of the heading that no line is compared with, where a line follows.
+pub(crate) fn sizes_with(line: &Saying, before: Sizes) -> Sizes
+    ensures { (past : List ASaying) → before ≡ sizes past → result ≡ sizes (line.now ∷ past) }
+{
+    Sizes {
+        shards: stated_with(LineKind::Shards, 0, line, before.shards),
+        inbox: stated_with(LineKind::Inbox, 0, line, before.inbox),
+        trouble: stated_with(LineKind::Trouble, 0, line, before.trouble),
+        floor: stated_with(LineKind::Floor, 0, line, before.floor),
+    }
 }

@@ -3,7 +3,7 @@ ghost use Rattle.std.specs.List.{cons_option};
 ghost use Rattle.gr_script.specs.declared.forms.LineKind.TheVariants as kind;
 ghost use Rattle.gr_script.specs.Forms.{is_kind, rank};
 ghost use Rattle.gr_script.specs.Index.{counted};
-ghost use Rattle.gr_script.specs.Plain.{IsPlain};
+ghost use Rattle.gr_script.specs.Plain.{IsPlain, delivery_saying};
 ghost use Rattle.gr_script.specs.Printed.{act_saying, saying_in};
 ghost use Rattle.gr_script.specs.Said.{line_of as line_said};
 ghost use Rattle.gr_script.specs.declared.saying.Saying.{Saying};
@@ -17,8 +17,10 @@ use crate::Line;
 use crate::attendance::Attendance;
 use crate::forms::{LineKind, is_kind, rank};
 use crate::items::Setting;
-use crate::note::{counted, heard_on, homes_with, is_query, next_rank, region_with, stated_with};
-use crate::plain::PlainStep;
+use crate::note::{
+    counted, heard_on, homes_with, is_query, next_rank, setting_with, sizes_with, stated_with,
+};
+use crate::plain::{Delivery, PlainStep};
 use crate::said::line_of;
 use crate::saying::{Saying, number};
 use crate::tally::Tallies;
@@ -387,6 +389,24 @@ impl<'a> Past<'a> {
         Ok(line)
     }
 
+    /// Takes in the next line, which is a delivery, and hands it out.
+    pub(crate) fn push_delivery(
+        &mut self,
+        alloc: Global,
+        delivery: Delivery,
+        after: &'a [u8],
+    ) -> Result<Line, Memory>
+        requires { IsNext self.old (delivery_saying delivery ∷ said self.old) after.now }
+        ensures taken { OnOk result (self.new ≡ advanced self.old) }
+        ensures line { IfOk result (λ line. lines_taken self.new ≡ line ∷ lines_taken self.old) }
+    {
+        let Delivery { to, client, seq } = delivery;
+        let line = Line::Deliver { to, client, seq };
+        let (first, second) = (u128::from(to), u128::from(client));
+        self.put(alloc, LineKind::Deliver, first, second, &line, after)?;
+        Ok(line)
+    }
+
     // Takes in the next line, which has this kind and this number first, behind the heading. The second number
     // is that of the member that a joiner gets its image from.
     #[inline(always)]
@@ -449,23 +469,6 @@ impl<'a> Past<'a> {
     }
 }
 
-fn setting_with(
-    alloc: Global,
-    line: &Saying,
-    before: Setting,
-    homes: &ItemList<u128>,
-) -> Result<Setting, Memory>
-    ensures { IfOk result
-        (λ set. (past : List Saying) → before ≡ setting past → homes.now ≡ homes_of (line.now ∷ past) → set ≡ setting (line.now ∷ past)) }
-{
-    let members = stated_with(LineKind::Members, 0, line, before.members);
-    Ok(Setting {
-        region: region_with(alloc, line, before.region)?,
-        members,
-        clients: homes.len() as u128,
-    })
-}
-
 fn hears_with(kind: LineKind, counts: Counted) -> u64
     requires { (past : List Saying) × (counts ≡ counted past) × (length past < most_lines) }
     ensures { (past : List Saying) → counts ≡ counted past → result ≡ heard_on past kind + hears past }
@@ -484,16 +487,5 @@ fn counted_with(kind: LineKind, counts: Counted) -> Counted
         opens: counted(is_kind(LineKind::Open, kind), counts.opens),
         queries: counted(is_query(kind), counts.queries),
         departs: counted(is_kind(LineKind::Depart, kind), counts.departs),
-    }
-}
-
-fn sizes_with(line: &Saying, before: Sizes) -> Sizes
-    ensures { (past : List Saying) → before ≡ sizes past → result ≡ sizes (line.now ∷ past) }
-{
-    Sizes {
-        shards: stated_with(LineKind::Shards, 0, line, before.shards),
-        inbox: stated_with(LineKind::Inbox, 0, line, before.inbox),
-        trouble: stated_with(LineKind::Trouble, 0, line, before.trouble),
-        floor: stated_with(LineKind::Floor, 0, line, before.floor),
     }
 }

@@ -1,4 +1,4 @@
-// Most lines are calls and peeks that are spelled just as they are printed. Such a line is read in one
+// Most lines are calls, peeks and deliveries that are spelled just as they are printed. Such a line is read in one
 // pass, without the list of its fields. That is right since what is printed is read as the step that it
 // is printed for; any other line is left to the reading of fields.
 ghost use Rattle.std.specs.Prelude.{◌≡◌, ◌<◌, ◌+◌, ◌∷◌, ◌++◌, [], IfOk, IfSome};
@@ -8,10 +8,12 @@ ghost use Rattle.gr_value.specs.Values.{IsValue};
 ghost use Rattle.gr_value.specs.ValueText.{value_text};
 ghost use Rattle.gr_script.specs.declared.forms.LineKind.TheVariants as kind;
 ghost use Rattle.gr_script.specs.Forms.{word};
-ghost use Rattle.gr_script.specs.Plain.{IsPrinted, IsSpelled};
+ghost use Rattle.gr_script.specs.Plain.{IsPrinted, IsSpelled, delivery_saying};
+ghost use Rattle.gr_script.specs.Printing.{saying_text};
 
 use crate::Act;
 use crate::forms::LineKind;
+use crate::numeral::number_of;
 use crate::text::cut;
 use gr_history::Ask;
 use gr_value::{Key, KeyFault, Memory, Value};
@@ -25,6 +27,14 @@ pub(crate) struct PlainStep {
     pub(crate) act: Act,
 }
 
+/// A change that is delivered: to which member, and which step of which client made it.
+#[derive(Clone, Copy)]
+pub(crate) struct Delivery {
+    pub(crate) to: u8,
+    pub(crate) client: u8,
+    pub(crate) seq: u32,
+}
+
 fn digit(byte: u8) -> Option<u8>
     ensures { IfSome result (λ digit. (byte ≡ 48 + digit) × (digit < 10)) }
 {
@@ -32,32 +42,38 @@ fn digit(byte: u8) -> Option<u8>
 }
 
 #[tactic(auto, using(crate::proofs::Plainly::one_digit))]
-fn of_one_digit(text: &[u8]) -> Option<(u8, &[u8])>
-    ensures { IfSome result (λ parts. text.now ≡ decimal parts.0 ++ 0x20 ∷ parts.1.now) }
+fn of_one_digit(mark: u8, text: &[u8]) -> Option<(u8, &[u8])>
+    ensures { IfSome result (λ parts. text.now ≡ decimal parts.0 ++ mark ∷ parts.1.now) }
 {
-    let [ones, b' ', rest @ ..] = text else {
+    let [ones, found, rest @ ..] = text else {
         return None;
     };
+    if *found != mark {
+        return None;
+    }
     Some((digit(*ones)?, rest))
 }
 
 #[tactic(auto, using(crate::proofs::Plainly::two_digits))]
-fn of_two_digits(text: &[u8]) -> Option<(u8, &[u8])>
-    ensures { IfSome result (λ parts. text.now ≡ decimal parts.0 ++ 0x20 ∷ parts.1.now) }
+fn of_two_digits(mark: u8, text: &[u8]) -> Option<(u8, &[u8])>
+    ensures { IfSome result (λ parts. text.now ≡ decimal parts.0 ++ mark ∷ parts.1.now) }
 {
-    let [tens, ones, b' ', rest @ ..] = text else {
+    let [tens, ones, found, rest @ ..] = text else {
         return None;
     };
+    if *found != mark {
+        return None;
+    }
     let (tens, ones) = (digit(*tens)?, digit(*ones)?);
     (tens != 0).then_some((tens * 10 + ones, rest))
 }
 
-// The number in front, which has one digit or two, and what stands behind the space that follows it.
-fn client_in(text: &[u8]) -> Option<(u8, &[u8])>
-    ensures { IfSome result (λ parts. text.now ≡ decimal parts.0 ++ 0x20 ∷ parts.1.now) }
+// The number in front, which has one digit or two, and what stands behind the mark that follows it.
+fn number_before(mark: u8, text: &[u8]) -> Option<(u8, &[u8])>
+    ensures { IfSome result (λ parts. text.now ≡ decimal parts.0 ++ mark ∷ parts.1.now) }
 {
-    match of_one_digit(text) {
-        None => of_two_digits(text),
+    match of_one_digit(mark, text) {
+        None => of_two_digits(mark, text),
         found => found,
     }
 }
@@ -252,7 +268,7 @@ fn act_in(alloc: Global, kind: LineKind, rest: &[u8]) -> Result<Option<Act>, Mem
 pub(crate) fn step_in(alloc: Global, line: &[u8]) -> Result<Option<PlainStep>, Memory>
     ensures { IfOk result (λ found. IfSome found (IsPrinted line.now)) }
 {
-    let Some((client, rest)) = client_in(line) else {
+    let Some((client, rest)) = number_before(b' ', line) else {
         return Ok(None);
     };
     let Some((kind, rest)) = kind_in(rest) else {
@@ -262,4 +278,24 @@ pub(crate) fn step_in(alloc: Global, line: &[u8]) -> Result<Option<PlainStep>, M
         Some(act) => Ok(Some(PlainStep { kind, client, act })),
         None => Ok(None),
     }
+}
+
+// The number that all these bytes are printed for.
+#[tactic(auto, using(crate::proofs::Plainly::decimal_of))]
+fn decimal_in(text: &[u8]) -> Option<u32>
+    ensures { IfSome result (λ number. text.now ≡ decimal number) }
+{
+    u32::try_from(number_of(text)?).ok()
+}
+
+/// The delivery that the line is printed for. None of another line, and of one that is spelled otherwise.
+#[tactic(auto, using(crate::proofs::Plainly::delivery_printed))]
+pub(crate) fn delivery_in(line: &[u8]) -> Option<Delivery>
+    ensures { IfSome result (λ delivery. line.now ≡ saying_text (delivery_saying delivery)) }
+{
+    let rest = behind_front(b"deliver ", line)?;
+    let (to, rest) = number_before(b' ', rest)?;
+    let (client, rest) = number_before(b'.', rest)?;
+    let seq = decimal_in(rest)?;
+    Some(Delivery { to, client, seq })
 }

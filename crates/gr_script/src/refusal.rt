@@ -5,7 +5,7 @@ ghost use Rattle.gr_script.specs.Limits.{most_hears, most_queries, most_sweeps};
 ghost use Rattle.gr_script.specs.Past.{count_of, gifts, hears, home, number, reports, steps};
 ghost use Rattle.gr_script.specs.Halts.{Yields};
 ghost use Rattle.gr_script.specs.Refusals.{is_begun, lacks, is_missing, is_full, is_no_join, is_gone, is_away, is_replayed, tests};
-ghost use Rattle.gr_script.specs.Refusals.{asks, last_moment, open_count, query_tests, step_tests};
+ghost use Rattle.gr_script.specs.Refusals.{asks, delivery_tests, last_moment, open_count, query_tests, step_tests};
 ghost use Rattle.gr_script.specs.Refusals.{refusal, form_at, saying_at};
 ghost use Rattle.gr_script.specs.Taken.{said};
 
@@ -123,32 +123,21 @@ fn is_early(past: &Past, items: &[Item]) -> bool
     number(1, items) < u128::from(past.last_moment(number(0, items)))
 }
 
-// Whether the step that is delivered is one of the member's own.
-fn is_own_step(past: &Past, items: &[Item]) -> bool
-    ensures { result ≡ (number 0 items.now == home (number 1 items.now) (said past.now)) }
+/// Why a client's step can't be delivered to a member.
+pub(crate) fn undeliverable(past: &Past, to: u128, client: u128, seq: u128) -> Option<Reason>
+    ensures { result ≡ refusal (delivery_tests (said past.now) to client seq) }
 {
-    number(0, items) == past.home(number(1, items))
-}
-
-fn is_late_step(past: &Past, items: &[Item]) -> bool
-    ensures { result ≡ is_missing (number 2 items.now) (steps (number 1 items.now) (said past.now)) }
-{
-    is_missing(number(2, items), past.steps(number(1, items)))
+    if is_missing(seq, past.steps(client)) {
+        return Some(Reason::Later);
+    }
+    let own = to == past.home(client);
+    reason_of(own, Reason::Itself, past.is_gone(to), Reason::Gone)
 }
 
 fn delivery_refusal(past: &Past, items: &[Item]) -> Option<Reason>
     ensures { result ≡ refusal (tests (said past.now) kind.Deliver items.now) }
 {
-    if is_late_step(past, items) {
-        return Some(Reason::Later);
-    }
-    let own = is_own_step(past, items);
-    reason_of(
-        own,
-        Reason::Itself,
-        names_gone(past, 0, items),
-        Reason::Gone,
-    )
+    undeliverable(past, number(0, items), number(1, items), number(2, items))
 }
 
 fn is_late_report(past: &Past, items: &[Item]) -> bool

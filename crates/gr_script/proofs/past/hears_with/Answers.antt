@@ -1,4 +1,4 @@
-use Rattle.std.proofs.Common.{◌∙◌, ℕ, ◌+◌, ◌*◌, ◌<◌, ◌≤◌, ap, arith}
+use Rattle.std.proofs.Common.{◌∙◌, ℕ, ◌+◌, ap, arith}
 use Rattle.gr_script.specs.declared.past.Counted.{Counted}
 use Rattle.gr_script.specs.Past.{heard_on}
 use Rattle.gr_script.proofs.Gone.{hears_few}

@@ -26,7 +26,7 @@ reads_skipped c =
 
 pub skip-requires : goal.skip-requires
 skip-requires c =
-    let same = subst (AsBefore c.args.past.now c.take_step.new.past) c.in_default.is c.in_ok-line.ensures.none in
+    let same = subst (AsBefore c.args.past.now c.take_printed.new.past) c.in_default.is c.in_ok-line.ensures.none in
     let t = c.args.past.now in
     subst (λ (s : Taken). IsNext s (said s) c.args.next.after.now) (sym same)
     (is_next t c.args.next.line.now c.args.next.after.now (said t) c.requires
@@ -35,7 +35,7 @@ skip-requires c =
 
 still_said : (c : goal.After-skip) → said c.skip.new.self ≡ said c.args.past.now
 still_said c =
-    let same = subst (AsBefore c.args.past.now c.take_step.new.past) c.in_default.is c.in_ok-line.ensures.none in
+    let same = subst (AsBefore c.args.past.now c.take_printed.new.past) c.in_default.is c.in_ok-line.ensures.none in
     ap said (c.skip.ensures ∙ ap advanced same)
     ∙ said_next c.args.past.now (said c.args.past.now) c.args.next.after.now
     (is_next c.args.past.now c.args.next.line.now c.args.next.after.now (said c.args.past.now) c.requires (reads_skipped c))
@@ -50,27 +50,27 @@ returns-then-is_skipped-clause-line c = ap lines_said (still_said c)
 
 pub push-requires : goal.push-requires
 push-requires c =
-    let same = subst (AsBefore c.args.past.now c.take_step.new.past) c.in_default.is c.in_ok-line.ensures.none in
+    let same = subst (AsBefore c.args.past.now c.take_printed.new.past) c.in_default.is c.in_ok-line.ensures.none in
     let t = c.args.past.now in
     let saying = c.in_ok-saying.saying in
     let text = c.text_said-text.result.now in
     let reads = says t.runs (said t) c.args.next.line.now _ _ saying c.in_ok-text_at.ensures
     (c.text_said-text.ensures ∙ ap text_said c.as_bytes.ensures.value) (sym c.is_skipped.ensures ∙ c.if-is_skipped.false)
     (subst (λ (s : Taken). saying_at s.runs (said s) text ≡ Ok saying) same
-    (subst (λ (runs : Bool). saying_at runs (said c.take_step.new.past) text ≡ Ok saying) c.runs.ensures c.in_ok-saying.ensures)) in
+    (subst (λ (runs : Bool). saying_at runs (said c.take_printed.new.past) text ≡ Ok saying) c.runs.ensures c.in_ok-saying.ensures)) in
     subst (λ (s : Taken). IsNext s (saying ∷ said s) c.args.next.after.now) (sym same)
     (is_next t c.args.next.line.now c.args.next.after.now (saying ∷ said t) c.requires reads)
 
 pub returns-clause-exact : goal.returns-clause-exact
 returns-clause-exact c =
-    let same = subst (AsBefore c.args.past.now c.take_step.new.past) c.in_default.is c.in_ok-line.ensures.none in
+    let same = subst (AsBefore c.args.past.now c.take_printed.new.past) c.in_default.is c.in_ok-line.ensures.none in
     let t = c.args.past.now in
     let saying = c.in_ok-saying.saying in
     let text = c.text_said-text.result.now in
     let reads = says t.runs (said t) c.args.next.line.now _ _ saying c.in_ok-text_at.ensures
     (c.text_said-text.ensures ∙ ap text_said c.as_bytes.ensures.value) (sym c.is_skipped.ensures ∙ c.if-is_skipped.false)
     (subst (λ (s : Taken). saying_at s.runs (said s) text ≡ Ok saying) same
-    (subst (λ (runs : Bool). saying_at runs (said c.take_step.new.past) text ≡ Ok saying) c.runs.ensures c.in_ok-saying.ensures)) in
+    (subst (λ (runs : Bool). saying_at runs (said c.take_printed.new.past) text ≡ Ok saying) c.runs.ensures c.in_ok-saying.ensures)) in
     let now = ap said (c.in_ok-push.ensures.taken ∙ ap advanced same)
     ∙ said_next t (saying ∷ said t) c.args.next.after.now
     (is_next t c.args.next.line.now c.args.next.after.now (saying ∷ said t) c.requires reads) in

@@ -1,4 +1,4 @@
-use Rattle.std.proofs.Common.{◌∙◌, Option, None, option_copied, sym, ap}
+use Rattle.std.proofs.Common.{◌∙◌, None, option_copied, sym, ap}
 use Rattle.gr_script.specs.declared.attendance.Presence.{Presence}
 use Rattle.gr_script.proofs.Absences.{kept_at}
 use Rattle.gr_script.proofs.attendance.Attendance.is_away.Goals as goal

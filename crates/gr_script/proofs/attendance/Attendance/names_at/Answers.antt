@@ -1,6 +1,6 @@
 use Rattle.std.proofs.Common.{◌≡◌, ◌∙◌, ℕ, List, [], ◌&&◌, cond, None, option_copied, slice_get, IfOk, sym, ap, subst}
 use Rattle.gr_script.specs.declared.attendance.Presence.{Presence}
-use Rattle.gr_script.specs.Absence.{at_first, is_late}
+use Rattle.gr_script.specs.Absence.{is_late}
 use Rattle.gr_script.proofs.Absences.{both_none, kept_at}
 use Rattle.gr_script.proofs.attendance.Attendance.names_at.Goals as goal
 

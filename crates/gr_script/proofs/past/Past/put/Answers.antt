@@ -1,4 +1,4 @@
-use Rattle.std.proofs.Common.{◌≡◌, ◌∙◌, ℕ, List, ◌+◌, ◌≤◌, ◌∷◌, Option, Some, sym, ap, subst, arith}
+use Rattle.std.proofs.Common.{◌≡◌, ◌∙◌, List, ◌+◌, ◌≤◌, ◌∷◌, Option, Some, sym, ap, subst, arith}
 use Rattle.std.specs.List.{cons_option}
 use Rattle.gr_script.specs.declared.forms.LineKind.{LineKind}
 use Rattle.gr_script.specs.declared.saying.Saying.{Saying}
