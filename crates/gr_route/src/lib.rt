@@ -7,8 +7,6 @@ mod enrolled;
 mod laws;
 mod openings;
 mod router;
-#[cfg(test)]
-mod tests;
 mod turning;
 
 pub use laws::unreached_queries_are_told_nothing;

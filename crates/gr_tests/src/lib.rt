@@ -4,7 +4,7 @@
 #[cfg(test)]
 mod lexing;
 #[cfg(test)]
-mod registry;
+mod routing;
 #[cfg(test)]
 mod shard;
 #[cfg(test)]
