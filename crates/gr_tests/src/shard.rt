@@ -2,7 +2,7 @@ ghost use Rattle.std.specs.Prelude.{◌≡◌, IfOk};
 ghost use Rattle.gr_value.specs.Shard.{shard_of};
 ghost use Rattle.gr_history.specs.Asks.{key_of};
 
-use gr_history::{Ask, Done, Reply};
+use gr_history::Ask;
 use gr_shard::{Identity, Shard};
 use gr_slots::Slot;
 use gr_stamp::{Stamp, decide};
@@ -29,14 +29,6 @@ fn put(alloc: Global, key: &Key) -> Result<Ask, Fail>
     })
 }
 
-fn destroy(alloc: Global, key: &Key) -> Result<Ask, Memory>
-    ensures { IfOk result (λ ask. key_of ask ≡ key.now) }
-{
-    Ok(Ask::Destroy {
-        key: key.copy(alloc)?,
-    })
-}
-
 fn invalidate(alloc: Global, key: &Key) -> Result<Ask, Memory>
     ensures { IfOk result (λ ask. key_of ask ≡ key.now) }
 {
@@ -54,34 +46,6 @@ fn invalidated(alloc: Global, key: &Key) -> Result<Shard, Fail>
     shard.serve(alloc, 1, 2, invalidate(alloc, key)?)?;
     shard.serve(alloc, 1, 3, invalidate(alloc, key)?)?;
     Ok(shard)
-}
-
-// A shard at which the second client removed an absent key, and the first put a value there.
-fn filled(alloc: Global, key: &Key) -> Result<Shard, Fail>
-    requires { shard_of key.now 1 ≡ 0 }
-{
-    let mut shard = Shard::new(alloc, FIRST, 3)?;
-    shard.serve(alloc, 2, 1, destroy(alloc, key)?)?;
-    shard.serve(alloc, 1, 1, put(alloc, key)?)?;
-    Ok(shard)
-}
-
-// What the second client's put gives at a shard whose floor is 3.
-fn first_put(alloc: Global, ask: &Ask) -> Result<Done, Memory>
-    requires { shard_of (key_of ask.now) 1 ≡ 0 }
-{
-    let mut shard = Shard::new(alloc, FIRST, 3)?;
-    Ok(shard.call(alloc, 2, 1, ask)?)
-}
-
-// Whether it was told that there was no value, to whom the change goes, and its stamp's three numbers.
-fn told(done: &Done) -> (bool, u8, Option<(u64, u8, u64)>) {
-    let numbers = done.made.as_ref().map(|change| (
-        change.stamp.ver(),
-        change.stamp.member(),
-        change.stamp.rv(),
-    ));
-    (matches!(done.reply, Reply::Null), done.to, numbers)
 }
 
 // The floor, the version of what stands at the key, and what is known of the first member's changes.
@@ -108,27 +72,6 @@ fn left(alloc: Global, shard: &Shard) -> Result<(u64, usize, u64, u64), Memory> 
     ))
 }
 
-// The removal makes nothing, and the put has the version 4 and the first number.
-#[test]
-fn a_shard_tells_what_stands(rt: HostRuntime) -> Result<(), Fail> {
-    let alloc = rt.alloc();
-    let key = Key::read(alloc, b"a")?;
-    assert_eq!(rt; key.shard(1), 0);
-    let shard = filled(alloc, &key)?;
-    assert!(rt; stands(&shard, &key) == (3, Some(4), true, false, 1));
-    let history = shard.history();
-    assert_eq!(rt;
-        (
-            history.calls_of(1),
-            history.calls_of(2),
-            history.calls_of(3)
-        ),
-        (1, 1, 0)
-    );
-    assert_eq!(rt; left(alloc, &shard)?, (2, 1, 0, 3));
-    Ok(())
-}
-
 // The put has the version 4, and the first invalidation the next; the second makes nothing. The key is a row of
 // the region.
 #[test]
@@ -141,17 +84,6 @@ fn an_invalidated_key_is_known(rt: HostRuntime) -> Result<(), Fail> {
     assert!(rt; !shard.known(&Key::read(alloc, b"b")?));
     assert!(rt; stands(&shard, &key) == (3, Some(5), true, true, 2));
     assert_eq!(rt; left(alloc, &shard)?, (3, 1, 0, 3));
-    Ok(())
-}
-
-// The version is one above the floor, the number the first, and the change goes to the other member.
-#[test]
-fn a_call_tells_what_it_gave(rt: HostRuntime) -> Result<(), Fail> {
-    let alloc = rt.alloc();
-    let key = Key::read(alloc, b"a")?;
-    assert_eq!(rt; key.shard(1), 0);
-    let done = first_put(alloc, &put(alloc, &key)?)?;
-    assert_eq!(rt; told(&done), (true, 2, Some((4, 1, 1))));
     Ok(())
 }
 

@@ -1,7 +1,7 @@
 ghost use Rattle.std.specs.Prelude.{◌≤◌};
 
-use gr_value::{Copied, Memory};
-use gr_vector::{Report, ReportList, SharedVector, Vector};
+use gr_value::Memory;
+use gr_vector::Vector;
 
 /// The greatest number that a change can have.
 const GREATEST: u64 = 281474976710655;
@@ -81,29 +81,4 @@ fn what_either_holds_is_united(rt: HostRuntime) {
         assert!(rt; vector.top(1) == top);
         assert!(rt; vector.exceptions(1) == exceptions);
     }
-}
-
-#[test]
-fn room_is_made_and_copies_are_taken(rt: HostRuntime) {
-    let mut vector = noted(&rt, 3, &[4]).expect(&rt, "memory");
-    vector.reserve().expect(&rt, "memory");
-    assert!(rt; vector.note(3, 2).expect(&rt, "memory"));
-    let copied = vector.copy(rt.alloc()).expect(&rt, "memory");
-    let report = Report {
-        member: 3,
-        at: 2,
-        own: vector.top(3),
-        to: 6,
-        vector: SharedVector::new(rt.alloc(), copied).expect(&rt, "memory"),
-    };
-    let mut reports = ReportList::new(rt.alloc()).expect(&rt, "memory");
-    let again = report.copy(rt.alloc()).expect(&rt, "memory");
-    reports.push(again).expect(&rt, "memory");
-    let copies = reports.copy(rt.alloc()).expect(&rt, "memory");
-    let copy = copies.get(0).expect(&rt, "a report");
-    assert!(rt; copy.own == 4 && copy.to == 6);
-    assert!(rt; copy.vector.vector().holds(3, 2));
-    assert!(rt; !copy.vector.vector().holds(3, 3));
-    let with_room = Copied::copy(&vector, rt.alloc()).expect(&rt, "memory");
-    assert!(rt; with_room.exceptions(3) == 2);
 }
