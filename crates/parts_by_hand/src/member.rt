@@ -139,19 +139,23 @@ impl Member {
         Ok(twice!(self.seen(), self.shard.sweep(alloc, moment))?)
     }
 
-    /// Prints what the shard leaves, and that copies have the same.
+    // Whether copies of the parts have what these have.
+    fn is_copied(&self, alloc: Global) -> Result<bool, Stop> {
+        let deeds = anew!(self.parts.history.copy(alloc))?.len();
+        let top = anew!(self.parts.vector.copy(alloc))?.top(1);
+        Ok(deeds == self.parts.history.len() && top == self.parts.vector.top(1))
+    }
+
+    /// Prints what the shard leaves.
     pub fn leave(&self, rt: &HostRuntime) -> Result<(), Stop> {
-        let alloc = rt.alloc();
-        let left = anew!(self.shard.taken_out(alloc))?;
-        let history = anew!(self.parts.history.copy(alloc))?;
-        let vector = anew!(self.parts.vector.copy(alloc))?;
-        if history.len() != left.history.len() || vector.top(1) != left.region.vector.top(1) {
+        if !self.is_copied(rt.alloc())? {
             return Err(Stop::Otherwise);
         }
-        let (me, rows) = (self.parts.me, left.region.rows.len());
-        let (tombstones, discarded) = (left.region.tombstones, history.discarded());
+        let left = anew!(self.shard.taken_out(rt.alloc()))?;
+        let (entries, tombstones) = (left.region.rows.len(), left.region.tombstones);
+        let (me, conflated) = (self.parts.me, left.history.discarded());
         Ok(println!(rt;
-            "member {me}: entries {rows}, tombstones {tombstones}, conflated {discarded}"
+            "member {me}: entries {entries}, tombstones {tombstones}, conflated {conflated}"
         )?)
     }
 }
