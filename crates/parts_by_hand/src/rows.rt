@@ -6,7 +6,7 @@ pub type Named = (&'static str, Step);
 // The mails are counted from 0: the changes, reports and own changes in the order in which they are made.
 
 /// A tombstone expires once it is old and the other member reported it.
-pub const STABLE_TOMBSTONE: [Named; 9] = [
+pub static STABLE_TOMBSTONE: [Named; 9] = [
     ("1 put a {}", Step::Put(1, "{}")),
     ("1 destroy a", Step::Destroy(1)),
     ("deliver 2 1.2", Step::Mail(2, 1)),
@@ -19,7 +19,7 @@ pub const STABLE_TOMBSTONE: [Named; 9] = [
 ];
 
 /// A joiner's tombstone is dropped by an image, and its next put has a version above it by the floor.
-pub const IMAGE_DROPS_TOMBSTONE: [Named; 15] = [
+pub static IMAGE_DROPS_TOMBSTONE: [Named; 15] = [
     ("1 put a {}", Step::Put(1, "{}")),
     ("deliver 2 1.1", Step::Mail(2, 0)),
     ("2 destroy a", Step::Destroy(2)),
@@ -42,7 +42,7 @@ const P: &str = "SELECT * FROM /r";
 const Q: &str = "SELECT * FROM /r WHERE x >= 2";
 
 /// Queries are opened, told, stopped and closed.
-pub const QUERY_STATES: [Named; 15] = [
+pub static QUERY_STATES: [Named; 15] = [
     ("2 put a {\"x\":2}", Step::Put(2, "{\"x\":2}")),
     ("1 put a {\"x\":1}", Step::Put(1, "{\"x\":1}")),
     ("2 open p", Step::Open("p", P)),

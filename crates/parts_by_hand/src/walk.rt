@@ -42,6 +42,12 @@ pub fn walk_script<R: Wait + Sync>(
     carry(rt, waits, &walk.mails)
 }
 
+// Puts an item last, behind making room for it.
+fn put_last<T: Drop>(all: &mut Vec<T>, item: T) -> Result<(), Stop> {
+    anew!(all.reserve(1))?;
+    all.push(item).map_err(|_| Stop::Otherwise)
+}
+
 impl Walk {
     fn new(alloc: Global, members: u8) -> Result<Walk, Stop>
         requires founded { 2 ≤ members }
@@ -49,9 +55,7 @@ impl Walk {
     {
         let mut all = Vec::new(alloc);
         for before in 0..members {
-            anew!(all.reserve(1))?;
-            let member = Member::new(alloc, before + 1, members)?;
-            all.push(member).map_err(|_| Stop::Otherwise)?;
+            put_last(&mut all, Member::new(alloc, before + 1, members)?)?;
         }
         Ok(Walk {
             members: all,
@@ -66,11 +70,6 @@ impl Walk {
             .ok_or(Stop::Otherwise)
     }
 
-    fn add(&mut self, mail: Posting) -> Result<(), Stop> {
-        anew!(self.mails.reserve(1))?;
-        self.mails.push(mail).map_err(|_| Stop::Otherwise)
-    }
-
     // A copy of the mail at a place.
     fn mail_at(&self, alloc: Global, place: usize) -> Result<Mail, Stop> {
         match self.mails.get(place) {
@@ -81,7 +80,7 @@ impl Walk {
 
     pub fn call(&mut self, rt: &HostRuntime, name: &str, at: u8, ask: Ask) -> Result<(), Stop> {
         let mail = self.member(at)?.call(rt, name, &ask)?;
-        self.add(mail)
+        put_last(&mut self.mails, mail)
     }
 
     pub fn query(&mut self, rt: &HostRuntime, name: &str, ask: QueryAsk) -> Result<(), Stop> {
@@ -95,7 +94,7 @@ impl Walk {
 
     pub fn report(&mut self, rt: &HostRuntime, name: &str, at: u8) -> Result<(), Stop> {
         let mail = self.member(at)?.report(rt, name)?;
-        self.add(mail)
+        put_last(&mut self.mails, mail)
     }
 
     pub fn sweep(&mut self, rt: &HostRuntime, name: &str, at: u8, moment: u64) -> Result<(), Stop> {
@@ -104,7 +103,7 @@ impl Walk {
 
     pub fn give_own(&mut self, rt: &HostRuntime, name: &str, at: u8) -> Result<(), Stop> {
         let mail = self.member(at)?.give_own(rt, name)?;
-        self.add(mail)
+        put_last(&mut self.mails, mail)
     }
 
     pub fn give_image(&mut self, rt: &HostRuntime, name: &str, at: u8) -> Result<(), Stop> {
