@@ -36,7 +36,7 @@ use crate::giving::{own_changes, standing};
 use crate::making::{first_recipients, note, with_recipient};
 use crate::merging::merged;
 use crate::regions::region;
-use crate::sweeping::{drop_all, risen};
+use crate::sweeping::{drop_all, looked_at, risen};
 use crate::telling::{come_in, take_over};
 use gr_cq::Registry;
 use gr_history::{
@@ -61,6 +61,8 @@ pub struct Shard {
     clock: u64,
     joined: bool,
     to: u8,
+    /// No removal that came in before this moment is stable by what is kept here now.
+    looked: u64,
     slots: Slots,
     vector: Vector,
     heard: Heard,
@@ -104,6 +106,7 @@ impl Shard {
             clock: 0,
             joined: false,
             to: first_recipients(id),
+            looked: 0,
             history: History::new(alloc)?,
             vector: Vector::new(alloc)?,
             heard: Heard::new(alloc)?,
@@ -128,6 +131,7 @@ impl Shard {
         let came = applied(verdict, change);
         come_in(alloc, &mut self.slots, &mut self.queries, self.clock, came)?;
         note(&mut self.vector, Some(change));
+        self.looked = 0;
         let _ = self.history.push(Deed::Taken {
             change: taken,
             verdict,
@@ -187,6 +191,7 @@ impl Shard {
         self.history.reserve(1)?;
         let noted = report.copy(alloc)?;
         self.heard.hear(alloc, report)?;
+        self.looked = 0;
         let _ = self.history.push(Deed::Heard { report: noted });
         Ok(())
     }
@@ -206,6 +211,7 @@ impl Shard {
         self.roomy = false;
         self.history.reserve(1)?;
         self.to = with_recipient(self.id, to, self.to);
+        self.looked = 0;
         let _ = self.history.push(Deed::Gave { to, what });
         Ok(gift)
     }
@@ -226,6 +232,7 @@ impl Shard {
         take_over(alloc, old, ids, &mut self.queries, slots, &image.vector)?;
         self.floor = image.floor.max(self.floor);
         self.joined = true;
+        self.looked = 0;
         let _ = self.history.push(Deed::Imaged { image: noted });
         Ok(())
     }
@@ -240,12 +247,13 @@ impl Shard {
     {
         self.roomy = false;
         let clock = moment.max(self.clock);
-        let timed_out = self.slots.timed_out(alloc, clock)?;
+        let timed_out = self.slots.timed_out(alloc, self.looked, clock)?;
         let expired = self.stable_among(alloc, timed_out.as_slice())?;
         self.history.reserve(1)?;
         self.floor = risen(&self.slots, self.floor, expired.as_slice());
         drop_all(&mut self.slots, expired.as_slice());
         self.clock = clock;
+        self.looked = looked_at(self.looked, clock);
         let count = expired.len() as u64;
         let _ = self.history.push(Deed::Swept { moment, expired });
         Ok(count)

@@ -46,3 +46,11 @@ pub fn valueless(alloc: Global, keys: &[Key]) -> Result<Vec<Turned>, Memory>
     }
     Ok(turned)
 }
+
+/// How many seconds after it came in a removal has timed out.
+const TIMEOUT: u64 = 600;
+
+/// Before which moment no removal is stable once a sweep by this clock dropped those that were.
+pub fn looked_at(before: u64, clock: u64) -> u64 {
+    before.max(clock.saturating_sub(TIMEOUT - 1))
+}

@@ -1,9 +1,9 @@
 -- Which removals have timed out, by the lists of their moments and among the slots.
-use Rattle.std.proofs.Common.{◌≡◌, ◌∙◌, ap, sym, subst, refl, ℕ, ◌-◌, ◌≤◌, ◌<◌, ◌==◌, List, [], ◌∷◌, ◌++◌, arith}
-use Rattle.std.proofs.Common.{Bool, true, false, ◌&&◌, ◌||◌, Option, Some, None, is_some, if◌then◌else◌, filter, leb}
+use Rattle.std.proofs.Common.{◌≡◌, ◌∙◌, ap, sym, refl, ℕ, ◌-◌, ◌≤◌, ◌<◌, ◌==◌, List, [], ◌∷◌, arith}
+use Rattle.std.proofs.Common.{Bool, true, false, ◌&&◌, ◌||◌, Option, Some, None, is_some, if◌then◌else◌, filter}
 use Rattle.std.proofs.lemmas.Bool.Decides.{nat_tests}
 use Rattle.std.specs.Global.{Vec}
-use Rattle.std.specs.Ordering.{nat_cmp, is_eq, MatchOrdering}
+use Rattle.std.specs.Ordering.{nat_cmp, is_eq, is_le, is_lt, MatchOrdering}
 use Rattle.std.specs.declared.cmp.Ordering.{Ordering}
 use Rattle.std.specs.declared.cmp.Ordering.TheVariants.{Less, Equal, Greater}
 use Rattle.std.specs.Cmp.{eq_by_cmp_equiv, ranks}
@@ -12,11 +12,13 @@ use Rattle.std.specs.List.{list_any, AllByRecursion}
 use Rattle.std.specs.List.Sorted.{IsStrictlySortedBy}
 use Rattle.std.specs.Map.{keys_of, lookup}
 use Rattle.std.specs.BTreeMap.{is_at, keys}
+use Rattle.std.specs.BTreeMap.Range.{entries_between, range_contains}
+use Rattle.std.specs.declared.ops.Bound.TheVariants.{Included}
+use Rattle.std.specs.Prelude.{not}
 use Rattle.std.specs.BTreeSet.{BTreeSet, contains, IsOrdered}
-use Rattle.std.proofs.lemmas.List.Elements.{filter-append}
 use Rattle.std.proofs.lemmas.Map.{lookup-none}
 use Rattle.std.proofs.lemmas.Map.Entries.{none_past_head}
-use Rattle.std.proofs.lemmas.Map.Keys.{sorted_head, sorted_tail, IsDistinct-from_sorted}
+use Rattle.std.proofs.lemmas.Map.Keys.{sorted_tail, IsDistinct-from_sorted}
 use Rattle.std.proofs.lemmas.Map.Lookups.{btree_set_from_contains, exact_bytes}
 use Rattle.std.proofs.lemmas.Map.Made.{is_some-lookup}
 use Rattle.std.proofs.lemmas.Map.Views.{any-filter_same}
@@ -31,55 +33,64 @@ is_key key = is_at (slice_cmp nat_cmp key)
 
 -- ---- by the moments
 
--- a later moment is no longer ago
-not_late : (clock t s : ℕ) → nat_cmp t s ≡ Less → is_late clock t ≡ false → is_late clock s ≡ false
-not_late clock t s less early = by_order (nat_cmp t s) (ranks t s) less
+-- no moment is late where none can be
+none_late : (first clock : ℕ) (ats : List ℕ) → ((at : ℕ) → is_late first clock at ≡ false) → filter (is_late first clock) ats ≡ []
+none_late first clock [] none = refl
+none_late first clock (at ∷ ats) none =
+    ap (λ b. if b then at ∷ filter (is_late first clock) ats else filter (is_late first clock) ats) (none at)
+    ∙ none_late first clock ats none
+
+too_soon : (first clock at : ℕ) → clock < 600 → is_late first clock at ≡ false
+too_soon first clock at lt = grind (arith, nat_tests)
+
+too_new : (first clock at : ℕ) → 600 ≤ clock → clock - 600 < first → is_late first clock at ≡ false
+too_new first clock at le lt = grind (arith, nat_tests)
+
+pub none_soon : (first clock : ℕ) (ats : List ℕ) → clock < 600 → filter (is_late first clock) ats ≡ []
+none_soon first clock ats lt = none_late first clock ats (λ at. too_soon first clock at lt)
+
+pub none_new : (first clock : ℕ) (ats : List ℕ) → 600 ≤ clock → clock - 600 < first → filter (is_late first clock) ats ≡ []
+none_new first clock ats le lt = none_late first clock ats (λ at. too_new first clock at le lt)
+
+-- those of a range
+late_between : (first clock at : ℕ) → 600 ≤ clock → range_contains nat_cmp (Included first) (Included (clock - 600)) at ≡ is_late first clock at
+late_between first clock at le = by_order (nat_cmp first at) (ranks first at) (nat_cmp (clock - 600) at) (ranks (clock - 600) at)
   where
-    still : t ≤ s → leb 600 (clock - t) ≡ false → leb 600 (clock - s) ≡ false
-    still le e = grind (arith, nat_tests)
+    by_order : (o : Ordering) → MatchOrdering o (first < at) (first ≡ at) (at < first)
+        → (p : Ordering) → MatchOrdering p (clock - 600 < at) (clock - 600 ≡ at) (at < clock - 600)
+        → (is_le o && not (is_lt p)) ≡ is_late first clock at
+    by_order Less lt Less over = grind (arith, nat_tests)
+    by_order Less lt Equal same = grind (arith, nat_tests)
+    by_order Less lt Greater under = grind (arith, nat_tests)
+    by_order Equal is Less over = grind (arith, nat_tests)
+    by_order Equal is Equal same = grind (arith, nat_tests)
+    by_order Equal is Greater under = grind (arith, nat_tests)
+    by_order Greater gt Less over = grind (arith, nat_tests)
+    by_order Greater gt Equal same = grind (arith, nat_tests)
+    by_order Greater gt Greater under = grind (arith, nat_tests)
 
-    by_order : (o : Ordering) → MatchOrdering o (t < s) (t ≡ s) (s < t) → o ≡ Less → is_late clock s ≡ false
-    by_order Less lt e = still (omega (arith, lt)) early
-    by_order Equal same e = absurd cc
-    by_order Greater gt e = absurd cc
-
-none_late : (clock t : ℕ) (ts : List ℕ) → is_late clock t ≡ false → AllByRecursion (λ s. nat_cmp t s ≡ Less) ts
-    → filter (is_late clock) ts ≡ []
-none_late clock t [] early all = refl
-none_late clock t (s ∷ ts) early all =
-    ap (λ b. if b then s ∷ filter (is_late clock) ts else filter (is_late clock) ts) (not_late clock t s all.0 early)
-    ∙ none_late clock t ts early all.1
-
-suffix_sorted : (xs ys : List ℕ) → IsStrictlySortedBy nat_cmp (xs ++ ys) → IsStrictlySortedBy nat_cmp ys
-suffix_sorted [] ys s = s
-suffix_sorted (x ∷ xs) ys s = suffix_sorted xs ys (sorted_tail nat_cmp x (xs ++ ys) s)
-
--- from the first moment that isn't long enough ago on, none is
-pub stops : (clock : ℕ) (all xs : List ℕ) (t : ℕ) (rest : List ℕ) → all ≡ xs ++ t ∷ rest → IsStrictlySortedBy nat_cmp all
-    → is_late clock t ≡ false → filter (is_late clock) xs ≡ filter (is_late clock) all
-stops clock all xs t rest is sorted early =
-    let ordered = suffix_sorted xs (t ∷ rest) (subst (IsStrictlySortedBy nat_cmp) is sorted) in
-    let none : filter (is_late clock) (t ∷ rest) ≡ [] =
-    ap (λ b. if b then t ∷ filter (is_late clock) rest else filter (is_late clock) rest) early
-    ∙ none_late clock t rest early (sorted_head nat_cmp t rest ordered) in
-    sym (ap (filter (is_late clock)) is ∙ filter-append (is_late clock) xs (t ∷ rest)
-    ∙ ap (λ ts. filter (is_late clock) xs ++ ts) none ∙ no_more (filter (is_late clock) xs))
+pub moments_between : {X : Type 0} (first clock : ℕ) (lists : List (ℕ × X)) → 600 ≤ clock
+    → keys_of (entries_between nat_cmp (Included first) (Included (clock - 600)) lists) ≡ filter (is_late first clock) (keys_of lists)
+moments_between first clock [] le = refl
+moments_between {X} first clock (one ∷ lists) le =
+    at_head (range_contains nat_cmp (Included first) (Included (clock - 600)) one.0) (is_late first clock one.0)
+    (late_between first clock one.0 le) (moments_between first clock lists le)
   where
-    no_more : (xs : List ℕ) → xs ++ [] ≡ xs
-    no_more [] = refl
-    no_more (x ∷ xs) = ap (λ ys. x ∷ ys) (no_more xs)
+    rest : List (ℕ × X)
+    rest = entries_between nat_cmp (Included first) (Included (clock - 600)) lists
 
--- what fell short of the time is not late, and what didn't is
-pub early_of : (clock at n : ℕ) → n ≡ clock - at → n < 600 → is_late clock at ≡ false
-early_of clock at n is lt = grind (arith, nat_tests)
-
-pub late_of : (clock at n : ℕ) → n ≡ clock - at → 600 ≤ n → is_late clock at ≡ true
-late_of clock at n is le = grind (arith, nat_tests)
+    at_head : (a b : Bool) → a ≡ b → keys_of rest ≡ filter (is_late first clock) (keys_of lists)
+        → keys_of (if a then one ∷ rest else rest)
+        ≡ (if b then one.0 ∷ filter (is_late first clock) (keys_of lists) else filter (is_late first clock) (keys_of lists))
+    at_head true true e same = ap (λ ats. one.0 ∷ ats) same
+    at_head false false e same = same
+    at_head true false e same = absurd cc
+    at_head false true e same = absurd cc
 
 -- whether a moment, if there is one, was long enough ago
-abbrev is_late_at : ℕ → Option ℕ → Bool
-is_late_at clock None = false
-is_late_at clock (Some at) = is_late clock at
+abbrev is_late_at : ℕ → ℕ → Option ℕ → Bool
+is_late_at first clock None = false
+is_late_at first clock (Some at) = is_late first clock at
 
 never : (xs : List ℕ) → list_any (λ x. false) xs ≡ false
 never [] = refl
@@ -97,13 +108,13 @@ equal : (a b : ℕ) → (a == b) ≡ true → a ≡ b
 equal a b e = grind (arith, nat_tests)
 
 -- A moment that has a list is found among the late moments where it is late.
-found_late : (clock : ℕ) (o : Option ℕ) (ms : List ℕ)
+found_late : (first clock : ℕ) (o : Option ℕ) (ms : List ℕ)
     → ((at : ℕ) → is_moment at o ≡ true → list_any (is_at (nat_cmp at)) ms ≡ true)
-    → list_any (λ at. is_moment at o) (filter (is_late clock) ms) ≡ is_late_at clock o
-found_late clock None ms has = never (filter (is_late clock) ms)
-found_late clock (Some m) ms has =
-    any-filter_same (λ at. m == at) (is_late clock) (is_late clock m) (λ at e. ap (is_late clock) (sym (equal m at e))) ms
-    ∙ ap (λ b. is_late clock m && b) (alike ms ∙ has m (itself m)) ∙ and_true (is_late clock m)
+    → list_any (λ at. is_moment at o) (filter (is_late first clock) ms) ≡ is_late_at first clock o
+found_late first clock None ms has = never (filter (is_late first clock) ms)
+found_late first clock (Some m) ms has =
+    any-filter_same (λ at. m == at) (is_late first clock) (is_late first clock m) (λ at e. ap (is_late first clock) (sym (equal m at e))) ms
+    ∙ ap (λ b. is_late first clock m && b) (alike ms ∙ has m (itself m)) ∙ and_true (is_late first clock m)
   where
     itself : (n : ℕ) → (n == n) ≡ true
     itself n = grind (arith, nat_tests)
@@ -177,23 +188,23 @@ sorted_kept p (e ∷ es) sorted = at_head (p e) (sorted_kept p es sorted.1)
     at_head true rest = (all_kept (λ k. slice_cmp nat_cmp e.0 k ≡ Less) p es sorted.0, rest)
     at_head false rest = rest
 
-late_passes : (clock : ℕ) (o : Option Slot) → is_late_at clock (removed_at o) ≡ passes (is_timed_out clock) o
-late_passes clock None = refl
-late_passes clock (Some slot) = at_kind (is_removal slot.kind)
+late_passes : (first clock : ℕ) (o : Option Slot) → is_late_at first clock (removed_at o) ≡ passes (is_timed_out first clock) o
+late_passes first clock None = refl
+late_passes first clock (Some slot) = at_kind (is_removal slot.kind)
   where
-    at_kind : (b : Bool) → is_late_at clock (if b then Some slot.taken_at else None) ≡ (b && is_late clock slot.taken_at)
+    at_kind : (b : Bool) → is_late_at first clock (if b then Some slot.taken_at else None) ≡ (b && is_late first clock slot.taken_at)
     at_kind true = refl
     at_kind false = refl
 
 -- The keys that were found by the moments are those of the slots that have timed out.
-pub due_is : (clock : ℕ) (slots : Entries) (removals : Moments) (moments : List ℕ) (found : BTreeSet (List ℕ))
-    → AreIndexed None slots removals → moments ≡ filter (is_late clock) (keys removals)
+pub due_is : (first clock : ℕ) (slots : Entries) (removals : Moments) (moments : List ℕ) (found : BTreeSet (List ℕ))
+    → AreIndexed None slots removals → moments ≡ filter (is_late first clock) (keys removals)
     → ((q : List ℕ) → contains (slice_cmp nat_cmp) found q ≡ is_removed_among moments (slot_at q slots))
-    → IsOrdered (slice_cmp nat_cmp) found → found.keys ≡ timed_out clock slots
-due_is clock slots removals moments found are late finds ordered =
-    btree_set_from_contains key_order found (record { keys = timed_out clock slots }) ordered
-    (sorted_kept (λ e. is_timed_out clock e.1) slots are.ordered)
+    → IsOrdered (slice_cmp nat_cmp) found → found.keys ≡ timed_out first clock slots
+due_is first clock slots removals moments found are late finds ordered =
+    btree_set_from_contains key_order found (record { keys = timed_out first clock slots }) ordered
+    (sorted_kept (λ e. is_timed_out first clock e.1) slots are.ordered)
     (λ q. finds q ∙ ap (λ ms. is_removed_among ms (slot_at q slots)) late
-    ∙ found_late clock (removed_at (slot_at q slots)) (keys removals) (λ at e. has_list removals q at (are.listed q at e))
-    ∙ late_passes clock (slot_at q slots) ∙ sym (kept_keys (is_timed_out clock) q slots are.ordered))
+    ∙ found_late first clock (removed_at (slot_at q slots)) (keys removals) (λ at e. has_list removals q at (are.listed q at e))
+    ∙ late_passes first clock (slot_at q slots) ∙ sym (kept_keys (is_timed_out first clock) q slots are.ordered))
     exact_bytes

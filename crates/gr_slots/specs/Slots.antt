@@ -36,17 +36,17 @@ abbrev pub removed_at : Option Slot → Option ℕ
 removed_at None = None
 removed_at (Some slot) = if is_removal slot.kind then Some slot.taken_at else None
 
--- whether what came in at a moment has timed out by the clock, in seconds
-abbrev pub is_late : ℕ → ℕ → Bool
-is_late clock taken_at = nat_le timeout (clock - taken_at)
+-- whether what came in at a moment, which is no earlier than the first, has timed out by the clock, in seconds
+abbrev pub is_late : ℕ → ℕ → ℕ → Bool
+is_late first clock taken_at = nat_le first taken_at && nat_le timeout (clock - taken_at)
 
--- whether a slot is a removal that has timed out
-abbrev pub is_timed_out : ℕ → Slot → Bool
-is_timed_out clock slot = is_removal slot.kind && is_late clock slot.taken_at
+-- whether a slot is a removal that came in then and has timed out
+abbrev pub is_timed_out : ℕ → ℕ → Slot → Bool
+is_timed_out first clock slot = is_removal slot.kind && is_late first clock slot.taken_at
 
--- the keys of the removals that have timed out, in order
-abbrev pub timed_out : ℕ → Entries → List (List ℕ)
-timed_out clock slots = keys_of (filter (λ entry. is_timed_out clock entry.1) slots)
+-- the keys of the removals that came in at a moment or later and have timed out, in order
+abbrev pub timed_out : ℕ → ℕ → Entries → List (List ℕ)
+timed_out first clock slots = keys_of (filter (λ entry. is_timed_out first clock entry.1) slots)
 
 -- how many slots are removals
 abbrev pub tombstones : Entries → ℕ

@@ -72,19 +72,24 @@ pub fn note(
     Ok(())
 }
 
-/// The moments of lists that have timed out, which come first.
+/// The moments of lists from the first one on that have timed out.
+#[tactic(auto, using(crate::proofs::Due::none_soon, crate::proofs::Due::none_new, crate::proofs::Due::moments_between))]
 pub fn late_moments(
     alloc: Global,
     removals: &BTreeMap<u64, Vec<Key>>,
+    first: u64,
     clock: u64,
 ) -> Result<Vec<u64>, Memory>
-    ensures { IfOk result (λ moments. moments.items ≡ filter (is_late clock) (keys removals.now)) }
+    ensures { IfOk result (λ moments. moments.items ≡ filter (is_late first clock) (keys removals.now)) }
 {
     let mut moments = Vec::new(alloc);
-    for (at, _) in removals {
-        if clock.saturating_sub(*at) < TIMEOUT {
-            return Ok(moments);
-        }
+    if clock < TIMEOUT {
+        return Ok(moments);
+    }
+    if clock - TIMEOUT < first {
+        return Ok(moments);
+    }
+    for (at, _) in removals.range(first..=clock - TIMEOUT) {
         moments.push(*at)?;
     }
     Ok(moments)

@@ -174,10 +174,10 @@ impl Slots {
         true
     }
 
-    /// The keys whose removal came in 600 seconds or more before the clock, in order. Only the lists of
-    /// such moments are looked at, and they are rid of what is stale.
-    pub fn timed_out(&mut self, alloc: Global, clock: u64) -> Result<KeyList, Memory>
-        ensures keys { IfOk result (λ keys. keys ≡ timed_out clock self.old.entries) }
+    /// The keys whose removal came in at the first moment or later, and 600 seconds or more before the
+    /// clock, in order. Only the lists of such moments are looked at, and they are rid of what is stale.
+    pub fn timed_out(&mut self, alloc: Global, first: u64, clock: u64) -> Result<KeyList, Memory>
+        ensures keys { IfOk result (λ keys. keys ≡ timed_out first clock self.old.entries) }
         ensures ordered { IsStrictlySortedBy (slice_cmp nat_cmp) (keys_of self.old.entries) }
         ensures same { self.new ≡ self.old }
     {
@@ -188,7 +188,7 @@ impl Slots {
             &mut self.late,
             &mut self.unlisted,
         )?;
-        let moments = late_moments(alloc, &self.removals, clock)?;
+        let moments = late_moments(alloc, &self.removals, first, clock)?;
         let found = sift_all(alloc, &self.cells, &mut self.removals, moments.as_slice())?;
         listed(alloc, &found)
     }

@@ -21,7 +21,7 @@ fn slot(alloc: Global, stamp: Stamp, removal: bool, taken_at: u64) -> Result<Slo
 // The keys that have timed out, one behind another.
 fn words(alloc: Global, slots: &mut Slots, clock: u64) -> Result<Vec<u8>, Fail> {
     let mut words = Vec::new(alloc);
-    for key in slots.timed_out(alloc, clock)?.as_slice() {
+    for key in slots.timed_out(alloc, 0, clock)?.as_slice() {
         words.extend_from_slice(key.bytes())?;
     }
     Ok(words)

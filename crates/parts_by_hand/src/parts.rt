@@ -181,7 +181,7 @@ impl Parts {
     /// Lets the tombstone expire that has timed out, if it is stable, and answers how many did.
     pub fn sweep(&mut self, alloc: Global, moment: u64) -> Result<u64, Stop> {
         let clock = moment.max(self.clock);
-        let late = twice!(self.beside(), self.slots.timed_out(alloc, clock))?;
+        let late = twice!(self.beside(), self.slots.timed_out(alloc, 0, clock))?;
         self.clock = clock;
         Ok(u64::from(late.len() == 1 && self.expire()))
     }

@@ -40,7 +40,7 @@ impl Shard {
     {
         self.slots.has_keys_in_order();
         let clock = moment.max(self.clock);
-        let late = self.slots.timed_out(alloc, clock)?;
+        let late = self.slots.timed_out(alloc, self.looked, clock)?;
         Ok(self.stable_among(alloc, late.as_slice())?)
     }
 

@@ -9,7 +9,7 @@ ghost use Rattle.gr_shard.specs.View.{after_deed, with_spare};
 
 use super::Shard;
 use crate::asking::{Foretold, foretell};
-use crate::committing::{aimed, carry_out, either, keep, know, moved, settle};
+use crate::committing::{aimed, carry_out, either, keep, know, looked_behind, moved, settle};
 use crate::effect::{Effect, QueriesAfter};
 use crate::telling::foretell_turned;
 use crate::{Came, Next, Prepared};
@@ -44,6 +44,7 @@ impl Shard {
         } = effect;
         self.slots.has_keys_in_order();
         self.roomy = false;
+        self.looked = looked_behind(self.looked, &slots, &ids, heard.as_ref(), to);
         settle(&mut self.slots, slots);
         know(&mut self.vector, ids);
         carry_out(&mut self.queries, queries);

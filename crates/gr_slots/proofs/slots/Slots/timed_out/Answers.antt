@@ -16,9 +16,9 @@ returns-clause-keys c =
     let lists = c.settle.new.removals in
     let same : rows ≡ c.args.self.now.entries = ap (λ late. with_late late rows) (sym c.in_ok-settle.ensures.late)
     ∙ c.settle.ensures.rows ∙ ap (λ (held : HeldSlots). held.entries) c.self.view_is in
-    subst (λ entries. IfOk c.listed.result (λ keys. keys ≡ timed_out c.args.clock entries)) same
+    subst (λ entries. IfOk c.listed.result (λ keys. keys ≡ timed_out c.args.first c.args.clock entries)) same
     (subst (λ due. IfOk c.listed.result (λ keys. keys ≡ due))
-    (due_is c.args.clock rows lists c.as_slice.result.now c.in_ok-found.found
+    (due_is c.args.first c.args.clock rows lists c.as_slice.result.now c.in_ok-found.found
     (subst (λ unlisted. AreIndexed unlisted rows lists) c.in_ok-settle.ensures.listed c.settle.ensures.indexed)
     (c.as_slice.ensures.value ∙ c.in_ok-moments.ensures) c.in_ok-found.ensures.found c.in_ok-found.ensures.ordered)
     c.listed.ensures)
