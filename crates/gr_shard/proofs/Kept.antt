@@ -46,7 +46,7 @@ makes_win id opening past key change made None ver = refl
 makes_win id opening past key change made (Some before) ver = grind (arith, nat_tests)
 
 -- the same at the change's own key
-made_wins : (id : Identity) (opening : ℕ) (past : List Deed) (key : List ℕ) (change : Change) → IsMade id opening past key change
+pub made_wins : (id : Identity) (opening : ℕ) (past : List Deed) (key : List ℕ) (change : Change) → IsMade id opening past key change
     → (q : List ℕ) → bytes_eq change.key q ≡ true → wins change (standing q past) ≡ true
 made_wins id opening past key change made q same =
     let here_is : key ≡ q = sym made.key_is ∙ (bytes_eq-Decides change.key q).0 same in

@@ -86,7 +86,7 @@ any_of key (first ∷ keys) (inr a) = or_right (is_at (slice_cmp nat_cmp key) fi
     or_right true e = refl
     or_right false e = e
 
-slot_stands : (past : List Deed) (key : List ℕ) (slot : Slot) → slot_of (standing key past) (since key past) ≡ Some slot
+pub slot_stands : (past : List Deed) (key : List ℕ) (slot : Slot) → slot_of (standing key past) (since key past) ≡ Some slot
     → list_any (is_at (slice_cmp nat_cmp key)) (keys_of (changes past)) ≡ true
 slot_stands past key slot is = at_standing (standing key past) refl
   where

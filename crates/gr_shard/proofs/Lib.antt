@@ -4,6 +4,7 @@ pub mod Gifts
 pub mod Kept
 pub mod KeptOn
 pub mod Left
+pub mod Looked
 pub mod Made
 pub mod Merges
 pub mod Named

@@ -44,23 +44,33 @@ pub won_slot : (change : Change) (before : Option Change) (now then_ : ℕ) → 
 won_slot change None now then_ win = refl
 won_slot change (Some before) now then_ win = rw (beats_apart change before win) refl
 
--- With a change that came in and wins, it stands at its key, and at other keys what stood before.
+-- With a change that came in and wins, its slot is at its key, and at other keys what was.
+pub slot_after : (deed : Deed) (past : List Deed) (change : Change)
+    → ((key : List ℕ) → standing key (deed ∷ past) ≡ (if bytes_eq change.key key then Some change else standing key past))
+    → ((key : List ℕ) → bytes_eq change.key key ≡ true → wins change (standing key past) ≡ true)
+    → (key : List ℕ)
+    → slot_of (standing key (deed ∷ past)) (since key (deed ∷ past))
+    ≡ (if bytes_eq change.key key then Some (slot_from change (clock past)) else slot_of (standing key past) (since key past))
+slot_after deed past change after win key = at_key (bytes_eq change.key key) refl
+  where
+    at_key : (b : Bool) → bytes_eq change.key key ≡ b
+        → slot_of (standing key (deed ∷ past)) (since key (deed ∷ past))
+        ≡ (if b then Some (slot_from change (clock past)) else slot_of (standing key past) (since key past))
+    at_key true is =
+        let now : standing key (deed ∷ past) ≡ Some change = after key ∙ ap (λ b. if b then Some change else standing key past) is in
+        ap (λ s. slot_of s (if is_same_standing s (standing key past) then since key past else clock past)) now
+        ∙ won_slot change (standing key past) (clock past) (since key past) (win key is)
+    at_key false is = unchanged key deed past (after key ∙ ap (λ b. if b then Some change else standing key past) is)
+
+-- The same of slots that are kept.
 pub stands_with : (slots : Entries) (deed : Deed) (past : List Deed) (change : Change)
     → ((key : List ℕ) → standing key (deed ∷ past) ≡ (if bytes_eq change.key key then Some change else standing key past))
     → ((key : List ℕ) → bytes_eq change.key key ≡ true → wins change (standing key past) ≡ true)
     → Hold slots past → Hold (with_slot change.key (slot_from change (clock past)) slots) (deed ∷ past)
 stands_with slots deed past change after win stands key =
-    slot_at-with_slot key change.key (slot_from change (clock past)) slots ∙ at_key (bytes_eq change.key key) refl
-  where
-    at_key : (b : Bool) → bytes_eq change.key key ≡ b
-        → (if b then Some (slot_from change (clock past)) else slot_at key slots) ≡ slot_of (standing key (deed ∷ past))
-        (since key (deed ∷ past))
-    at_key true is =
-        let now : standing key (deed ∷ past) ≡ Some change = after key ∙ ap (λ b. if b then Some change else standing key past) is in
-        sym (ap (λ s. slot_of s (if is_same_standing s (standing key past) then since key past else clock past)) now
-        ∙ won_slot change (standing key past) (clock past) (since key past) (win key is))
-    at_key false is =
-        stands key ∙ sym (unchanged key deed past (after key ∙ ap (λ b. if b then Some change else standing key past) is))
+    slot_at-with_slot key change.key (slot_from change (clock past)) slots
+    ∙ ap (λ slot. if bytes_eq change.key key then Some (slot_from change (clock past)) else slot) (stands key)
+    ∙ sym (slot_after deed past change after win key)
 
 -- What stands once a change came in that wins.
 pub stands_after : (q : List ℕ) (change : Change) (past : List Deed) (same : Bool) → bytes_eq change.key q ≡ same

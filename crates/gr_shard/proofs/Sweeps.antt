@@ -33,6 +33,7 @@ use Rattle.gr_stable.proofs.Counting.{heard_next}
 use Rattle.gr_history.specs.Calls.{ver_of}
 use Rattle.gr_shard.specs.Asking.{Hold}
 use Rattle.gr_shard.specs.Entries.{slot_from, slot_of, slot_ver}
+use Rattle.gr_shard.specs.Looked.{IsLooked}
 use Rattle.gr_shard.specs.Sweeps.{stands_stable, without_all, risen}
 use Rattle.gr_shard.specs.View.{IsKept, Kept}
 use Rattle.gr_law.proofs.Turns.{swept_untold}
@@ -116,7 +117,7 @@ twice_kept find out stable due_ none some (key ∷ keys) = at_key (find key) ref
         at_tests true false b_is c_is = rw c_is rest
         at_tests false c b_is c_is = rest
 
-module _ (id : Identity) (opening moment : ℕ) (now : Kept) (past : List Deed) where
+module _ (id : Identity) (opening moment looked : ℕ) (now : Kept) (past : List Deed) where
   none_due : IsKept id opening now past → (key : List ℕ) → slot_of (standing key past) (since key past) ≡ None
       → is_due id moment past key ≡ false
   none_due kept key none = at_standing (standing key past) refl none
@@ -126,44 +127,50 @@ module _ (id : Identity) (opening moment : ℕ) (now : Kept) (past : List Deed) 
       at_standing None is none_ = refl
       at_standing (Some change) is none_ = absurd cc
 
-  some_due : IsKept id opening now past → (key : List ℕ) (slot : Slot) → slot_of (standing key past) (since key past) ≡ Some slot
-      → is_due id moment past key ≡ (is_timed_out (max moment now.clock) slot && stands_stable id past (standing key past))
-  some_due kept key slot is = at_standing (standing key past) refl
+  some_due : IsKept id opening now past → IsLooked id looked past → (key : List ℕ) (slot : Slot)
+      → slot_of (standing key past) (since key past) ≡ Some slot
+      → is_due id moment past key ≡ (is_timed_out looked (max moment now.clock) slot && stands_stable id past (standing key past))
+  some_due kept known_of key slot is = at_standing (standing key past) refl
     where
       at_standing : (o : Option Change) → standing key past ≡ o
-          → is_due_from id moment o (since key past) past ≡ (is_timed_out (max moment now.clock) slot && stands_stable id past o)
+          → is_due_from id moment o (since key past) past ≡ (is_timed_out looked (max moment now.clock) slot && stands_stable id past o)
       at_standing None none = absurd (let e : None ≡ Some slot = ap (λ o. slot_of o (since key past)) (sym none) ∙ is in cc)
       at_standing (Some change) stands =
           let from = since key past in
           let slot_is : slot_from change from ≡ slot = some_is (ap (λ o. slot_of o from) (sym stands) ∙ is) in
-          sym (ap (λ s. is_timed_out (max moment now.clock) s && is_stable id (id_of change) past) (sym slot_is)
-          ∙ ap (λ at. is_timed_out (max moment at) (slot_from change from) && is_stable id (id_of change) past) kept.clocked
-          ∙ both (is_removal change.kind) (nat_le 600 (max moment (clock past) - from)) (is_stable id (id_of change) past))
+          sym (ap (λ s. is_timed_out looked (max moment now.clock) s && is_stable id (id_of change) past) (sym slot_is)
+          ∙ ap (λ at. is_timed_out looked (max moment at) (slot_from change from) && is_stable id (id_of change) past) kept.clocked
+          ∙ both (is_removal change.kind) (nat_le looked from) (nat_le 600 (max moment (clock past) - from)) (is_stable id (id_of change) past)
+          (λ sooner removal. known_of.unstable key (slot_from change from) (ap (λ o. slot_of o from) stands) removal
+          (grind (arith, nat_tests))))
         where
           some_is : {one two : Slot} → Some one ≡ Some two → one ≡ two
           some_is e = cc
 
-          both : (a b c : Bool) → ((a && b) && c) ≡ (a && (b && c))
-          both true b c = refl
-          both false b c = refl
+          both : (a f b c : Bool) → (f ≡ false → a ≡ true → c ≡ false) → ((a && (f && b)) && c) ≡ (a && (b && c))
+          both true true b c unstable = refl
+          both true false true c unstable = sym (unstable refl refl)
+          both true false false c unstable = refl
+          both false f b c unstable = refl
 
-  pub expiring-due : IsKept id opening now past → IsStrictlySortedBy (slice_cmp nat_cmp) (keys_in now.slots)
-      → filter (λ key. stands_stable id past (standing key past)) (timed_out (max moment now.clock) now.slots) ≡ due id moment past
-  expiring-due kept ordered =
-      ap (λ slots. filter (λ key. stands_stable id past (standing key past)) (timed_out (max moment now.clock) slots))
+  pub expiring-due : IsKept id opening now past → IsLooked id looked past → IsStrictlySortedBy (slice_cmp nat_cmp) (keys_in now.slots)
+      → filter (λ key. stands_stable id past (standing key past)) (timed_out looked (max moment now.clock) now.slots) ≡ due id moment past
+  expiring-due kept known_of ordered =
+      ap (λ slots. filter (λ key. stands_stable id past (standing key past)) (timed_out looked (max moment now.clock) slots))
       (slots-kept id opening now past kept ordered)
-      ∙ twice_kept (λ key. slot_of (standing key past) (since key past)) (λ entry. is_timed_out (max moment now.clock) entry.1)
+      ∙ twice_kept (λ key. slot_of (standing key past) (since key past)) (λ entry. is_timed_out looked (max moment now.clock) entry.1)
       (λ key. stands_stable id past (standing key past)) (is_due id moment past)
-      (none_due kept) (some_due kept) (keys_of (changes past))
+      (none_due kept) (some_due kept known_of) (keys_of (changes past))
 
--- The keys that have timed out, and of these those at which what stands is stable, are what is due.
-pub expired_is : (id : Identity) (opening moment clock_ : ℕ) (now : Kept) (past : List Deed) (out expired : List (List ℕ))
-    → IsKept id opening now past → IsStrictlySortedBy (slice_cmp nat_cmp) (keys_in now.slots) → clock_ ≡ max moment now.clock
-    → out ≡ timed_out clock_ now.slots → expired ≡ filter (λ key. stands_stable id past (standing key past)) out
+-- Of the keys that have timed out, but for those that were looked at, those at which what stands is stable are what is due.
+pub expired_is : (id : Identity) (opening moment clock_ looked : ℕ) (now : Kept) (past : List Deed) (out expired : List (List ℕ))
+    → IsKept id opening now past → IsLooked id looked past → IsStrictlySortedBy (slice_cmp nat_cmp) (keys_in now.slots)
+    → clock_ ≡ max moment now.clock
+    → out ≡ timed_out looked clock_ now.slots → expired ≡ filter (λ key. stands_stable id past (standing key past)) out
     → expired ≡ due id moment past
-expired_is id opening moment clock_ now past out expired kept ordered clock_is out_is is =
-    is ∙ ap (filter (λ key. stands_stable id past (standing key past))) (out_is ∙ ap (λ n. timed_out n now.slots) clock_is)
-    ∙ expiring-due id opening moment now past kept ordered
+expired_is id opening moment clock_ looked now past out expired kept known_of ordered clock_is out_is is =
+    is ∙ ap (filter (λ key. stands_stable id past (standing key past))) (out_is ∙ ap (λ n. timed_out looked n now.slots) clock_is)
+    ∙ expiring-due id opening moment looked now past kept known_of ordered
 
 -- what stands in a slot is the change that stands
 pub slot_stable : (id : Identity) (past : List Deed) (stands : Option Change) (from : ℕ) (slot : Slot) → Some slot ≡ slot_of stands from

@@ -102,17 +102,3 @@ pub fn either(now: bool, before: bool) -> bool
 {
     now || before
 }
-
-/// Before which moment no removal is stable behind a deed that changes this of what is kept.
-pub fn looked_behind(
-    looked: u64,
-    slots: &SlotsAfter,
-    ids: &IdsAfter,
-    heard: Option<&Report>,
-    to: Option<u8>,
-) -> u64 {
-    match (slots, ids, heard, to) {
-        (SlotsAfter::Same | SlotsAfter::Without(_), IdsAfter::Same, None, None) => looked,
-        _ => 0,
-    }
-}

@@ -36,7 +36,7 @@ use crate::giving::{own_changes, standing};
 use crate::making::{first_recipients, note, with_recipient};
 use crate::merging::merged;
 use crate::regions::region;
-use crate::sweeping::{drop_all, looked_at, risen};
+use crate::sweeping::{drop_all, looked_after, risen};
 use crate::telling::{come_in, take_over};
 use gr_cq::Registry;
 use gr_history::{
@@ -61,7 +61,7 @@ pub struct Shard {
     clock: u64,
     joined: bool,
     to: u8,
-    /// No removal that came in before this moment is stable by what is kept here now.
+    /// No removal that came in before this moment is stable.
     looked: u64,
     slots: Slots,
     vector: Vector,
@@ -74,6 +74,7 @@ impl Model for Shard {
     ghost use Rattle.std.specs.Prelude.{reverse};
     ghost use Rattle.std.specs.Coded.{codes};
     ghost use Rattle.gr_oql.specs.Question.{question_code};
+    ghost use Rattle.gr_shard.specs.Looked.{IsLooked};
     ghost use Rattle.gr_shard.specs.View.{Account, IsKept, IsStocked, kept, spare_of};
 
     ghost Value = { Account };
@@ -89,7 +90,8 @@ impl Model for Shard {
 
     ghost invariant = { λ shard. IsKept shard.id shard.opening (kept shard.slots.entries shard.vector.ids shard.floor shard.clock shard.joined shard.to
         shard.heard shard.queries.entries) (reverse shard.history.deeds)
-        × IsStocked shard.roomy shard.history.spare shard.vector.spare shard.slots.room shard.clock shard.queries.entries (reverse shard.history.deeds) };
+        × IsStocked shard.roomy shard.history.spare shard.vector.spare shard.slots.room shard.clock shard.queries.entries (reverse shard.history.deeds)
+        × IsLooked shard.id shard.looked (reverse shard.history.deeds) };
 }
 
 impl Shard {
@@ -253,9 +255,10 @@ impl Shard {
         self.floor = risen(&self.slots, self.floor, expired.as_slice());
         drop_all(&mut self.slots, expired.as_slice());
         self.clock = clock;
-        self.looked = looked_at(self.looked, clock);
         let count = expired.len() as u64;
-        let _ = self.history.push(Deed::Swept { moment, expired });
+        let deed = Deed::Swept { moment, expired };
+        self.looked = looked_after(&deed, clock, self.looked);
+        let _ = self.history.push(deed);
         Ok(count)
     }
 

@@ -1,10 +1,12 @@
 ghost use Rattle.std.specs.Prelude.{◌≡◌, ◌≤◌, IfOk, map};
 ghost use Rattle.gr_stamp.specs.declared.stamp.TheConstants.{LIMIT};
+ghost use Rattle.gr_shard.specs.Looked.{looked_after};
 ghost use Rattle.gr_shard.specs.Sweeps.{risen, valueless, without_all};
 
 use crate::entering::ver_of;
 use gr_cq::Turned;
-use gr_slots::Slots;
+use gr_history::Deed;
+use gr_slots::{Slots, TIMEOUT};
 use gr_value::{Copied, Key, Memory};
 use std::alloc::Global;
 
@@ -47,10 +49,14 @@ pub fn valueless(alloc: Global, keys: &[Key]) -> Result<Vec<Turned>, Memory>
     Ok(turned)
 }
 
-/// How many seconds after it came in a removal has timed out.
-const TIMEOUT: u64 = 600;
-
-/// Before which moment no removal is stable once a sweep by this clock dropped those that were.
-pub fn looked_at(before: u64, clock: u64) -> u64 {
-    before.max(clock.saturating_sub(TIMEOUT - 1))
+/// The moment before which no removal is stable once this deed was done, where that was so of the one
+/// before, at this clock.
+pub fn looked_after(deed: &Deed, clock: u64, before: u64) -> u64
+    ensures { result ≡ looked_after deed.now clock before }
+{
+    match deed {
+        Deed::Call { .. } | Deed::Asked { .. } | Deed::Reported { .. } => before,
+        Deed::Swept { .. } => before.max(clock.saturating_sub(TIMEOUT - 1)),
+        Deed::Taken { .. } | Deed::Gave { .. } | Deed::Imaged { .. } | Deed::Heard { .. } => 0,
+    }
 }

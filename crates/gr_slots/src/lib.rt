@@ -13,5 +13,6 @@ mod slot;
 mod slots;
 mod walk;
 
+pub use removals::TIMEOUT;
 pub use slot::Slot;
 pub use slots::Slots;

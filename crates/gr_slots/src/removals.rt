@@ -11,7 +11,7 @@ use std::alloc::Global;
 use std::collections::{BTreeMap, BTreeSet};
 
 /// How many seconds after it came in a removal has timed out.
-const TIMEOUT: u64 = 600;
+pub const TIMEOUT: u64 = 600;
 
 /// When what stands came in, where it is a removal.
 pub fn removed_at(slot: Option<&Slot>) -> Option<u64>

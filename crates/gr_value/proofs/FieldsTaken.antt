@@ -2,7 +2,7 @@
 use Rattle.std.proofs.Common.{◌≡◌, ◌∙◌, ap, ℕ, ◌+◌, ◌<◌, ◌≤◌, arith, List, [], ◌∷◌, ◌++◌, length, get_or, Ordering, Less, Equal, Greater}
 use Rattle.std.proofs.Common.{false, take, drop, is_ge, nat_cmp, ◌-◌, ◌⊎◌, inl, inr, refl, sym, append_assoc, append-nil}
 use Rattle.std.proofs.Common.{length-append}
-use Rattle.std.proofs.Math.Seq.{drop-append_seam}
+use Rattle.std.proofs.Math.Seq.{drop-append_seam, take-append_seam}
 use Rattle.std.proofs.lemmas.List.{get_or-map, take_all, take-append-drop, length-drop}
 use Rattle.std.proofs.lemmas.Bool.{cases_lt, true≢false}
 use Rattle.std.proofs.lemmas.Cmp.{nat_list_cmp_total}
@@ -100,6 +100,14 @@ braced_taken text first second rest fields open_brace taken close_brace =
 pub braces_taken : (text rest : List ℕ) → text ≡ 123 ∷ 125 ∷ rest → text ≡ value_text [] ++ rest
 unfolding value_text
 braces_taken text rest e = e
+
+pub begun_text : (bytes text left : List ℕ) (most : ℕ) → take most bytes ≡ text ++ left
+    → take (length (take most bytes) - length left) bytes ≡ text
+begun_text bytes text left most e =
+    let all : bytes ≡ text ++ (left ++ drop most bytes) = sym (take-append-drop most bytes) ∙ ap (λ front. front ++ drop most bytes) e
+    ∙ append_assoc text left (drop most bytes) in
+    let taken : length (take most bytes) - length left ≡ length text = omega (arith, ap length e, length-append text left) in
+    ap (λ k. take k bytes) taken ∙ ap (take (length text)) all ∙ take-append_seam text (left ++ drop most bytes)
 
 -- what was taken of the first bytes is what all of them begin with
 pub begun : (bytes text left : List ℕ) (most : ℕ) → take most bytes ≡ text ++ left

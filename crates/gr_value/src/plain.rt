@@ -247,7 +247,7 @@ pub(crate) fn fields_by_text(alloc: Global, bytes: &[u8]) -> Result<Option<Field
         return Ok(None);
     };
     if cursor.rest.is_empty() {
-        Ok(Some(fields))
+        Ok(Some(fields.with_text(alloc, bytes)?))
     } else {
         Ok(None)
     }
@@ -266,8 +266,9 @@ impl Value {
         let Some(fields) = cursor.take_value(alloc)? else {
             return Ok(None);
         };
-        let rest = &bytes[front.len() - cursor.rest.len()..];
-        let value = Value::of_fields(alloc, fields)?;
+        let len = front.len() - cursor.rest.len();
+        let (text, rest) = (&bytes[..len], &bytes[len..]);
+        let value = Value::of_fields(alloc, fields.with_text(alloc, text)?)?;
         Ok(Some((value, rest)))
     }
 }

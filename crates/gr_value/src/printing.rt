@@ -169,7 +169,10 @@ impl Value {
         ensures err { OnErr result (out.new.items ≡ out.old.items) }
     {
         let before = out.len();
-        let done = put_fields(alloc, self.fields(), out);
+        let done = match self.own_text() {
+            Some(text) => put_run(text, out),
+            None => put_fields(alloc, self.fields(), out),
+        };
         if done.is_err() {
             out.truncate(before);
         }

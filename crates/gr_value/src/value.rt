@@ -1,6 +1,7 @@
-ghost use Rattle.std.specs.Prelude.{◌≡◌, ◌↔◌, IsTrue, IfOk, option_copied};
+ghost use Rattle.std.specs.Prelude.{◌≡◌, ◌↔◌, IsTrue, IfOk, IfSome, option_copied};
 ghost use Rattle.gr_value.specs.Fields.{field_of, value_eq};
 ghost use Rattle.gr_value.specs.Values.{IsValue};
+ghost use Rattle.gr_value.specs.ValueText.{value_text};
 
 use crate::fields::Fields;
 use crate::{Copied, Memory, Scalar, Text};
@@ -74,6 +75,13 @@ impl Value {
         ensures value { IsValue self.now }
     {
         self.shared.as_slice()
+    }
+
+    // The text that it prints, where it is kept.
+    pub(crate) fn own_text(&self) -> Option<&[u8]>
+        ensures { IfSome result (λ text. text.now ≡ value_text self.now) }
+    {
+        self.shared.text()
     }
 
     /// The scalar of the field with this name.

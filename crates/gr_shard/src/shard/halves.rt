@@ -9,8 +9,9 @@ ghost use Rattle.gr_shard.specs.View.{after_deed, with_spare};
 
 use super::Shard;
 use crate::asking::{Foretold, foretell};
-use crate::committing::{aimed, carry_out, either, keep, know, looked_behind, moved, settle};
+use crate::committing::{aimed, carry_out, either, keep, know, moved, settle};
 use crate::effect::{Effect, QueriesAfter};
+use crate::sweeping::looked_after;
 use crate::telling::foretell_turned;
 use crate::{Came, Next, Prepared};
 use gr_cq::Turned;
@@ -44,7 +45,6 @@ impl Shard {
         } = effect;
         self.slots.has_keys_in_order();
         self.roomy = false;
-        self.looked = looked_behind(self.looked, &slots, &ids, heard.as_ref(), to);
         settle(&mut self.slots, slots);
         know(&mut self.vector, ids);
         carry_out(&mut self.queries, queries);
@@ -53,6 +53,7 @@ impl Shard {
         self.floor = moved(floor, self.floor);
         self.clock = moved(clock, self.clock);
         self.joined = either(joined, self.joined);
+        self.looked = looked_after(&deed, self.clock, self.looked);
         let _ = self.history.push(deed);
         came
     }

@@ -12,6 +12,7 @@ use Rattle.gr_shard.specs.View.{kept}
 use Rattle.gr_shard.proofs.Pushed.{on_ok}
 use Rattle.gr_shard.proofs.Stocked.{opened_called, unstocked}
 use Rattle.gr_shard.proofs.Kept.{kept_called}
+use Rattle.gr_shard.proofs.Looked.{looked_on}
 use Rattle.gr_shard.proofs.shard.Shard.add_change.Goals as goal
 
 pub invariant_of-self-2 : goal.invariant_of-self-2
@@ -32,12 +33,14 @@ invariant_of-self-2 c =
     let entered : c.come_in.new.slots.entries ≡ with_change made was.clock was.slots.entries = c.in_ok-come_in.ensures.slots in
     let told : c.come_in.new.queries.entries ≡ noted_ (turned_by_change was.slots.entries made) was.queries.entries =
     c.in_ok-come_in.ensures.told in
+    let behind =
+    kept_called was.id was.opening (kept was.slots.entries was.vector.ids was.floor was.clock was.joined was.to was.heard
+    was.queries.entries) past c.args.client c.args.seq c.args.ask c.args.reply made was.to c.self.invariant.0 here gives in
     rw (pushed, reverse-append, noted, entered, told) (
-      kept_called was.id was.opening (kept was.slots.entries was.vector.ids was.floor was.clock was.joined was.to was.heard
-          was.queries.entries) past
-          c.args.client c.args.seq
-          c.args.ask c.args.reply made was.to c.self.invariant.0 here gives,
+      behind,
       unstocked _ _ _ _ _ _
           (opened_called past was.slots.entries was.queries.entries was.id was.opening c.args.client c.args.seq c.args.ask c.args.reply
           c.args.change was.to c.self.invariant.0.stands c.self.invariant.1.open_are gives),
+      looked_on was.id was.opening was.looked _ (call_with c.args.client c.args.seq c.args.ask (given_to was.to)) past behind
+          c.self.invariant.2,
     )

@@ -8,6 +8,7 @@ use Rattle.gr_shard.specs.View.{kept}
 use Rattle.gr_shard.proofs.Pushed.{on_ok}
 use Rattle.gr_shard.proofs.Stocked.{unstocked}
 use Rattle.gr_shard.proofs.Kept.{kept_called}
+use Rattle.gr_shard.proofs.Looked.{looked_on}
 use Rattle.gr_shard.proofs.Turning.{noted_nothing}
 use Rattle.gr_shard.proofs.shard.Shard.add_reply.Goals as goal
 
@@ -22,9 +23,12 @@ invariant_of-self-2 c =
     ∙ ap (λ deeds. deeds ++ c.deed_of.result ∷ []) c.in_ok-reserve.ensures.deeds
     ∙ ap (λ deed. was.history.deeds ++ deed ∷ [])
     (c.deed_of.ensures ∙ ap (call_with c.args.client c.args.seq c.args.ask) c.nothing_made-done.ensures) in
+    let behind =
+    kept_called was.id was.opening (kept was.slots.entries was.vector.ids was.floor was.clock was.joined was.to was.heard
+    was.queries.entries) past c.args.client c.args.seq c.args.ask c.args.reply None 0 c.self.invariant.0 here gives in
     rw (pushed, reverse-append, ← noted_nothing was.queries.entries) (
-      kept_called was.id was.opening (kept was.slots.entries was.vector.ids was.floor was.clock was.joined was.to was.heard
-          was.queries.entries) past
-          c.args.client c.args.seq c.args.ask c.args.reply None 0 c.self.invariant.0 here gives,
+      behind,
       unstocked _ _ _ _ _ _ (noted_nothing was.queries.entries ∙ c.self.invariant.1.open_are),
+      looked_on was.id was.opening was.looked _ (call_with c.args.client c.args.seq c.args.ask (nothing_made c.args.reply)) past behind
+          c.self.invariant.2,
     )

@@ -3,6 +3,7 @@ use Rattle.std.proofs.lemmas.List.{reverse-append}
 use Rattle.gr_shard.specs.Effects.{IsMadeAt, IsTimed, needs, queries_after}
 use Rattle.gr_shard.specs.Prepared.{IsFit}
 use Rattle.gr_shard.specs.View.{kept}
+use Rattle.gr_shard.proofs.Looked.{looked_on}
 use Rattle.gr_shard.proofs.Prepares.{account_of, has_events, is_roomy, needs_some, ready_for, roomed}
 use Rattle.gr_shard.proofs.Pushed.{on_ok}
 use Rattle.gr_shard.proofs.Stocked.{unstocked}
@@ -18,6 +19,9 @@ invariant_of-self c =
     let roomy : was.roomy ≡ true = is_roomy was.roomy was.queries.spare (needs effect.queries) (needs_some effect.queries) fit.room in
     let pushed : c.push.new.self.deeds ≡ was.history.deeds ++ deed ∷ [] =
     on_ok c.push.result (c.push.ensures.room (c.self.invariant.1.a_deed roomy)) c.push.ensures.ok in
+    let behind =
+    fit.keeps (kept was.slots.entries was.vector.ids was.floor was.clock was.joined was.to was.heard was.queries.entries)
+    c.has_keys_in_order.ensures c.self.invariant.1.open_are c.self.invariant.0 in
     rw (
       pushed,
       reverse-append,
@@ -29,10 +33,11 @@ invariant_of-self c =
       c.moved-self-inside.ensures,
       c.moved-self-inside-2.ensures,
       c.either-self-inside.ensures,
+      c.looked_after-self-inside.ensures,
     ) (
-      fit.keeps (kept was.slots.entries was.vector.ids was.floor was.clock was.joined was.to was.heard was.queries.entries)
-          c.has_keys_in_order.ensures c.self.invariant.1.open_are c.self.invariant.0,
+      behind,
       unstocked _ _ _ _ _ _ (ap (queries_after effect.queries) c.self.invariant.1.open_are ∙ fit.opens),
+      looked_on was.id was.opening was.looked _ deed past behind c.self.invariant.2,
     )
 
 pub carry_out-requires : goal.carry_out-requires

@@ -9,6 +9,6 @@ returns-clause-due c =
     let past = reverse was.history.deeds in
     let now = kept was.slots.entries was.vector.ids was.floor was.clock was.joined was.to was.heard was.queries.entries in
     rw (← c.self.view_is)
-    (expired_is was.id was.opening c.args.moment c.max-clock.result now past c.as_slice.result.now c.in_ok-stable_among.field-0
-    c.self.invariant.0 c.has_keys_in_order.ensures c.max-clock.ensures (c.as_slice.ensures ∙ c.in_ok-late.ensures.keys)
+    (expired_is was.id was.opening c.args.moment c.max-clock.result was.looked now past c.as_slice.result.now c.in_ok-stable_among.field-0
+    c.self.invariant.0 c.self.invariant.2 c.has_keys_in_order.ensures c.max-clock.ensures (c.as_slice.ensures ∙ c.in_ok-late.ensures.keys)
     c.in_ok-stable_among.ensures)

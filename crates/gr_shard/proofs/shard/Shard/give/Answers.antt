@@ -3,6 +3,7 @@ use Rattle.std.proofs.lemmas.List.{reverse-append}
 use Rattle.gr_history.specs.declared.deed.Deed.TheVariants.{Gave}
 use Rattle.gr_shard.specs.View.{kept}
 use Rattle.gr_shard.proofs.Gifts.{kept_gave}
+use Rattle.gr_shard.proofs.Looked.{looked_nothing}
 use Rattle.gr_shard.proofs.Pushed.{on_ok}
 use Rattle.gr_shard.proofs.Stocked.{unstocked}
 use Rattle.gr_shard.proofs.shard.Shard.give.Goals as goal
@@ -20,4 +21,5 @@ invariant_of-self-2 c =
           was.queries.entries) past c.args.to
           c.args.what c.self.invariant.0 c.requires.from stated,
       unstocked _ _ _ _ _ _ c.self.invariant.1.open_are,
+      looked_nothing _ _,
     )

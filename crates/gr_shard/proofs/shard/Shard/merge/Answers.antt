@@ -6,6 +6,7 @@ use Rattle.gr_cq.specs.Entries.{noted}
 use Rattle.gr_shard.specs.Telling.{turned_between}
 use Rattle.gr_shard.specs.View.{kept}
 use Rattle.gr_shard.proofs.Merges.{kept_merged, stands_merged}
+use Rattle.gr_shard.proofs.Looked.{looked_nothing}
 use Rattle.gr_shard.proofs.Pushed.{on_ok}
 use Rattle.gr_shard.proofs.Stocked.{opened_merged, unstocked}
 use Rattle.gr_shard.proofs.shard.Shard.merge.Goals as goal
@@ -33,4 +34,5 @@ invariant_of-self-2 c =
           (opened_merged past was.slots.entries was.queries.entries image left c.self.invariant.0.stands
           (stands_merged image past was.slots.entries was.vector.ids was.clock fits.in_order c.in_ok-slots.ensures.ordered c.self.invariant.0.noted
           c.self.invariant.0.clocked c.self.invariant.0.stands) c.self.invariant.1.open_are),
+      looked_nothing _ _,
     )

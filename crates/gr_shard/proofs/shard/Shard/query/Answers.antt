@@ -6,6 +6,7 @@ use Rattle.gr_history.specs.Queries.{query_gives}
 use Rattle.gr_shard.specs.InStep.{served}
 use Rattle.gr_shard.specs.View.{Kept, kept}
 use Rattle.gr_shard.proofs.Asked.{both_given, kept_answered}
+use Rattle.gr_shard.proofs.Looked.{looked_on}
 use Rattle.gr_shard.proofs.Pushed.{on_ok}
 use Rattle.gr_shard.proofs.Stocked.{unstocked}
 use Rattle.gr_shard.proofs.shard.Shard.query.Goals as goal
@@ -36,10 +37,15 @@ pushed c =
 
 pub invariant_of-self-2 : goal.invariant_of-self-2
 invariant_of-self-2 c =
+    let noted = c.in_ok-noted.field-0.noted in
+    let behind =
+    kept_answered c.self.inside.id c.self.inside.opening (now c) (past c) c.args.client c.args.seq c.args.ask.now noted c.self.invariant.0
+    (both c).0 in
     rw (pushed c, reverse-append, c.in_ok-noted.ensures.ok) (
-      kept_answered c.self.inside.id c.self.inside.opening (now c) (past c) c.args.client c.args.seq c.args.ask.now
-          c.in_ok-noted.field-0.noted c.self.invariant.0 (both c).0,
+      behind,
       unstocked _ _ _ _ _ _ (ap (served c.args.client c.args.ask.now) c.self.invariant.1.open_are),
+      looked_on c.self.inside.id c.self.inside.opening c.self.inside.looked _ (Asked c.args.client c.args.seq c.args.ask.now noted) (past c)
+          behind c.self.invariant.2,
     )
 
 pub returns-clause-reply : goal.returns-clause-reply

@@ -3,6 +3,7 @@ use Rattle.std.proofs.lemmas.List.{reverse-append}
 use Rattle.gr_history.specs.declared.deed.Deed.TheVariants.{Reported}
 use Rattle.gr_history.specs.Gifts.{IsReportOf}
 use Rattle.gr_shard.specs.View.{kept}
+use Rattle.gr_shard.proofs.Looked.{looked_on}
 use Rattle.gr_shard.proofs.Reports.{kept_reported}
 use Rattle.gr_shard.proofs.Pushed.{on_ok}
 use Rattle.gr_shard.proofs.Stocked.{unstocked}
@@ -18,8 +19,11 @@ invariant_of-self-2 c =
     on_ok c.push.result (c.push.ensures.room c.in_ok-reserve.ensures.room) c.push.ensures.ok
     ∙ ap (λ deeds. deeds ++ Reported c.in_ok-noted.noted ∷ []) c.in_ok-reserve.ensures.deeds
     ∙ ap (λ copy. was.history.deeds ++ Reported copy ∷ []) c.in_ok-noted.ensures in
+    let behind =
+    kept_reported was.id was.opening (kept was.slots.entries was.vector.ids was.floor was.clock was.joined was.to was.heard
+    was.queries.entries) past report c.self.invariant.0 is in
     rw (pushed, reverse-append) (
-      kept_reported was.id was.opening (kept was.slots.entries was.vector.ids was.floor was.clock was.joined was.to was.heard
-          was.queries.entries) past report c.self.invariant.0 is,
+      behind,
       unstocked _ _ _ _ _ _ c.self.invariant.1.open_are,
+      looked_on was.id was.opening was.looked _ (Reported report) past behind c.self.invariant.2,
     )

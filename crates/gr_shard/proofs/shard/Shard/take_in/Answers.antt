@@ -10,6 +10,7 @@ use Rattle.gr_cq.specs.Entries.{noted as noted_}
 use Rattle.gr_shard.specs.Telling.{turned_by_change}
 use Rattle.gr_shard.specs.View.{kept}
 use Rattle.gr_shard.proofs.Kept.{kept_taken}
+use Rattle.gr_shard.proofs.Looked.{looked_nothing}
 use Rattle.gr_shard.proofs.Pushed.{on_ok}
 use Rattle.gr_shard.proofs.Stocked.{opened_taken, unstocked}
 use Rattle.gr_shard.proofs.shard.Shard.take_in.Goals as goal
@@ -40,4 +41,5 @@ invariant_of-self-2 c =
           c.self.invariant.0 here is,
       unstocked _ _ _ _ _ _
           (opened_taken past was.slots.entries was.queries.entries change told c.self.invariant.0.stands c.self.invariant.1.open_are is),
+      looked_nothing _ _,
     )
