@@ -25,6 +25,7 @@ invariant_of-self c =
     rw (
       pushed,
       reverse-append,
+      c.looked_after-self-inside.ensures,
       c.settle.ensures,
       c.know.ensures,
       c.carry_out.ensures,
@@ -33,7 +34,6 @@ invariant_of-self c =
       c.moved-self-inside.ensures,
       c.moved-self-inside-2.ensures,
       c.either-self-inside.ensures,
-      c.looked_after-self-inside.ensures,
     ) (
       behind,
       unstocked _ _ _ _ _ _ (ap (queries_after effect.queries) c.self.invariant.1.open_are ∙ fit.opens),
