@@ -1,10 +1,11 @@
--- A list after one of its places is set, and after it is cut or grown.
-use Rattle.std.proofs.Common.{◌≡◌, ◌∙◌, ap, sym, refl, ℕ, zero, suc, ◌+◌, ◌-◌, ◌<◌, ◌==◌, List, [], ◌∷◌, ◌++◌}
+-- A list after one of its places is set, and after it is grown.
+use Rattle.std.proofs.Common.{◌≡◌, ◌∙◌, ap, sym, refl, ℕ, zero, suc, ◌<◌, ◌==◌, List, [], ◌∷◌, ◌++◌}
 use Rattle.std.proofs.Common.{Bool, true, false, Option, Some, None, option_map, length, arith}
-use Rattle.std.specs.Prelude.{cond, take}
-use Rattle.std.specs.List.{slice_get, slice_set, slice_index_or, swap_remove}
+use Rattle.std.specs.Prelude.{cond}
+use Rattle.std.specs.Option.{option_and_then}
+use Rattle.std.specs.List.{slice_get, slice_set, slice_index_or}
 use Rattle.std.proofs.lemmas.Bool.Decides.{nat_tests}
-use Rattle.std.proofs.lemmas.Option.{slice_get-get_or, slice_get_read}
+use Rattle.std.proofs.lemmas.Option.{slice_get_read}
 
 not_first : (p : ℕ) → (suc p == 0) ≡ false
 not_first p = grind (arith, nat_tests)
@@ -52,6 +53,17 @@ module _ {X : Type 0} where
           ∙ slice_get_read xs (length xs) i was refl within is))
       at_test false e = refl
 
+  -- the same of what each may have
+  pub read-set-if : {A : Type 0} (f : X → Option A) (xs : List X) (i : ℕ) (was x : X) (p : ℕ) → i < length xs
+      → was ≡ slice_index_or xs i was → f x ≡ f was
+      → option_and_then f (slice_get (slice_set xs i x) p) ≡ option_and_then f (slice_get xs p)
+  read-set-if {A} f xs i was x p within is same = ap (option_and_then f) (get-set xs i x p within) ∙ at_test (p == i) refl
+    where
+      at_test : (b : Bool) → (p == i) ≡ b → option_and_then f (cond b (Some x) (slice_get xs p)) ≡ option_and_then f (slice_get xs p)
+      at_test true e = same ∙ sym (ap (option_and_then f) (ap (slice_get xs) (same_of p i e)
+          ∙ slice_get_read xs (length xs) i was refl within is))
+      at_test false e = refl
+
   -- and where it has another
   pub read-set-to : {A : Type 0} (f : X → A) (xs : List X) (i : ℕ) (x : X) (p : ℕ) → i < length xs
       → option_map f (slice_get (slice_set xs i x) p) ≡ cond (p == i) (Some (f x)) (option_map f (slice_get xs p))
@@ -83,26 +95,3 @@ module _ {X : Type 0} where
   get-push [] x (suc p) = ap (λ b. cond b (Some x) None) (sym (not_first p))
   get-push (y ∷ ys) x zero = ap (λ b. cond b (Some x) (Some y)) (sym (not_first_of (length ys)))
   get-push (y ∷ ys) x (suc p) = get-push ys x p ∙ ap (λ b. cond b (Some x) (slice_get ys p)) (both_later p (length ys))
-
-  -- without the last
-  get-init : (xs : List X) (n : ℕ) (p : ℕ) → length xs ≡ suc n → slice_get (take n xs) p ≡ cond (p == n) None (slice_get xs p)
-  get-init [] n p is = absurd (omega arith)
-  get-init (x ∷ []) zero zero is = refl
-  get-init (x ∷ []) zero (suc p) is = same_none (suc p == 0)
-  get-init (x ∷ y ∷ ys) zero p is = absurd (omega arith)
-  get-init (x ∷ xs) (suc n) zero is = ap (λ b. cond b None (Some x)) (sym (not_first_of n))
-  get-init (x ∷ xs) (suc n) (suc p) is =
-      get-init xs n p (omega arith) ∙ ap (λ b. cond b None (slice_get xs p)) (both_later p n)
-
-  -- once the last has moved to a place
-  pub get-swapped : (xs : List X) (i : ℕ) (d : X) (p : ℕ) → i < length xs → slice_get (swap_remove xs i d) p
-      ≡ cond (p + 1 == length xs) None (cond (p == i) (slice_get xs (length xs - 1)) (slice_get xs p))
-  get-swapped xs i d p within =
-      let last : ℕ = length xs - 1 in
-      get-init (slice_set xs i (slice_index_or xs last d)) last p (length-set xs i (slice_index_or xs last d) ∙ omega arith)
-      ∙ ap (cond (p == last) None) (get-set xs i (slice_index_or xs last d) p within
-      ∙ ap (λ o. cond (p == i) o (slice_get xs p)) (sym (slice_get-get_or xs last d (omega arith))))
-      ∙ ap (λ b. cond b None (cond (p == i) (slice_get xs last) (slice_get xs p))) (ends (length xs) (omega arith))
-    where
-      ends : (n : ℕ) → 0 < n → (p == n - 1) ≡ (p + 1 == n)
-      ends n some = grind (arith, nat_tests)

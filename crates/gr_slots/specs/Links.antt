@@ -7,7 +7,7 @@ use Rattle.gr_slots.specs.declared.cell.Cell.{Cell}
 use Rattle.gr_slots.specs.declared.seats.Seats.{Seats}
 use Rattle.gr_slots.specs.declared.walk.Met.{Met}
 use Rattle.gr_slots.specs.declared.walk.Met.TheVariants.{Place, End, Lost}
-use Rattle.gr_slots.specs.Cells.{key_in}
+use Rattle.gr_slots.specs.Cells.{key_in, near_in}
 
 -- which of so many seats a key has
 unfoldable pub seat_of : ℕ → List ℕ → ℕ
@@ -25,21 +25,21 @@ sits size seat (Some key) = seat_of size key == seat
 -- the place, plus 1, of the last of the first so many cells whose key has a seat, or 0
 abbrev pub last_at : ℕ → ℕ → List Cell → ℕ → ℕ
 last_at size seat cells zero = 0
-last_at size seat cells (suc place) = if sits size seat (key_in cells place) then suc place else last_at size seat cells place
+last_at size seat cells (suc place) = if sits size seat (near_in cells place) then suc place else last_at size seat cells place
 
 -- The first so many cells are in chains: each seat has its last cell, and each cell the last one before it.
 pub record AreLinked (seats : Seats) (cells : List Cell) (count : ℕ) : Type 0 where
   pub heads : (seat : ℕ) → IfSome (slice_get seats.heads.items seat) (λ at. at ≡ last_at seats.size seat cells count)
-  pub nexts : (place : ℕ) (key : List ℕ) → place < count → key_in cells place ≡ Some key
+  pub nexts : (place : ℕ) (key : List ℕ) → place < count → near_in cells place ≡ Some key
       → seat_of seats.size key < length seats.heads.items
       → next_in cells place ≡ Some (last_at seats.size (seat_of seats.size key) cells place)
 
--- All cells are linked, if none left since.
+-- All cells are linked, but for those that are in no chain.
 abbrev pub IsKept : Seats → List Cell → Type 0
-IsKept seats cells = seats.left ≡ 0 → AreLinked seats cells (length cells)
+IsKept seats cells = AreLinked seats cells (length cells)
 
--- what a walk along the chain of a key's seat tells: the key's place, or that it has none where all are linked, or nothing
+-- what a walk along the chain of a key's seat tells: the key's place, or that no chain has it where all are linked, or nothing
 abbrev pub Tells : Seats → List Cell → List ℕ → Met → Type 0
 Tells seats cells key (Place place) = key_in cells place ≡ Some key
-Tells seats cells key End = AreLinked seats cells (length cells) → (place : ℕ) → key_in cells place ≢ Some key
+Tells seats cells key End = AreLinked seats cells (length cells) → (place : ℕ) → near_in cells place ≢ Some key
 Tells seats cells key Lost = ⊤

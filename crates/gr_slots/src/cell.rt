@@ -11,6 +11,10 @@ use gr_value::Key;
 pub struct Cell {
     pub key: Key,
     pub next: u32,
+    /// Whether it is in no chain.
+    pub far: bool,
+    /// Whether something stands at the key.
+    pub live: bool,
     pub slot: Slot,
 }
 

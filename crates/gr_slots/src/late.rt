@@ -39,33 +39,30 @@ pub fn find_either<'a>(
 }
 
 // Takes the late row away, where it is that of a key.
-fn take_late(late: &mut Option<(Key, Slot)>, key: &Key) -> Option<(Key, Slot)>
-    ensures taken { result ≡ late_at key.now late.old }
+fn take_late(late: &mut Option<(Key, Slot)>, key: &Key) -> Option<Slot>
+    ensures taken { result ≡ option_map (λ row. row.1) (late_at key.now late.old) }
     ensures left { late.new ≡ (if is_some (late_at key.now late.old) then None else late.old) }
 {
     if late_slot(late, key).is_some() {
-        late.take()
+        let (_, slot) = late.take()?;
+        Some(slot)
     } else {
         None
     }
 }
 
 /// Takes a key and its slot away, from its cell or where it is late.
-pub fn leave_either(
-    cells: &mut Cells,
-    late: &mut Option<(Key, Slot)>,
-    key: &Key,
-) -> Option<(Key, Slot)>
+pub fn leave_either(cells: &mut Cells, late: &mut Option<(Key, Slot)>, key: &Key) -> Option<Slot>
     requires apart { IsApart late.old cells.old }
     requires ordered { IsStrictlySortedBy (slice_cmp nat_cmp) (keys_of cells.old) }
-    ensures slot { option_map (λ left. left.1) result ≡ slot_at key.now (with_late late.old cells.old) }
+    ensures slot { result ≡ slot_at key.now (with_late late.old cells.old) }
     ensures gone { with_late late.new cells.new ≡ without key.now (with_late late.old cells.old) }
     ensures apart { IsApart late.new cells.new }
     ensures indexed { (unlisted : Option (List ℕ)) (removals : Moments) → AreIndexed unlisted cells.old removals
         → AreIndexed unlisted cells.new removals }
 {
     match cells.leave(key) {
-        Some(row) => Some(row),
+        Some(slot) => Some(slot),
         None => take_late(late, key),
     }
 }

@@ -1,11 +1,10 @@
-ghost use Rattle.std.specs.Prelude.{◌≡◌, ◌==◌, ◌<◌, ◌++◌, ◌∷◌, [], ℕ, List, Some, None, OnOk, OnErr, IfOk, cond, length, map, option_copied, option_map, IfSome, IfNone, IsSome};
+ghost use Rattle.std.specs.Prelude.{◌≡◌, ◌≢◌, ◌==◌, ◌<◌, ◌++◌, ◌∷◌, [], ℕ, List, Some, None, true, false, ◌&&◌, OnOk, OnErr, IfOk, cond, length, map, option_copied};
 ghost use Rattle.std.specs.Ordering.{nat_cmp};
 ghost use Rattle.std.specs.Cmp.Lexicographic.{slice_cmp};
 ghost use Rattle.std.specs.BTreeMap.{get, is_at, IsOrdered};
-ghost use Rattle.std.specs.List.{slice_get};
 ghost use Rattle.std.specs.Map.Iter.{deref_pair};
-ghost use Rattle.gr_slots.specs.Slots.{removed_at, slot_at, with_slot, without};
-ghost use Rattle.gr_slots.specs.Cells.{key_in, slot_in, left_at, rows_in, AreTied};
+ghost use Rattle.gr_slots.specs.Slots.{removed_at, with_slot};
+ghost use Rattle.gr_slots.specs.Cells.{key_in, near_in, slot_in, rows_in, rows_of, standing, AreApart, AreTied, IsPlaceOf};
 ghost use Rattle.gr_slots.specs.Links.{next_in, IsKept};
 
 use crate::Slot;
@@ -13,37 +12,58 @@ use crate::cell::{Cell, cell_at};
 use crate::removals::removed_at;
 use crate::seats::Seats;
 use crate::walk::{Met, walk};
+use gr_stamp::Kind;
 use gr_value::{Copied, Key, Memory};
 use std::alloc::Global;
 use std::collections::BTreeMap;
 use std::mem;
 
-// The place of a key, which is looked for among all.
-#[inline(never)]
-fn search(places: &BTreeMap<Key, usize>, key: &Key) -> Option<usize>
-    ensures { result ≡ get (slice_cmp nat_cmp) places.now key.now }
+// The place of a key among those that are in no chain.
+#[inline(always)]
+fn search(far: &BTreeMap<Key, usize>, key: &Key) -> Option<usize>
+    ensures { result ≡ get (slice_cmp nat_cmp) far.now key.now }
 {
-    places.get(key).copied()
+    far.get(key).copied()
 }
 
-/// The place of a key. Where no cell left since all were linked, the chain of its seat tells that it has
-/// none.
+// The place of a key, by a look at each cell. No chain is so long that one is needed.
+#[inline(never)]
+fn scan(cells: &[Cell], key: &Key) -> Option<usize>
+    ensures { IsPlaceOf cells.now key.now result }
+{
+    for place in 0..cells.len() {
+        if cells[place].key == *key {
+            return Some(place);
+        }
+    }
+    None
+}
+
+/// The place of a key's cell.
 #[inline(always)]
 pub fn place_of(
-    places: &BTreeMap<Key, usize>,
+    far: &BTreeMap<Key, usize>,
     cells: &[Cell],
     seats: &Seats,
     key: &Key,
 ) -> Option<usize>
-    requires tied { AreTied places.now cells.now }
+    requires tied { AreTied far.now cells.now }
     requires kept { IsKept seats.now cells.now }
-    ensures { result ≡ get (slice_cmp nat_cmp) places.now key.now }
+    ensures { IsPlaceOf cells.now key.now result }
 {
     match walk(seats, cells, key) {
         Met::Place(place) => Some(place),
-        Met::End if seats.left == 0 => None,
-        _ => search(places, key),
+        Met::End => search(far, key),
+        Met::Lost => scan(cells, key),
     }
+}
+
+// What stands in a cell.
+#[inline(always)]
+fn standing(cell: &Cell) -> Option<&Slot>
+    ensures { option_copied result ≡ standing cell.now }
+{
+    if cell.live { Some(&cell.slot) } else { None }
 }
 
 /// What stands at a place.
@@ -51,7 +71,7 @@ pub fn place_of(
 pub fn slot_in(cells: &[Cell], place: usize) -> Option<&Slot>
     ensures { option_copied result ≡ slot_in cells.now place }
 {
-    Some(&cell_at(cells, place)?.slot)
+    standing(cell_at(cells, place)?)
 }
 
 /// Puts what is to stand into the cell at a place, and tells when what stood there came in, where it
@@ -61,131 +81,134 @@ pub fn put_in(cells: &mut Vec<Cell>, place: usize, slot: Slot) -> Option<u64>
     requires { place < length cells.old.items }
     ensures before { result ≡ removed_at (slot_in cells.old.items place) }
     ensures keys { (other : ℕ) → key_in cells.new.items other ≡ key_in cells.old.items other }
+    ensures nears { (other : ℕ) → near_in cells.new.items other ≡ near_in cells.old.items other }
     ensures slots { (other : ℕ) → slot_in cells.new.items other ≡ cond (other == place) (Some slot) (slot_in cells.old.items other) }
     ensures nexts { (other : ℕ) → next_in cells.new.items other ≡ next_in cells.old.items other }
     ensures length { length cells.new.items ≡ length cells.old.items }
 {
-    let before = mem::replace(&mut cells[place].slot, slot);
-    removed_at(Some(&before))
+    let cell = &mut cells[place];
+    let lived = mem::replace(&mut cell.live, true);
+    let before = mem::replace(&mut cell.slot, slot);
+    if lived {
+        removed_at(Some(&before))
+    } else {
+        None
+    }
 }
 
-// Gives a key a place.
-fn add_place(places: &mut BTreeMap<Key, usize>, key: Key, place: usize) -> Result<(), Memory>
-    ensures ok { OnOk result ((q : List ℕ) → get (slice_cmp nat_cmp) places.new q
-        ≡ cond (is_at (slice_cmp nat_cmp key) q) (Some place) (get (slice_cmp nat_cmp) places.old q)) }
-    ensures err { OnErr result (places.new.entries ≡ places.old.entries) }
-    ensures ordered { IsOrdered (slice_cmp nat_cmp) places.new }
+/// Takes what stands out of the cell at a place. The cell stays, for its key.
+pub fn take_in(cells: &mut Vec<Cell>, place: usize) -> Option<Slot>
+    requires { place < length cells.old.items }
+    ensures slot { result ≡ slot_in cells.old.items place }
+    ensures keys { (other : ℕ) → key_in cells.new.items other ≡ key_in cells.old.items other }
+    ensures nears { (other : ℕ) → near_in cells.new.items other ≡ near_in cells.old.items other }
+    ensures slots { (other : ℕ) → slot_in cells.new.items other ≡ cond (other == place) None (slot_in cells.old.items other) }
+    ensures nexts { (other : ℕ) → next_in cells.new.items other ≡ next_in cells.old.items other }
+    ensures length { length cells.new.items ≡ length cells.old.items }
 {
-    match places.insert(key, place) {
+    let cell = &mut cells[place];
+    let lived = mem::replace(&mut cell.live, false);
+    let nothing = Slot {
+        kind: Kind::Remove,
+        taken_at: 0,
+        stamp: cell.slot.stamp,
+    };
+    let before = mem::replace(&mut cell.slot, nothing);
+    lived.then_some(before)
+}
+
+// Gives a key a place among those that are in no chain.
+fn add_place(far: &mut BTreeMap<Key, usize>, key: Key, place: usize) -> Result<(), Memory>
+    ensures ok { OnOk result ((q : List ℕ) → get (slice_cmp nat_cmp) far.new q
+        ≡ cond (is_at (slice_cmp nat_cmp key) q) (Some place) (get (slice_cmp nat_cmp) far.old q)) }
+    ensures err { OnErr result (far.new.entries ≡ far.old.entries) }
+    ensures ordered { IsOrdered (slice_cmp nat_cmp) far.new }
+{
+    match far.insert(key, place) {
         Ok(_) => Ok(()),
         Err(_) => Err(Memory),
     }
 }
 
-/// Gives a key that has no place the next one, and a slot there.
+fn add_far(
+    alloc: Global,
+    far: &mut BTreeMap<Key, usize>,
+    key: &Key,
+    place: usize,
+    is_far: bool,
+) -> Result<(), Memory>
+    requires { IsOrdered (slice_cmp nat_cmp) far.old }
+    ensures ok { OnOk result ((q : List ℕ) → get (slice_cmp nat_cmp) far.new q
+        ≡ cond (is_far && is_at (slice_cmp nat_cmp key.now) q) (Some place) (get (slice_cmp nat_cmp) far.old q)) }
+    ensures err { OnErr result (far.new.entries ≡ far.old.entries) }
+    ensures ordered { IsOrdered (slice_cmp nat_cmp) far.new }
+{
+    if is_far {
+        add_place(far, key.copy(alloc)?, place)
+    } else {
+        Ok(())
+    }
+}
+
+/// Gives a key that has no cell the next one, which is to be in no chain or isn't linked yet.
 #[inline(never)]
 pub fn enter(
     alloc: Global,
-    places: &mut BTreeMap<Key, usize>,
+    far: &mut BTreeMap<Key, usize>,
     cells: &mut Vec<Cell>,
     key: &Key,
     slot: Slot,
+    is_far: bool,
 ) -> Result<(), Memory>
-    requires tied { AreTied places.old cells.old.items }
-    requires absent { get (slice_cmp nat_cmp) places.old key.now ≡ None }
-    ensures tied { AreTied places.new cells.new.items }
-    ensures ok { OnOk result (rows_in cells.new.items places.new.entries ≡ with_slot key.now slot (rows_in cells.old.items places.old.entries)) }
-    ensures grown { OnOk result (cells.new.items ≡ cells.old.items ++ record { key = key.now; slot = slot; next = 0 } ∷ []) }
-    ensures err { OnErr result (rows_in cells.new.items places.new.entries ≡ rows_in cells.old.items places.old.entries) }
+    requires tied { AreTied far.old cells.old.items }
+    requires absent { IsPlaceOf cells.old.items key.now None }
+    ensures tied { AreTied far.new cells.new.items }
+    ensures ok { OnOk result (rows_in cells.new.items ≡ with_slot key.now slot (rows_in cells.old.items)) }
+    ensures grown { OnOk result (cells.new.items ≡ cells.old.items
+        ++ record { key = key.now; slot = slot; live = true; far = is_far; next = 0 } ∷ []) }
     ensures same { OnErr result (cells.new.items ≡ cells.old.items) }
 {
     let place = cells.len();
-    let entered = key.copy(alloc)?;
-    cells.push(Cell {
-        key: key.copy(alloc)?,
-        slot,
+    let own = key.copy(alloc)?;
+    cells.reserve(1)?;
+    add_far(alloc, far, key, place, is_far)?;
+    cells.push_reserved(Cell {
+        key: own,
         next: 0,
-    })?;
-    match add_place(places, entered, place) {
-        Ok(()) => Ok(()),
-        Err(memory) => {
-            cells.pop();
-            Err(memory)
-        }
-    }
+        far: is_far,
+        live: true,
+        slot,
+    });
+    Ok(())
 }
 
-// Takes out the cell at a place, to which the last one moves.
-fn take_out(cells: &mut Vec<Cell>, place: usize) -> Slot
-    requires { place < length cells.old.items }
-    ensures slot { Some result ≡ slot_in cells.old.items place }
-    ensures left { (other : ℕ) → slice_get cells.new.items other ≡ left_at cells.old.items place other }
+// Puts the row of a cell last, if something stands there.
+fn push_row<'a>(rows: &mut Vec<(&'a Key, &'a Slot)>, cell: &'a Cell) -> Result<(), Memory>
+    ensures { OnOk result (map deref_pair rows.new.items ≡ map deref_pair rows.old.items ++ rows_of (cell.now ∷ [])) }
 {
-    cells.swap_remove(place).slot
-}
-
-// Sets the place of the cell that stands there now, if one does.
-fn follow(places: &mut BTreeMap<Key, usize>, cells: &[Cell], place: usize)
-    requires ordered { IsOrdered (slice_cmp nat_cmp) places.old }
-    requires known { IfSome (key_in cells.now place) (λ key. IsSome (get (slice_cmp nat_cmp) places.old key)) }
-    ensures none { key_in cells.now place ≡ None → places.new.entries ≡ places.old.entries }
-    ensures some { IfSome (key_in cells.now place) (λ key. (q : List ℕ) → get (slice_cmp nat_cmp) places.new q
-        ≡ cond (is_at (slice_cmp nat_cmp key) q) (Some place) (get (slice_cmp nat_cmp) places.old q)) }
-    ensures ordered { IsOrdered (slice_cmp nat_cmp) places.new }
-{
-    if let Some(cell) = cells.get(place) {
-        if let Some(held) = places.get_mut(&cell.key) {
-            *held = place;
-        }
-    }
-}
-
-/// Takes a key and its slot away.
-#[inline(never)]
-pub fn leave(
-    places: &mut BTreeMap<Key, usize>,
-    cells: &mut Vec<Cell>,
-    key: &Key,
-) -> Option<(Key, Slot)>
-    requires { AreTied places.old cells.old.items }
-    ensures tied { AreTied places.new cells.new.items }
-    ensures key { IfSome result (λ left. left.0 ≡ key.now) }
-    ensures slot { option_map (λ left. left.1) result ≡ slot_at key.now (rows_in cells.old.items places.old.entries) }
-    ensures none { IfNone result (cells.new.items ≡ cells.old.items) }
-    ensures gone { rows_in cells.new.items places.new.entries ≡ without key.now (rows_in cells.old.items places.old.entries) }
-{
-    let (key, place) = places.remove_entry(key)?;
-    let slot = take_out(cells, place);
-    follow(places, cells, place);
-    Some((key, slot))
-}
-
-// Puts the row of a key last, where something stands at its place.
-fn push_row<'a>(
-    rows: &mut Vec<(&'a Key, &'a Slot)>,
-    cells: &'a [Cell],
-    key: &'a Key,
-    place: usize,
-) -> Result<(), Memory>
-    ensures { OnOk result (map deref_pair rows.new.items ≡ map deref_pair rows.old.items ++ rows_in cells.now ((key.now, place) ∷ [])) }
-{
-    if let Some(slot) = slot_in(cells, place) {
-        rows.push((key, slot))?;
+    if cell.live {
+        rows.push((&cell.key, &cell.slot))?;
     }
     Ok(())
 }
 
-/// What stands at each key, in the order of the keys.
-pub fn rows_in<'a>(
-    alloc: Global,
-    places: &'a BTreeMap<Key, usize>,
-    cells: &'a [Cell],
-) -> Result<Vec<(&'a Key, &'a Slot)>, Memory>
-    ensures { IfOk result (λ rows. map deref_pair rows.items ≡ rows_in cells.now places.now.entries) }
+// The rows of the cells at which something stands, in the order of the cells.
+fn rows_of<'a>(alloc: Global, cells: &'a [Cell]) -> Result<Vec<(&'a Key, &'a Slot)>, Memory>
+    ensures { IfOk result (λ rows. map deref_pair rows.items ≡ rows_of cells.now) }
 {
     let mut rows = Vec::new(alloc);
-    for (key, place) in places {
-        push_row(&mut rows, cells, key, *place)?;
+    for cell in cells {
+        push_row(&mut rows, cell)?;
     }
+    Ok(rows)
+}
+
+/// What stands at each key, in the order of the keys.
+pub fn rows_in<'a>(alloc: Global, cells: &'a [Cell]) -> Result<Vec<(&'a Key, &'a Slot)>, Memory>
+    requires { AreApart cells.now }
+    ensures { IfOk result (λ rows. map deref_pair rows.items ≡ rows_in cells.now) }
+{
+    let mut rows = rows_of(alloc, cells)?;
+    rows.sort_unstable_by_key(|row| row.0);
     Ok(rows)
 }

@@ -1,23 +1,25 @@
 ghost use Rattle.std.specs.Prelude.{◌≡◌, ◌<◌, ◌+◌, ℕ, List, length, IfOk};
 ghost use Rattle.std.specs.List.{slice_get, slice_set};
-ghost use Rattle.gr_slots.specs.Cells.{key_in, slot_in};
+ghost use Rattle.gr_slots.specs.Cells.{key_in, near_in, slot_in};
 ghost use Rattle.gr_slots.specs.Links.{seat_of, AreLinked, IsKept};
 
-use crate::cell::Cell;
+use crate::cell::{Cell, cell_at};
 use gr_value::{Key, Memory};
 use std::alloc::Global;
 
 /// The fewest seats, where there are some.
 const FEWEST: u32 = 64;
 
+/// The most cells of a chain. So keys that were chosen to have one seat cost a few steps more than a
+/// search of the ordered map.
+pub const MOST_CELLS: u8 = 8;
+
 /// Each key has one of so many seats, by its hash, and the cells of the keys of one seat are a chain.
-/// A seat has the place, plus 1, of the newest cell of its chain, or 0. Once cells left, places have
-/// moved, and chains may be broken until all cells are linked anew.
+/// A seat has the place, plus 1, of the newest cell of its chain, or 0.
 #[derive(Drop)]
 pub struct Seats {
     pub size: u32,
     pub heads: Vec<u32>,
-    pub left: usize,
 }
 
 impl Seats {
@@ -27,19 +29,16 @@ impl Seats {
         Seats {
             size: 0,
             heads: Vec::new(alloc),
-            left: 0,
         }
     }
 
-    // Seats without chains, two for each key at least.
-    fn wide(alloc: Global, keys: u32) -> Result<Seats, Memory>
+    // So many seats without chains.
+    fn wide(alloc: Global, size: u32) -> Result<Seats, Memory>
         ensures { IfOk result (λ seats. (cells : List Cell) → AreLinked seats cells 0) }
     {
-        let size = keys.saturating_mul(2).max(FEWEST);
         Ok(Seats {
             size,
             heads: vec![in alloc; 0; size as usize]?,
-            left: 0,
         })
     }
 
@@ -64,7 +63,6 @@ impl Seats {
     fn set_head(&mut self, key: &Key, at: u32)
         ensures heads { self.new.heads.items ≡ slice_set self.old.heads.items (seat_of self.old.size key.now) at }
         ensures size { self.new.size ≡ self.old.size }
-        ensures left { self.new.left ≡ self.old.left }
     {
         let seat = self.seat(key);
         if let Some(head) = self.heads.get_mut(seat) {
@@ -72,26 +70,40 @@ impl Seats {
         }
     }
 
-    // Whether all cells are to be linked anew before there are so many: where there would be fewer seats
-    // than keys, or where more cells left than a half of those that there are. Nothing rests on it but
-    // time.
-    #[inline(always)]
-    fn is_worn(&self, keys: u32) -> bool {
-        self.size < keys || self.left > keys as usize / 2
+    /// Whether the chain of a key's seat has as many cells as it may have. Nothing rests on it but time.
+    pub fn is_full(&self, cells: &[Cell], key: &Key) -> bool {
+        let Some(head) = self.head(key) else {
+            return true;
+        };
+        let mut at = head;
+        for _ in 0..MOST_CELLS {
+            if at == 0 {
+                return false;
+            }
+            let Some(cell) = cell_at(cells, at as usize - 1) else {
+                return true;
+            };
+            at = cell.next;
+        }
+        true
     }
 }
 
-/// Puts a cell in front of the chain of its key's seat, where those before it are linked.
+/// Puts a cell in front of the chain of its key's seat, where those before it are linked, if it isn't to
+/// be in no chain.
 pub fn link(seats: &mut Seats, cells: &mut Vec<Cell>, place: usize)
     requires within { place < length cells.old.items }
     requires few { length cells.old.items < 4294967296 }
     ensures linked { AreLinked seats.old cells.old.items place → AreLinked seats.new cells.new.items (place + 1) }
     ensures keys { (other : ℕ) → key_in cells.new.items other ≡ key_in cells.old.items other }
+    ensures nears { (other : ℕ) → near_in cells.new.items other ≡ near_in cells.old.items other }
     ensures slots { (other : ℕ) → slot_in cells.new.items other ≡ slot_in cells.old.items other }
-    ensures left { seats.new.left ≡ seats.old.left }
     ensures length { length cells.new.items ≡ length cells.old.items }
 {
     let cell = &mut cells[place];
+    if cell.far {
+        return;
+    }
     cell.next = seats.head(&cell.key).unwrap_or(0);
     seats.set_head(&cell.key, place as u32 + 1);
 }
@@ -102,6 +114,7 @@ fn link_all(seats: &mut Seats, cells: &mut Vec<Cell>)
     requires none { AreLinked seats.old cells.old.items 0 }
     ensures linked { AreLinked seats.new cells.new.items (length cells.new.items) }
     ensures keys { (other : ℕ) → key_in cells.new.items other ≡ key_in cells.old.items other }
+    ensures nears { (other : ℕ) → near_in cells.new.items other ≡ near_in cells.old.items other }
     ensures slots { (other : ℕ) → slot_in cells.new.items other ≡ slot_in cells.old.items other }
     ensures length { length cells.new.items ≡ length cells.old.items }
 {
@@ -112,7 +125,8 @@ fn link_all(seats: &mut Seats, cells: &mut Vec<Cell>)
     }
 }
 
-/// Makes room for the seats of so many keys, and links all cells anew where that is due.
+// With twice the seats each seat's keys are two seats' keys, so no chain becomes longer.
+/// Makes room for the seats of so many keys: twice the seats, where there would be fewer than keys.
 pub fn make_room(
     alloc: Global,
     seats: &mut Seats,
@@ -123,11 +137,12 @@ pub fn make_room(
     requires kept { IsKept seats.old cells.old.items }
     ensures kept { IsKept seats.new cells.new.items }
     ensures keys { (other : ℕ) → key_in cells.new.items other ≡ key_in cells.old.items other }
+    ensures nears { (other : ℕ) → near_in cells.new.items other ≡ near_in cells.old.items other }
     ensures slots { (other : ℕ) → slot_in cells.new.items other ≡ slot_in cells.old.items other }
     ensures length { length cells.new.items ≡ length cells.old.items }
 {
-    if seats.is_worn(keys) {
-        *seats = Seats::wide(alloc, keys)?;
+    if seats.size < keys {
+        *seats = Seats::wide(alloc, seats.size.saturating_mul(2).max(FEWEST))?;
         link_all(seats, cells);
     }
     Ok(())

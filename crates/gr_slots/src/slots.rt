@@ -167,7 +167,7 @@ impl Slots {
         ensures gone { self.new ≡ record { entries = without key.now self.old.entries; room = None } }
     {
         self.room = None;
-        let Some((_, slot)) = leave_either(&mut self.cells, &mut self.late, key) else {
+        let Some(slot) = leave_either(&mut self.cells, &mut self.late, key) else {
             return false;
         };
         self.count = counted(self.count, removed_at(Some(&slot)).is_some(), false);

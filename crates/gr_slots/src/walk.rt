@@ -1,12 +1,11 @@
 ghost use Rattle.gr_slots.specs.Links.{Tells};
 
 use crate::cell::{Cell, cell_at};
-use crate::seats::Seats;
+use crate::seats::{MOST_CELLS, Seats};
 use gr_value::Key;
 
-/// How many cells of a chain are looked at. So keys that were chosen to have one seat cost a few steps
-/// more than a search.
-const MOST_STEPS: u8 = 8;
+/// How many links of a chain are looked at: those to all its cells, and that to its end.
+const MOST_STEPS: u8 = MOST_CELLS + 1;
 
 /// How a walk along a chain went: it met the key's cell, or came to the chain's end, or was given up.
 #[derive(Clone, Copy)]

@@ -1,5 +1,5 @@
-use Rattle.std.proofs.Common.{◌∙◌, ap, sym, subst, option_map}
-use Rattle.gr_slots.specs.Late.{Row, with_late, IsApart}
+use Rattle.std.proofs.Common.{◌∙◌, ap, sym, subst}
+use Rattle.gr_slots.specs.Late.{with_late, IsApart}
 use Rattle.gr_slots.proofs.Waiting.{either, late_slot, still_late, found_late, leave_found, leave_taken, apart_left, apart_taken}
 use Rattle.gr_slots.proofs.Listed.{drop_listed}
 use Rattle.gr_slots.proofs.late.leave_either.Goals as goal
@@ -12,7 +12,7 @@ returns-in-Some-clause-slot c =
 pub returns-in-Some-clause-gone : goal.returns-in-Some-clause-gone
 returns-in-Some-clause-gone c =
     ap (with_late c.args.late.now) c.leave.ensures.gone
-    ∙ leave_found c.args.key.now c.args.late.now c.args.cells.now c.in-Some.row.1 c.requires.ordered c.requires.apart
+    ∙ leave_found c.args.key.now c.args.late.now c.args.cells.now c.in-Some.slot c.requires.ordered c.requires.apart
     c.in-Some.ensures.slot
 
 pub returns-in-Some-clause-apart : goal.returns-in-Some-clause-apart
@@ -26,7 +26,7 @@ returns-in-Some-clause-indexed c unlisted removals are =
 
 pub returns-in-None-clause-slot : goal.returns-in-None-clause-slot
 returns-in-None-clause-slot c =
-    ap (option_map (λ (row : Row). row.1)) c.take_late.ensures.taken
+    c.take_late.ensures.taken
     ∙ sym (found_late c.args.key.now c.args.late.now c.args.cells.now c.requires.apart
     ∙ ap (λ found. either found (late_slot c.args.key.now c.args.late.now)) (sym c.in-None.ensures.slot))
 

@@ -1,16 +1,10 @@
-use Rattle.std.proofs.Common.{◌∙◌, ap, sym, map, ℕ, List, ◌++◌, ◌∷◌, []}
-use Rattle.std.specs.Map.Iter.{deref_pair}
-use Rattle.std.proofs.lemmas.List.{map-append}
-use Rattle.std.proofs.lemmas.List.Elements.{filter_map-append}
-use Rattle.gr_slots.specs.Cells.{row_in, rows_in}
+use Rattle.std.proofs.Common.{rules}
+use Rattle.std.proofs.lemmas.List.Sorted.{answers_always}
+use Rattle.gr_slots.proofs.Rows.{Lent, in_rows}
 use Rattle.gr_slots.proofs.places.rows_in.Goals as goal
 
-pub loop-key-preserved : goal.loop-key-preserved
-loop-key-preserved c =
-    let cells = c.args.cells.now in
-    let before = map deref_pair c.loop-key.yielded in
-    let entry : List ℕ × ℕ = (c.in-Some.key.now, c.in-Some.place.now) in
-    c.in_ok-push_row.ensures
-    ∙ ap (λ rows. rows ++ rows_in cells (entry ∷ [])) c.loop-key.invariant
-    ∙ sym (filter_map-append (row_in cells) before (entry ∷ []))
-    ∙ ap (rows_in cells) (sym (map-append deref_pair c.loop-key.yielded ((c.in-Some.key, c.in-Some.place) ∷ [])))
+pub returns : goal.returns
+returns c =
+    in_rows c.args.cells.now c.in_ok-rows.rows.items c.sort_unstable_by_key.new.self.items c.requires c.in_ok-rows.ensures
+    c.sort_unstable_by_key.ensures.permutation
+    (c.sort_unstable_by_key.ensures.sorted (λ (row : Lent). row.0) (answers_always _ _ _ (λ f a r g h. search rules)))
