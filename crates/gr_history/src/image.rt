@@ -1,6 +1,7 @@
 ghost use Rattle.std.specs.Prelude.{◌≡◌};
 
-use gr_stamp::ChangeList;
+use crate::SharedList;
+use gr_stamp::{Change, ChangeList};
 use gr_value::{Copied, Memory};
 use gr_vector::Vector;
 use std::alloc::Global;
@@ -13,7 +14,7 @@ pub struct Image {
     /// How many deeds its history had.
     pub at: u64,
     /// What stands, removals too, in the order of the keys.
-    pub rows: ChangeList,
+    pub rows: SharedList<Change>,
     pub vector: Vector,
     pub floor: u64,
 }

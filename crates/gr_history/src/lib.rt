@@ -14,6 +14,7 @@ mod query_rows;
 mod record;
 mod reply;
 mod rows;
+mod shared_list;
 mod verdict;
 
 pub use ask::Ask;
@@ -37,4 +38,5 @@ pub use rows::{
     a_joiner_counts_once_it_is_given_to, a_joiner_waits_for_its_image, a_late_put_is_discarded,
     a_put_passes_an_expired_tombstone,
 };
+pub use shared_list::SharedList;
 pub use verdict::Verdict;

@@ -1,4 +1,5 @@
-use gr_oql::EventList;
+use crate::SharedList;
+use gr_oql::Event;
 use gr_value::{Copied, ItemList, Key, Memory, Value};
 use std::alloc::Global;
 
@@ -24,11 +25,11 @@ impl Copied for Row {
 #[derive(Drop)]
 pub enum QueryReply {
     /// It runs from now on. The rows are those of its result, in the order of their keys.
-    Opened(RowList),
+    Opened(SharedList<Row>),
     Stopped,
     Closed,
     /// The events that waited.
-    Fetched(EventList),
+    Fetched(SharedList<Event>),
     /// The client has no query of that name.
     Unknown,
     /// It has one already.

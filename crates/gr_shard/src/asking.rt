@@ -12,7 +12,7 @@ use crate::committing::carry_out;
 use crate::effect::QueriesAfter;
 use crate::opening::rows_of;
 use gr_cq::{Coming, QueryEnd, Registry};
-use gr_history::{QueryAsk, QueryReply};
+use gr_history::{QueryAsk, QueryReply, SharedList};
 use gr_oql::Query;
 use gr_slots::Slots;
 use gr_value::{Copied, Key, Memory};
@@ -100,7 +100,7 @@ fn enrol(
     match queries.foresee(alloc, &coming) {
         Err(end) => refused(end),
         Ok(foreseen) => {
-            let rows = rows_of(alloc, query, slots)?;
+            let rows = SharedList::new(alloc, rows_of(alloc, query, slots)?)?;
             let noted = QueryReply::Opened(rows.copy(alloc)?);
             Ok(Foretold {
                 replies: Replies {
@@ -189,7 +189,7 @@ fn fetch(alloc: Global, queries: &mut Registry, client: u8, name: &Key) -> Resul
     match queries.foresee(alloc, &Coming::Take { client, name }) {
         Err(end) => refused(end),
         Ok(foreseen) => {
-            let events = queries.waiting(alloc, client, name)?;
+            let events = SharedList::new(alloc, queries.waiting(alloc, client, name)?)?;
             let noted = QueryReply::Fetched(events.copy(alloc)?);
             Ok(Foretold {
                 replies: Replies {

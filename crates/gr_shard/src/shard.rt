@@ -40,7 +40,8 @@ use crate::sweeping::{drop_all, looked_after, risen};
 use crate::telling::{come_in, take_over};
 use gr_cq::Registry;
 use gr_history::{
-    Deed, Gift, History, Identity, Image, QueryAsk, QueryReply, ShardRecord, Verdict, What,
+    Deed, Gift, History, Identity, Image, QueryAsk, QueryReply, ShardRecord, SharedList, Verdict,
+    What,
 };
 use gr_slots::{Slot, Slots};
 use gr_stable::Heard;
@@ -373,7 +374,7 @@ impl Shard {
         Ok(Image {
             from: self.id.member,
             at: self.history.len(),
-            rows: standing(alloc, &self.slots)?,
+            rows: SharedList::new(alloc, standing(alloc, &self.slots)?)?,
             vector: self.vector.copy(alloc)?,
             floor: self.floor,
         })
