@@ -6,7 +6,7 @@ use std::alloc::Global;
 use std::marker::Model;
 
 // Events that are handed out are copies, which share their keys and values with those that waited. So they
-// cost what is handed out, and the list that waited keeps its room.
+// cost what is handed out, and their list has no more room than they take.
 /// Events that wait to be fetched. Contracts see them beside the number of further ones that there is
 /// room for.
 #[derive(Drop)]
@@ -50,20 +50,22 @@ impl Waiting {
         let _ = self.events.append(more);
     }
 
+    /// Drops all events, with their room.
     pub fn clear(&mut self)
         ensures { self.new.events ≡ [] }
     {
         self.events.clear();
+        self.events.shrink_to_fit();
     }
 
     /// Copies of all events, in order.
     pub fn copies(&self, alloc: Global) -> Result<EventList, Memory>
         ensures { IfOk result (λ copies. copies ≡ self.now.events) }
     {
-        let mut copies = EventList::new(alloc)?;
+        let mut copies = Vec::with_capacity(alloc, self.events.len())?;
         for event in &self.events {
             copies.push(event.copy(alloc)?)?;
         }
-        Ok(copies)
+        Ok(EventList::from_vec(copies))
     }
 }

@@ -2,4 +2,4 @@ use Rattle.std.proofs.Common.{◌≡◌, take}
 use Rattle.gr_cq.proofs.waiting.Waiting.copies.Given as goal
 
 abbrev pub invariant-loop-event : goal.invariant-loop-event
-invariant-loop-event l = l.copies ≡ take l.event-index l.self.events
+invariant-loop-event l = l.copies.items ≡ take l.event-index l.self.events
