@@ -13,7 +13,7 @@ returns-clause-image c =
     rw (← c.self.view_is) record {
       giver_is = refl;
       at_is = c.len.ensures ∙ sym (length-reverse was.history.deeds);
-      rows_are = c.in_ok-standing.ensures.changes
+      rows_are = c.in_ok-new.ensures ∙ c.in_ok-standing.ensures.changes
           ∙ changes_in-kept was.id was.opening
           (kept was.slots.entries was.vector.ids was.floor was.clock was.joined was.to was.heard was.queries.entries)
           (reverse was.history.deeds)
@@ -30,14 +30,14 @@ returns-clause-fits c =
     let image : ImageOf = record {
       from = was.id.member;
       at = c.len.result;
-      rows = c.in_ok-standing.field-0;
+      rows = c.in_ok-new.field-0;
       vector = c.in_ok-copy.field-0;
       floor = was.floor;
     } in
     let is : IsImageOf was.id.member was.opening past image = record {
       giver_is = refl;
       at_is = c.len.ensures ∙ sym (length-reverse was.history.deeds);
-      rows_are = c.in_ok-standing.ensures.changes
+      rows_are = c.in_ok-new.ensures ∙ c.in_ok-standing.ensures.changes
           ∙ changes_in-kept was.id was.opening now past c.self.invariant.0 c.in_ok-standing.ensures.ordered;
       vector_is = ap (λ v. v.ids) c.in_ok-copy.ensures ∙ c.self.invariant.0.noted;
       floor_is = c.self.invariant.0.floored;
