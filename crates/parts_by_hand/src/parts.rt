@@ -5,7 +5,7 @@ use crate::making::{named, one_key};
 use crate::seen::{Beside, Seen};
 use crate::stop::Stop;
 use gr_cq::{Coming, Foreseen, QueryEnd, Registry, Turned};
-use gr_history::{History, Image};
+use gr_history::{History, Image, SharedList};
 use gr_slots::{Slot, Slots};
 use gr_stable::Heard;
 use gr_stamp::{Change, ChangeList, Kind, Stamp};
@@ -229,7 +229,7 @@ impl Parts {
         Ok(Image {
             from: self.me,
             at: self.history.len(),
-            rows: ChangeList::new(alloc)?,
+            rows: SharedList::new(alloc, ChangeList::new(alloc)?)?,
             vector: self.vector.copy(alloc)?,
             floor: self.floor,
         })
