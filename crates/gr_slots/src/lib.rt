@@ -5,7 +5,6 @@ mod cell;
 mod cells;
 mod late;
 mod merging;
-mod packing;
 mod places;
 mod removals;
 mod seats;

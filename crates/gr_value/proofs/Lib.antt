@@ -2,7 +2,6 @@ mod Alike
 mod Decimals
 mod FieldsRead
 mod FieldsTaken
-mod Folding
 mod Kept
 mod Lexing
 mod Looking
@@ -18,4 +17,3 @@ mod Utf8
 mod ValueRead
 pub mod KeyFronts
 pub mod Keys
-pub mod Moved
