@@ -6,6 +6,7 @@ pub mod Listed
 pub mod Lists
 pub mod Merged
 pub mod Ordered
+pub mod Packed
 pub mod Rows
 pub mod Sifted
 pub mod Tied

@@ -12,10 +12,9 @@ use Rattle.std.specs.List.Sorted.{IsPermutation, IsSortedBy, IsStrictlySortedBy}
 use Rattle.std.specs.Map.{keys_of}
 use Rattle.std.specs.Map.Iter.{deref_pair}
 use Rattle.std.specs.BTreeMap.{is_at}
-use Rattle.std.proofs.lemmas.List.Sorted.{Contains-permutation, IsPermutation-map, IsPermutation-sym}
-use Rattle.std.proofs.lemmas.Map.Keys.{IsDistinct-IsPermutation}
+use Rattle.std.proofs.lemmas.List.Sorted.{IsPermutation-map}
 use Rattle.std.proofs.lemmas.Map.Lookups.{exact_bytes}
-use Rattle.std.proofs.lemmas.Map.Views.{Contains-from_lookup, lookup-from_Contains}
+use Rattle.gr_value.proofs.Moved.{moved_distinct, moved_found}
 use Rattle.gr_slots.specs.declared.slot.Slot.{Slot}
 use Rattle.gr_slots.specs.declared.cell.Cell.{Cell}
 use Rattle.gr_slots.specs.Slots.{Entries, slot_at, with_slot}
@@ -91,26 +90,6 @@ rows_found q (cell ∷ cells) = at_live cell.live (rows_found q cells)
         ∙ sym (at-with_slot q cell.key cell.slot (rows_in cells))
     at_live false rest = rest
 
-still_found : (xs ys : Entries) → IsPermutation xs ys → IsDistinct is_key (keys_of ys) → (q : List ℕ) (slot : Slot)
-    → slot_at q xs ≡ Some slot → slot_at q ys ≡ Some slot
-still_found xs ys moved distinct q slot is =
-    lookup-from_Contains (eq_by_cmp_equiv key_order) q slot ys distinct
-    (Contains-permutation xs ys (q, slot) moved (Contains-from_lookup one_key q slot xs is))
-
-moved_distinct : (xs ys : Entries) → IsPermutation xs ys → IsDistinct is_key (keys_of xs) → IsDistinct is_key (keys_of ys)
-moved_distinct xs ys moved distinct =
-    IsDistinct-IsPermutation is_key (eq_by_cmp_equiv key_order).symm (keys_of xs) (keys_of ys)
-    (IsPermutation-map (λ entry. entry.0) xs ys moved) distinct
-
-moved_found : (xs ys : Entries) → IsPermutation xs ys → IsDistinct is_key (keys_of xs) → (q : List ℕ) → slot_at q ys ≡ slot_at q xs
-moved_found xs ys moved distinct q = at_found (slot_at q ys) refl (slot_at q xs) refl
-  where
-    at_found : (o : Option Slot) → slot_at q ys ≡ o → (u : Option Slot) → slot_at q xs ≡ u → o ≡ u
-    at_found (Some slot) is u was =
-        sym (still_found ys xs (IsPermutation-sym xs ys moved) distinct q slot is) ∙ was
-    at_found None is (Some slot) was = sym is ∙ still_found xs ys moved (moved_distinct xs ys moved distinct) q slot was
-    at_found None is None was = refl
-
 -- ---- the rows in order
 
 abbrev pub Lent : Type 0
@@ -154,8 +133,8 @@ pub in_rows : (cells : List Cell) (before rows : List Lent) → AreApart cells �
     → IsPermutation before rows → IsSortedBy is_before rows → map deref_pair rows ≡ rows_in cells
 in_rows cells before rows apart is moved sorted =
     one_order (slice_cmp nat_cmp) key_order exact_bytes _ _
-    (strictly rows sorted (moved_distinct (rows_of cells) (map deref_pair rows) kept distinct)) (rows_ordered cells)
-    (λ q. moved_found (rows_of cells) (map deref_pair rows) kept distinct q ∙ rows_found q cells)
+    (strictly rows sorted (moved_distinct is_key (eq_by_cmp_equiv key_order) one_key (rows_of cells) (map deref_pair rows) kept distinct)) (rows_ordered cells)
+    (λ q. moved_found is_key (eq_by_cmp_equiv key_order) one_key (rows_of cells) (map deref_pair rows) kept distinct q ∙ rows_found q cells)
   where
     kept : IsPermutation (rows_of cells) (map deref_pair rows)
     kept = subst (λ first. IsPermutation first (map deref_pair rows)) is (IsPermutation-map deref_pair before rows moved)

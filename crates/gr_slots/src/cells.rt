@@ -10,6 +10,7 @@ ghost use Rattle.gr_slots.specs.Slots.{removed_at, slot_at, with_slot, without};
 
 use crate::Slot;
 use crate::cell::Cell;
+use crate::packing::pack;
 use crate::places::{enter, place_of, put_in, rows_in, slot_in, take_in};
 use crate::seats::{Seats, link, make_room};
 use gr_value::{Key, Memory};
@@ -18,7 +19,7 @@ use std::collections::BTreeMap;
 use std::marker::Model;
 
 // A key keeps its cell once nothing stands there any more, so no place moves and a chain's end tells that
-// no chain has the key. A chain has a few cells at most: a key that has no room in its own is in no chain,
+// no chain has the key. Where such cells may be more than half, they are let go of. A chain has a few cells at most: a key that has no room in its own is in no chain,
 // and an ordered map has its place, so that keys which were chosen to have one seat are found by a search.
 // A place beyond 32 bits is refused as memory is. std's map can't promise room for keys that aren't named
 // yet, so a key is entered only where memory may be refused. Rows are put in order when they are asked for.
@@ -28,6 +29,8 @@ pub struct Cells {
     far: BTreeMap<Key, usize>,
     cells: Vec<Cell>,
     seats: Seats,
+    /// How often something was taken away since cells were let go of. Nothing rests on it but time.
+    left: usize,
 }
 
 impl Model for Cells {
@@ -77,6 +80,7 @@ impl Cells {
             far: BTreeMap::new(alloc),
             cells: Vec::new(alloc),
             seats: Seats::new(alloc),
+            left: 0,
         }
     }
 
@@ -135,8 +139,30 @@ impl Cells {
         }
     }
 
+    // Lets go of cells at which nothing stands, where they may be more than half of all.
+    fn pack(&mut self)
+        ensures { self.new ≡ self.old }
+    {
+        if self.left > self.cells.len() / 2 {
+            pack(&self.far, &mut self.cells, &mut self.seats);
+            self.left = 0;
+        }
+    }
+
     /// Takes away what stands at the key.
     pub fn leave(&mut self, key: &Key) -> Option<Slot>
+        ensures slot { result ≡ slot_at key.now self.old }
+        ensures gone { self.new ≡ without key.now self.old }
+        ensures ordered { IsStrictlySortedBy (slice_cmp nat_cmp) (keys_of self.new) }
+    {
+        let left = self.take(key);
+        self.left = self.left.saturating_add(1);
+        self.pack();
+        left
+    }
+
+    // The same, by which the key keeps its cell.
+    fn take(&mut self, key: &Key) -> Option<Slot>
         ensures slot { result ≡ slot_at key.now self.old }
         ensures gone { self.new ≡ without key.now self.old }
         ensures ordered { IsStrictlySortedBy (slice_cmp nat_cmp) (keys_of self.new) }

@@ -5,6 +5,7 @@ mod cell;
 mod cells;
 mod late;
 mod merging;
+mod packing;
 mod places;
 mod removals;
 mod seats;

@@ -42,6 +42,13 @@ impl Seats {
         })
     }
 
+    /// Leaves all seats without chains.
+    pub fn clear(&mut self)
+        ensures { (cells : List Cell) → AreLinked self.new cells 0 }
+    {
+        self.heads.fill(0);
+    }
+
     // Which seat a key has.
     #[inline(always)]
     fn seat(&self, key: &Key) -> usize
@@ -108,8 +115,8 @@ pub fn link(seats: &mut Seats, cells: &mut Vec<Cell>, place: usize)
     seats.set_head(&cell.key, place as u32 + 1);
 }
 
-// Links all cells, where none is linked yet.
-fn link_all(seats: &mut Seats, cells: &mut Vec<Cell>)
+/// Links all cells, where none is linked yet.
+pub fn link_all(seats: &mut Seats, cells: &mut Vec<Cell>)
     requires few { length cells.old.items < 4294967296 }
     requires none { AreLinked seats.old cells.old.items 0 }
     ensures linked { AreLinked seats.new cells.new.items (length cells.new.items) }

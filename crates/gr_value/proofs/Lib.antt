@@ -2,6 +2,7 @@ mod Alike
 mod Decimals
 mod FieldsRead
 mod FieldsTaken
+mod Folding
 mod Kept
 mod Lexing
 mod Looking
@@ -17,3 +18,4 @@ mod Utf8
 mod ValueRead
 pub mod KeyFronts
 pub mod Keys
+pub mod Moved

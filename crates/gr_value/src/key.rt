@@ -138,7 +138,7 @@ impl Key {
         cmp_by_eights(self.bytes(), other.bytes())
     }
 
-    /// A number that differs for most keys, drawn from the first and the last bytes.
+    /// A number that differs for most keys, drawn from all its bytes.
     #[inline(always)]
     pub fn hash(&self) -> u32
         ensures { result ≡ hash_of self.now }

@@ -8,7 +8,7 @@ use Rattle.gr_slots.specs.Slots.{slot_at, without}
 use Rattle.gr_slots.proofs.Found.{without-none}
 use Rattle.gr_slots.proofs.Links.{kept_on}
 use Rattle.gr_slots.proofs.Tied.{found, left_rows, rows_ordered, within}
-use Rattle.gr_slots.proofs.cells.Cells.leave.Goals as goal
+use Rattle.gr_slots.proofs.cells.Cells.take.Goals as goal
 
 -- the key's cell
 here : (c : goal.After-take_in) → key_in c.self.inside.cells.items c.in-Some.place ≡ Some c.args.key.now
