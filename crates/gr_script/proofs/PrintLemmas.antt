@@ -125,17 +125,19 @@ unfolding line_text
 lines_are [] = refl
 lines_are (line ∷ lines) = ap (λ (t : List ℕ). (saying_text (saying_in line) ++ 0x0A ∷ []) ++ t) (lines_are lines)
 
-pub whole_printed : (h : Heading) (clients : List ℕ) (lines others : List Line) (start stated named whole : List ℕ)
-    → start ≡ [] → clients ≡ h.clients → others ≡ lines → stated ≡ start ++ text_of_sayings (stated_sayings h)
-    → named ≡ stated ++ text_of_sayings (client_sayings 1 clients) → whole ≡ named ++ flat_map line_text others
-    → whole ≡ script_text h lines
-whole_printed h clients lines others start stated named whole none same_clients same_lines e1 e2 e3 =
-    let front : stated ≡ text_of_sayings (stated_sayings h) = e1 ∙ ap (λ (t : List ℕ). t ++ text_of_sayings (stated_sayings h)) none in
-    let heading : named ≡ text_of_sayings (heading_sayings h) =
-    e2 ∙ ap (λ (ms : List ℕ). stated ++ text_of_sayings (client_sayings 1 ms)) same_clients
-    ∙ ap (λ (t : List ℕ). t ++ text_of_sayings (client_sayings 1 h.clients)) front
-    ∙ sym (sayings_joined (stated_sayings h) (client_sayings 1 h.clients))
-    in
-    e3 ∙ ap (λ (ls : List Line). named ++ flat_map line_text ls) same_lines ∙ ap (λ (t : List ℕ). t ++ flat_map line_text lines) heading
+pub heading_printed : (h : Heading) (clients start stated named : List ℕ) → clients ≡ h.clients
+    → stated ≡ start ++ text_of_sayings (stated_sayings h) → named ≡ stated ++ text_of_sayings (client_sayings 1 clients)
+    → named ≡ start ++ text_of_sayings (heading_sayings h)
+heading_printed h clients start stated named same e1 e2 =
+    e2 ∙ ap (λ (ms : List ℕ). stated ++ text_of_sayings (client_sayings 1 ms)) same
+    ∙ ap (λ (t : List ℕ). t ++ text_of_sayings (client_sayings 1 h.clients)) e1
+    ∙ append_assoc start (text_of_sayings (stated_sayings h)) (text_of_sayings (client_sayings 1 h.clients))
+    ∙ ap (λ (t : List ℕ). start ++ t) (sym (sayings_joined (stated_sayings h) (client_sayings 1 h.clients)))
+
+pub whole_printed : (h : Heading) (lines others : List Line) (start named whole : List ℕ) → start ≡ [] → others ≡ lines
+    → named ≡ start ++ text_of_sayings (heading_sayings h) → whole ≡ named ++ flat_map line_text others → whole ≡ script_text h lines
+whole_printed h lines others start named whole none same e1 e2 =
+    e2 ∙ ap (λ (ls : List Line). named ++ flat_map line_text ls) same
+    ∙ ap (λ (t : List ℕ). t ++ flat_map line_text lines) (e1 ∙ ap (λ (t : List ℕ). t ++ text_of_sayings (heading_sayings h)) none)
     ∙ ap (λ (t : List ℕ). text_of_sayings (heading_sayings h) ++ t) (lines_are lines)
     ∙ sym (sayings_joined (heading_sayings h) (map saying_in lines))

@@ -22,6 +22,7 @@ pub mod Printing
 pub mod ReadBack
 pub mod Reasons
 pub mod Refusals
+pub mod Reprinted
 pub mod Rests
 pub mod Rules
 pub mod Said

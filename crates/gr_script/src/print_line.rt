@@ -258,9 +258,9 @@ fn put_unended(alloc: Global, line: &Line, out: &mut Vec<u8>) -> Result<(), Memo
     Ok(())
 }
 
-// A line with its line feed.
+/// A line with its line feed.
 #[tactic(auto, unfolding(crate::specs::Printed::line_text))]
-fn put_line(alloc: Global, line: &Line, out: &mut Vec<u8>) -> Result<(), Memory>
+pub(crate) fn put_line(alloc: Global, line: &Line, out: &mut Vec<u8>) -> Result<(), Memory>
     ensures printed { OnOk result (out.new.items ≡ out.old.items ++ line_text line.now) }
     ensures kept { OnOk result (IsLineKept line.now) }
 {

@@ -3,7 +3,7 @@ ghost use Rattle.std.specs.Fmt.{decimal};
 ghost use Rattle.gr_script.specs.declared.line.Line.{Line as ALine};
 ghost use Rattle.gr_script.specs.Cuts.{line_count};
 ghost use Rattle.gr_script.specs.Forms.{word};
-ghost use Rattle.gr_script.specs.Printed.{stated_sayings, client_sayings, script_text, IsLineKept};
+ghost use Rattle.gr_script.specs.Printed.{stated_sayings, client_sayings, heading_sayings, script_text, IsLineKept};
 ghost use Rattle.gr_script.specs.Printing.{text_of_sayings};
 ghost use Rattle.gr_script.specs.Rules.{Heading as AHeading, IsScript};
 ghost use Rattle.gr_script.specs.Said.{script_of};
@@ -87,7 +87,16 @@ pub fn scripts_read_back()
         → line_count (script_text h lines) ≤ most_lines → script_of false (script_text h lines) ≡ Ok (h, lines) }
 {}
 
-/// The script's text: all seven lines of its heading, the lines of its clients, and the others.
+/// All seven lines of a script's heading, and the lines of its clients.
+pub(crate) fn put_heading(script: &Script, out: &mut Vec<u8>) -> Result<(), Memory>
+    ensures { OnOk result (out.new.items ≡ out.old.items ++ text_of_sayings (heading_sayings (heading_of script.now))) }
+{
+    put_stated(script, out)?;
+    put_clients(script.clients.as_slice(), out)?;
+    Ok(())
+}
+
+/// The script's text: its heading, and the other lines.
 pub fn print(alloc: Global, script: &Script) -> Result<Vec<u8>, Memory>
     ensures text { IfOk result (λ text. text.items ≡ script_text (heading_of script.now) script.now.lines) }
     // In the form of replay it is read as this script, if it has no more lines than a script may have.
@@ -95,8 +104,7 @@ pub fn print(alloc: Global, script: &Script) -> Result<Vec<u8>, Memory>
         → script_of false text.items ≡ Ok (heading_of script.now, script.now.lines)) }
 {
     let mut out = Vec::new(alloc);
-    put_stated(script, &mut out)?;
-    put_clients(script.clients.as_slice(), &mut out)?;
+    put_heading(script, &mut out)?;
     put_lines(alloc, script.lines.as_slice(), &mut out)?;
     Ok(out)
 }

@@ -1,6 +1,6 @@
 ghost use Rattle.std.specs.Prelude.{◌≡◌, map, string_bytes, None, MatchResult};
 ghost use Rattle.gr_top.specs.Causes.{status_of};
-ghost use Rattle.gr_top.specs.Outcomes.{Answers, Explains, Leaves, Stops};
+ghost use Rattle.gr_top.specs.Outcomes.{Answers, Explains, IsPrinted, Leaves, Stops};
 ghost use Rattle.gr_top.specs.Words.{asked_alone, mode_of};
 ghost use Rattle.gr_top.specs.declared.words.Detail.{Detail as TheDetail};
 ghost use Rattle.gr_top.specs.declared.words.Mode.TheVariants as mode;
@@ -8,29 +8,38 @@ ghost use Rattle.gr_top.specs.declared.words.Request.TheVariants as request;
 ghost use Rattle.gr_io.specs.Streams.{stream};
 
 use crate::asking::answer_at;
-use crate::giving::{cause_of, script_from, text_from};
+use crate::giving::{cause_of, text_from};
 use crate::handing::{Played, ended, hand_out, report_outcome};
 use crate::words::{Detail, Mode, mode_of};
 use crate::{Cause, Outcome};
 use gr_depart::play_text;
 use gr_io::{Sink, Source};
-use gr_script::{Form, print};
-use gr_value::Memory;
+use gr_script::reprint;
 use std::alloc::Global;
 
-// Prints the script that the source has.
+// The text of the script that the source has.
+fn printed<S: Source>(alloc: Global, source: &mut S) -> Result<Vec<u8>, Cause>
+    ensures { MatchResult result
+        (λ text. IsPrinted (stream (S.left source.old) (S.left source.new) (S.faults source.old) (S.faults source.new)) text.items)
+        (Stops (request.Alone mode.Check) (stream (S.left source.old) (S.left source.new) (S.faults source.old) (S.faults source.new))) }
+{
+    let text = text_from(alloc, source)?;
+    let bytes = text.as_slice();
+    match reprint(alloc, bytes) {
+        Ok(out) => Ok(out),
+        Err(end) => Err(cause_of(end, bytes)),
+    }
+}
+
+// Hands out the text of the script that the source has.
 fn check<S: Source, K: Sink>(alloc: Global, source: &mut S, sink: &mut K) -> Cause
     ensures { Explains (request.Alone mode.Check)
         (stream (S.left source.old) (S.left source.new) (S.faults source.old) (S.faults source.new))
         (stream (K.held sink.old) (K.held sink.new) (K.faults sink.old) (K.faults sink.new)) None result }
 {
-    let script = match script_from(alloc, source, Form::Replay) {
-        Ok(script) => script,
-        Err(cause) => return cause,
-    };
-    match print(alloc, &script) {
+    match printed(alloc, source) {
         Ok(text) => hand_out(sink, text.as_slice()),
-        Err(Memory) => Cause::Memory,
+        Err(cause) => cause,
     }
 }
 

@@ -4,7 +4,9 @@ use Rattle.gr_script.specs.declared.line.Line.{Line}
 use Rattle.gr_script.specs.Scripts.{heading_of}
 use Rattle.gr_script.specs.Taken.{ahead}
 use Rattle.gr_durable.specs.Expanding.{lines_in}
-use Rattle.gr_depart.proofs.WhileRead.{IsPlaying, ends, fewer_left, goes_on, left, out_of_memory, playable, still_ends, takable}
+use Rattle.gr_script.proofs.WhileRead.{fewer_left, left, out_of_memory, still_ends}
+use Rattle.gr_world.specs.Played.{IsPlayed}
+use Rattle.gr_depart.proofs.WhileRead.{IsPlaying, ends, goes_on, playable, takable}
 use Rattle.gr_depart.proofs.playing.play_text.Goals as goal
 
 pub take-requires : goal.take-requires
@@ -65,17 +67,18 @@ returns c =
 pub returns-in_err-next-2 : goal.returns-in_err-next-2
 returns-in_err-next-2 c =
     let passed = err_from_is_err_and c.from_residual-in_err-next-2.result c.from_residual-in_err-next-2.ensures.1 in
-    rw (passed.1, passed.2) (still_ends c.args.text.now (heading_of c.in_ok-bare.bare) c.loop-next.feed _ c.loop-next.departing
-    c.loop-next.expander c.loop-next.invariant _ c.in_err-next-2.ensures)
+    let is = c.loop-next.invariant in
+    rw (passed.1, passed.2) (still_ends c.args.text.now (heading_of c.in_ok-bare.bare) c.loop-next.feed _ is.played is.reading _
+    c.in_err-next-2.ensures)
 
 pub returns-in_err-expander : goal.returns-in_err-expander
-returns-in_err-expander c = out_of_memory c.args.text.now c.from_residual-in_err-expander.result c.from_residual-in_err-expander.ensures.1
+returns-in_err-expander c = out_of_memory (IsPlayed c.args.text.now) c.args.text.now c.from_residual-in_err-expander.result c.from_residual-in_err-expander.ensures.1
 
 pub returns-in_err-turn : goal.returns-in_err-turn
-returns-in_err-turn c = out_of_memory c.args.text.now c.from_residual-in_err-turn.result c.from_residual-in_err-turn.ensures.1
+returns-in_err-turn c = out_of_memory (IsPlayed c.args.text.now) c.args.text.now c.from_residual-in_err-turn.result c.from_residual-in_err-turn.ensures.1
 
 pub returns-in_err-turn-2 : goal.returns-in_err-turn-2
-returns-in_err-turn-2 c = out_of_memory c.args.text.now c.from_residual-in_err-turn-2.result c.from_residual-in_err-turn-2.ensures.1
+returns-in_err-turn-2 c = out_of_memory (IsPlayed c.args.text.now) c.args.text.now c.from_residual-in_err-turn-2.result c.from_residual-in_err-turn-2.ensures.1
 
 pub returns-in_err-finish : goal.returns-in_err-finish
-returns-in_err-finish c = out_of_memory c.args.text.now c.from_residual-in_err-finish.result c.from_residual-in_err-finish.ensures.1
+returns-in_err-finish c = out_of_memory (IsPlayed c.args.text.now) c.args.text.now c.from_residual-in_err-finish.result c.from_residual-in_err-finish.ensures.1

@@ -1,7 +1,8 @@
 use Rattle.std.proofs.Common.{length}
 use Rattle.gr_script.specs.Scripts.{heading_of}
 use Rattle.gr_script.specs.Taken.{ahead}
-use Rattle.gr_depart.proofs.WhileRead.{IsPlaying, left}
+use Rattle.gr_script.proofs.WhileRead.{left}
+use Rattle.gr_depart.proofs.WhileRead.{IsPlaying}
 use Rattle.gr_depart.proofs.playing.play_text.Given as goal
 
 abbrev pub invariant-loop-next : goal.invariant-loop-next

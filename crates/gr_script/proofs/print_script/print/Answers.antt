@@ -13,10 +13,10 @@ returns c =
     let s = c.args.script.now in
     let text = c.put_lines.new.out.items in
     let whole : text ≡ script_text (heading_of s) s.lines =
-    whole_printed (heading_of s) _ s.lines _ _ _ _ _ c.new-out.ensures.items c.as_slice.ensures c.as_slice-2.ensures
-    c.in_ok-put_stated.ensures c.in_ok-put_clients.ensures c.in_ok-put_lines.ensures.printed in
-    let printed : All IsLineKept c.as_slice-2.result.now = c.in_ok-put_lines.ensures.kept in
-    let kept : All IsLineKept s.lines = subst (All IsLineKept) c.as_slice-2.ensures printed in
+    whole_printed (heading_of s) s.lines _ _ _ _ c.new-out.ensures.items c.as_slice.ensures c.in_ok-put_heading.ensures
+    c.in_ok-put_lines.ensures.printed in
+    let printed : All IsLineKept c.as_slice.result.now = c.in_ok-put_lines.ensures.kept in
+    let kept : All IsLineKept s.lines = subst (All IsLineKept) c.as_slice.ensures printed in
     record {
       text = whole;
       read =
