@@ -25,16 +25,17 @@ use std::alloc::Global;
 use std::sync::Wait;
 use std::thread::Threads;
 
-// What threads leave of a script once it is expanded.
+// What threads leave of a script once it is expanded. Its lines as they were written aren't kept meanwhile.
 fn run_expanded<R: Threads + Wait + Sync, G: Gate>(
     rt: &R,
     alloc: Global,
-    script: &Script,
+    script: Script,
     gate: &G,
 ) -> Result<Record, Memory>
-    ensures { IfOk result (IsRecordOfRun (heading_of script.now) (expansion script.now.lines)) }
+    ensures { IfOk result (IsRecordOfRun (heading_of script) (expansion script.lines)) }
 {
-    let expanded = expand(alloc, script)?;
+    let expanded = expand(alloc, &script)?;
+    drop(script);
     run(rt, alloc, &expanded, gate)
 }
 
@@ -53,7 +54,7 @@ fn run_record<R: Threads + Wait + Sync, S: Source, G: Gate>(
         Ok(script) => script,
         Err(cause) => return Err(cause),
     };
-    match run_expanded(rt, alloc, &script, gate) {
+    match run_expanded(rt, alloc, script, gate) {
         Ok(record_of) => Ok(Played {
             record_of,
             room: Vec::new(alloc),
