@@ -1,15 +1,14 @@
 -- Entries of an ordered map, read as a finite map.
-use Rattle.std.proofs.Common.{◌≡◌, ℕ, List, [], ◌∷◌, refl, sym, ap, ◌∙◌, cond, map, length, arith}
+use Rattle.std.proofs.Common.{◌≡◌, ℕ, List, [], ◌∷◌, Bool, true, false, refl, sym, ap, ◌∙◌, cond}
 use Rattle.std.specs.Prelude.{Option, Some, None}
 use Rattle.std.specs.Ordering.{nat_cmp, eq_by_cmp}
 use Rattle.std.specs.Cmp.{eq_by_cmp_equiv}
 use Rattle.std.specs.Cmp.Lexicographic.{slice_cmp}
-use Rattle.std.specs.List.Sorted.{IsStrictlySortedBy}
-use Rattle.std.specs.Map.{lookup, keys_of}
+use Rattle.std.specs.Map.{lookup}
 use Rattle.std.specs.BTreeMap.{is_at}
 use Rattle.std.specs.FinMap as finite
 use Rattle.std.proofs.lemmas.Cmp.{nat_list_cmp_total}
-use Rattle.gr_route.specs.Turning.{ByKey, with_value, names_in}
+use Rattle.gr_by_key.specs.Maps.{ByKey, with_value}
 
 module _ {V : Type 0} where
   found_there : (es : List (List ℕ × V)) (key : List ℕ) → finite.find (slice_cmp nat_cmp) key es ≡ lookup (is_at (slice_cmp nat_cmp key)) es
@@ -37,31 +36,16 @@ module _ {V : Type 0} where
       ∙ ap (cond (is_at (slice_cmp nat_cmp key) other) value) (sym (get_found old other))
       ∙ sym (get_with_value key value (finite.from_entries old) other))
 
--- ---- entries that stand in order are those of their finite map
+  shadowed : (b : Bool) (x y z : Option V) → cond b x (cond b y z) ≡ cond b x z
+  shadowed true x y z = refl
+  shadowed false x y z = refl
 
-no_items : {A : Type 0} → (xs : List A) → length xs ≡ 0 → xs ≡ []
-no_items [] e = refl
-no_items (x ∷ xs) e = absurd (omega (arith, e))
-
-module _ {V : Type 0} where
-  pub entries_empty : finite.entries (finite.empty {X = V} {R = slice_cmp nat_cmp}) ≡ []
-  entries_empty = no_items _ (sym (finite.len-entries (finite.empty {X = V} {R = slice_cmp nat_cmp})) ∙ finite.len-empty (slice_cmp nat_cmp) V)
-
-  put_first : (entry : List ℕ × V) (es : List (List ℕ × V)) → IsStrictlySortedBy (slice_cmp nat_cmp) (entry.0 ∷ keys_of es)
-      → finite.put (slice_cmp nat_cmp) entry.0 entry.1 es ≡ entry ∷ es
-  unfolding IsStrictlySortedBy
-  put_first entry [] sorted = refl
-  put_first entry (next ∷ es) sorted = rw (sorted.0.0) refl
-
-  pub entries_in_order : (es : List (List ℕ × V)) → IsStrictlySortedBy (slice_cmp nat_cmp) (keys_of es)
-      → finite.entries (finite.from_entries {R = slice_cmp nat_cmp} es) ≡ es
-  unfolding IsStrictlySortedBy
-  entries_in_order [] sorted = entries_empty
-  entries_in_order (entry ∷ es) sorted =
-      finite.entries-insert nat_list_cmp_total (finite.from_entries es) entry.0 entry.1
-      ∙ ap (finite.put (slice_cmp nat_cmp) entry.0 entry.1) (entries_in_order es sorted.1)
-      ∙ put_first entry es sorted
-
-  pub names_in_order : (es : List (List ℕ × V)) → IsStrictlySortedBy (slice_cmp nat_cmp) (keys_of es)
-      → names_in (finite.from_entries {R = slice_cmp nat_cmp} es) ≡ keys_of es
-  names_in_order es sorted = ap (map (λ entry. entry.0)) (entries_in_order es sorted)
+  -- what is taken out and put in again is put in
+  pub put_again : (entries : ByKey V) (key : List ℕ) (value : V)
+      → finite.insert (finite.remove entries key) key value ≡ finite.insert entries key value
+  put_again entries key value =
+      finite.same_map nat_list_cmp_total (finite.slice_cmp-IsAntisymmetric finite.nat_cmp-IsAntisymmetric) _ _
+      (λ other. finite.get-insert nat_list_cmp_total (finite.remove entries key) key value other
+      ∙ ap (cond (eq_by_cmp (slice_cmp nat_cmp) other key) (Some value)) (finite.get-remove nat_list_cmp_total entries key other)
+      ∙ shadowed (eq_by_cmp (slice_cmp nat_cmp) other key) (Some value) None (finite.get entries other)
+      ∙ sym (finite.get-insert nat_list_cmp_total entries key value other))
