@@ -2,10 +2,8 @@ pub mod Alike
 pub mod Expanders
 pub mod Fitting
 pub mod Keyed
-pub mod Maps
 pub mod Numbered
 pub mod Openness
-pub mod Ordered
 pub mod Played
 pub mod Rows
 pub mod Shown

@@ -1,11 +1,10 @@
 -- What a client holds by one shard is the result at the place that it shows.
 use Rattle.std.proofs.Common.{suc, ◌≡◌, ◌⊎◌, ℕ, ◌≤◌, List, [], ◌∷◌, ◌++◌, Bool, true, false, ◌&&◌, ◌==◌, refl, sym, ap, ◌∙◌, subst, cond}
 use Rattle.std.proofs.Common.{arith, bytes_eq, if◌then◌else◌, inl, inr}
-use Rattle.std.specs.Prelude.{Option, Some, None, length, option_map, nat_le}
+use Rattle.std.specs.Prelude.{Option, Some, None, length, nat_le}
 use Rattle.std.specs.Ordering.{nat_cmp}
 use Rattle.std.specs.Cmp.Lexicographic.{slice_cmp}
 use Rattle.std.specs.FinMap as finite
-use Rattle.std.proofs.lemmas.Bool.Decides.{nat_tests}
 use Rattle.std.proofs.lemmas.Map.Text.{is_eq-slice_cmp}
 use Rattle.std.proofs.lemmas.Slice.Eq.{bytes_eq-Decides}
 use Rattle.gr_oql.specs.declared.event.Event.{Event}
@@ -18,18 +17,19 @@ use Rattle.gr_history.specs.declared.query_reply.QueryReply.TheVariants as told_
 use Rattle.gr_history.specs.declared.deed.Deed.{Deed}
 use Rattle.gr_history.specs.declared.deed.Deed.TheVariants.{Call, Taken, Gave, Imaged, Reported, Asked, Heard, Swept}
 use Rattle.gr_history.specs.Places.{at_place}
-use Rattle.gr_history.specs.Turned.{events, events_from}
+use Rattle.gr_history.specs.Turned.{events_from}
 use Rattle.gr_history.specs.Queries.{name_of, Asking, asked_of, Opening, State, Neither, Running, Halted, after_asking, after_asked}
 use Rattle.gr_history.specs.Queries.{state, waiting, answer, rows_of}
-use Rattle.gr_law.specs.Queries.{IsAnswered, IsLawfulAsked, handed, with_asked, since_opening}
+use Rattle.gr_law.specs.Queries.{IsAnswered, handed, with_asked, since_opening}
 use Rattle.gr_law.specs.QueryMaps.{Rows, followed, map_of, put_at}
 use Rattle.gr_law.proofs.AsMaps.{kept_up_as_maps}
 use Rattle.gr_law.proofs.KeptUp.{handed_out}
 use Rattle.gr_law.proofs.Waiting.{asked_reply, at_before, at_end, within, IsWithin}
-use Rattle.gr_durable.specs.Places.{opening_of, read_upto, shown_after, shown_asked, shown_upto}
+use Rattle.gr_by_key.specs.Maps.{with_value}
+use Rattle.gr_by_key.proofs.Maps.{get_with_value}
+use Rattle.gr_durable.specs.Places.{opening_of, shown_after, shown_asked, shown_upto}
 use Rattle.gr_durable.specs.Results.{result_shown, HoldsResults}
 use Rattle.gr_durable.specs.Tables.{Held, held_after, put_table, with_deed, with_reply}
-use Rattle.gr_durable.proofs.Maps.{get_with_value, with_value}
 
 -- ---- one name
 

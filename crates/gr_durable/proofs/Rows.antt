@@ -1,5 +1,5 @@
 -- Lists of rows, read as maps.
-use Rattle.std.proofs.Common.{◌≡◌, ℕ, List, [], ◌∷◌, ◌++◌, Bool, true, false, ◌&&◌, T, refl, sym, ap, ◌∙◌, subst, map, bytes_eq, if◌then◌else◌, Less, cond}
+use Rattle.std.proofs.Common.{◌≡◌, ℕ, List, [], ◌∷◌, ◌++◌, Bool, true, false, ◌&&◌, T, refl, sym, ap, ◌∙◌, subst, map, bytes_eq, if◌then◌else◌, Less}
 use Rattle.std.specs.Prelude.{Option, Some, None, filter}
 use Rattle.std.specs.Ordering.{nat_cmp, is_lt}
 use Rattle.std.proofs.Common.{Ordering, Equal, Greater}
@@ -18,8 +18,12 @@ use Rattle.gr_history.specs.declared.query_reply.Row.{Row}
 use Rattle.gr_history.specs.Queries.{row_of}
 use Rattle.gr_law.specs.Queries.{found}
 use Rattle.gr_law.specs.QueryMaps.{Rows, entry_of, map_of}
+use Rattle.gr_by_key.proofs.Ordered.{entries_in_order}
 use Rattle.gr_durable.specs.Tables.{in_order, list_of}
-use Rattle.gr_durable.proofs.Ordered.{entries_in_order, map_twice}
+
+pub map_twice : {A B C : Type 0} → (f : B → C) (g : A → B) (xs : List A) → map (λ x. f (g x)) xs ≡ map f (map g xs)
+map_twice f g [] = refl
+map_twice f g (x ∷ xs) = ap (λ rest. f (g x) ∷ rest) (map_twice f g xs)
 
 abbrev pub row_keys : List Row → List (List ℕ)
 row_keys rows = map (λ row. row.key) rows

@@ -50,7 +50,8 @@ use Rattle.gr_durable.specs.declared.table.Table.{Table}
 use Rattle.gr_durable.specs.Places.{opening_of, shown_upto}
 use Rattle.gr_durable.specs.Results.{AreHeld, HasShards, HoldsResults, ShowsResult, TablesShowResults, result_shown, rows_at}
 use Rattle.gr_durable.specs.Steps.{AreOfOpenQueries, HasOpen, is_open_behind}
-use Rattle.gr_durable.specs.Tables.{Held, held_after, held_by, in_order, list_of, names_held, names_in, rows_in, rows_named, rows_over, shards_of, table_of, tables_by, tables_held, tables_of}
+use Rattle.gr_by_key.specs.Maps.{names_in}
+use Rattle.gr_durable.specs.Tables.{Held, held_after, held_by, in_order, list_of, names_held, rows_in, rows_named, rows_over, shards_of, table_of, tables_by, tables_held, tables_of}
 use Rattle.gr_durable.proofs.Keyed.{present_key}
 use Rattle.gr_durable.proofs.Openness.{is_open, open_after, open_everywhere, open_history, open_own}
 use Rattle.gr_durable.proofs.Played.{holds_results}

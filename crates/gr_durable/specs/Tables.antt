@@ -1,7 +1,5 @@
 -- The tables that clients hold of their queries, by what shards answered.
 use Rattle.std.specs.Prelude.{ℕ, List, [], ◌∷◌, ◌==◌, Option, Some, None, option_map, map, flat_map, reverse, if◌then◌else◌}
-use Rattle.std.specs.Ordering.{nat_cmp}
-use Rattle.std.specs.Cmp.Lexicographic.{slice_cmp}
 use Rattle.std.specs.FinMap as finite
 use Rattle.gr_history.specs.declared.deed.Deed.{Deed}
 use Rattle.gr_history.specs.declared.deed.Deed.TheVariants.{Asked}
@@ -13,6 +11,7 @@ use Rattle.gr_history.specs.declared.record.MemberRecord.{MemberRecord}
 use Rattle.gr_history.specs.declared.record.Record.{Record}
 use Rattle.gr_history.specs.declared.record.ShardRecord.{ShardRecord}
 use Rattle.gr_history.specs.Queries.{name_of, row_of}
+use Rattle.gr_by_key.specs.Maps.{ByKey, names_in}
 use Rattle.gr_law.specs.QueryMaps.{Rows, followed, map_of}
 use Rattle.gr_durable.specs.declared.table.Table.{Table}
 
@@ -30,7 +29,7 @@ with_reply NotRunning before = before
 
 -- a client's tables by the names of its queries
 abbrev pub Held : Type 0
-Held = finite.FinMap (slice_cmp nat_cmp) Rows
+Held = ByKey Rows
 
 abbrev pub put_table : List ℕ → Option Rows → Held → Held
 put_table name None held = finite.remove held name
@@ -50,9 +49,6 @@ abbrev pub held_by : ℕ → ShardRecord → Held
 held_by client shard = held_after client (reverse shard.history.deeds)
 
 -- ---- by all shards
-
-abbrev pub names_in : {V : Type 0} → finite.FinMap (slice_cmp nat_cmp) V → List (List ℕ)
-names_in all = map (λ entry. entry.0) (finite.entries all)
 
 -- rows as a list, in the order of their keys
 abbrev pub list_of : Rows → List Row

@@ -3,8 +3,8 @@ ghost use Rattle.std.specs.FinMap as finite;
 ghost use Rattle.gr_history.specs.Queries.{name_of};
 ghost use Rattle.gr_durable.specs.Tables.{held_after, held_by, put_table, with_deed, with_reply};
 
-use crate::by_key::ByKey;
 use crate::playing::{Rows, after_reply};
+use gr_by_key::ByKey;
 use gr_history::{Deed, QueryAsk, QueryReply, ShardRecord};
 use gr_value::{Copied, ItemList, Key, Memory};
 use std::alloc::Global;

@@ -1,7 +1,6 @@
 //! Tables of clients' queries, which outlive the absence of their clients.
 #![tactic(auto)]
 
-mod by_key;
 mod expanded;
 mod expander;
 mod expanding;

@@ -3,7 +3,7 @@ ghost use Rattle.gr_oql.specs.Events.{value_left};
 ghost use Rattle.gr_law.specs.QueryMaps.{followed, map_of, put_at};
 ghost use Rattle.gr_durable.specs.Tables.{list_of, with_reply};
 
-use crate::by_key::ByKey;
+use gr_by_key::ByKey;
 use gr_history::{QueryReply, Row, RowList};
 use gr_oql::{Event, QueryOp};
 use gr_value::{Copied, Key, Memory, Value};
@@ -31,7 +31,7 @@ pub fn list_of(alloc: Global, rows: &Rows) -> Result<RowList, Memory>
     ensures { IfOk result (λ list. list ≡ list_of rows.now) }
 {
     let mut list = RowList::new(alloc)?;
-    for (key, value) in rows.map.iter() {
+    for (key, value) in rows.iter() {
         list.push(Row {
             key: key.copy(alloc)?,
             value: value.copy(alloc)?,
@@ -49,7 +49,7 @@ fn put_at(alloc: Global, rows: &mut Rows, key: &Key, value: Option<&Value>) -> R
             let _old = rows.take(key);
             Ok(())
         }
-        Some(value) => rows.put(key.copy(alloc)?, value.copy(alloc)?),
+        Some(value) => Ok(rows.put(key.copy(alloc)?, value.copy(alloc)?)?),
     }
 }
 

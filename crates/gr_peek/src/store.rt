@@ -1,5 +1,5 @@
-use crate::entries::Entries;
 use crate::told::Told;
+use gr_by_key::ByKey;
 use gr_value::{Key, Value};
 use std::alloc::Global;
 
@@ -11,7 +11,7 @@ mod steps;
 #[derive(Drop)]
 pub(crate) struct Store {
     pub(crate) alloc: Global,
-    pub(crate) entries: Entries<Value>,
+    pub(crate) entries: ByKey<Value>,
     pub(crate) told: Told,
 }
 

@@ -17,8 +17,9 @@ use Rattle.gr_history.specs.Turned.{turns, turned_at, turned_keys, turned}
 use Rattle.gr_law.specs.Grids.{Among}
 use Rattle.gr_law.proofs.Lists.{either}
 use Rattle.gr_law.proofs.Turning.{among_turned, unturned_present}
-use Rattle.gr_peek.specs.Publications.{ByKey, with_turned, with_publication, entries_after, present_after}
-use Rattle.gr_peek.proofs.Maps.{get_with_value}
+use Rattle.gr_by_key.specs.Maps.{ByKey}
+use Rattle.gr_by_key.proofs.Maps.{get_with_value}
+use Rattle.gr_peek.specs.Publications.{with_turned, with_publication, entries_after, present_after}
 use Rattle.gr_peek.proofs.Prefixes.{prefix_self, prefix_trans}
 use Rattle.gr_peek_law.specs.Turns.{turned_each}
 

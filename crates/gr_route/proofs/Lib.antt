@@ -1,6 +1,5 @@
 pub mod Reaching
 pub mod Numbering
-pub mod Finite
 pub mod Leaving
 pub mod Winning
 pub mod Naming

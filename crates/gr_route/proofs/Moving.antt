@@ -18,7 +18,7 @@ use Rattle.gr_law.proofs.Turning.{among_turned, turned_of, unturned_same}
 use Rattle.gr_route.specs.declared.turning.Standing.{Standing}
 use Rattle.gr_route.specs.Turning.{Changes, IsBehind, Stand, left_by, moved_by, touched, turned_in, turns_by, winners, with_move}
 use Rattle.gr_route.proofs.Winning.{filtered_alike, won_is}
-use Rattle.gr_route.proofs.Finite.{get_with_value}
+use Rattle.gr_by_key.proofs.Maps.{get_with_value}
 use Rattle.gr_route.proofs.Leaving.{left_at, left_stands}
 use Rattle.gr_route.proofs.Touching.{touched_in_order, turned_touched}
 

@@ -21,7 +21,8 @@ use Rattle.gr_law.proofs.Images.{key_added, key_kept}
 use Rattle.gr_law.proofs.Keys.{IsInOrder, AreBehind}
 use Rattle.gr_law.proofs.Lists.{and_right}
 use Rattle.gr_law.proofs.Turning.{same_unturned}
-use Rattle.gr_route.specs.Turning.{Changes, Stand, could_drop, names_in, touched, with_keys}
+use Rattle.gr_by_key.specs.Maps.{names_in}
+use Rattle.gr_route.specs.Turning.{Changes, Stand, could_drop, touched, with_keys}
 use Rattle.gr_route.proofs.Leaving.{left_stands, none_came, won_over}
 
 -- ---- keys in order

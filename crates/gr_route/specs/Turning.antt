@@ -1,10 +1,9 @@
 -- What stands at the keys, deed by deed.
-use Rattle.std.specs.Prelude.{◌≡◌, ℕ, List, [], ◌∷◌, ◌++◌, Bool, not, map, filter, Option, Some, None, if◌then◌else◌}
+use Rattle.std.specs.Prelude.{◌≡◌, ℕ, List, [], ◌∷◌, ◌++◌, Bool, not, map, filter, Option, None, if◌then◌else◌}
 use Rattle.std.specs.Option.{option_or}
 use Rattle.std.specs.List.{fold}
-use Rattle.std.specs.Ordering.{nat_cmp}
-use Rattle.std.specs.Cmp.Lexicographic.{slice_cmp}
 use Rattle.std.specs.FinMap as finite
+use Rattle.gr_by_key.specs.Maps.{ByKey, names_in, with_value}
 use Rattle.gr_vector.specs.Ids.{Id, has_id}
 use Rattle.gr_stamp.specs.declared.change.Change.{Change}
 use Rattle.gr_stamp.specs.Winner.{wins}
@@ -17,18 +16,7 @@ use Rattle.gr_history.specs.Standing.{drops, standing}
 use Rattle.gr_history.specs.Turned.{is_other, turned_by, turned}
 use Rattle.gr_route.specs.declared.turning.Standing.{Standing}
 
--- what stands by the bytes of keys
-abbrev pub ByKey : Type 0 → Type 0
-ByKey V = finite.FinMap (slice_cmp nat_cmp) V
-
-abbrev pub names_in : {V : Type 0} → ByKey V → List (List ℕ)
-names_in all = map (λ entry. entry.0) (finite.entries all)
-
--- with this at a key, or nothing
-abbrev pub with_value : {V : Type 0} → List ℕ → Option V → ByKey V → ByKey V
-with_value key None all = finite.remove all key
-with_value key (Some value) all = finite.insert all key value
-
+-- changes by the bytes of their keys
 abbrev pub Changes : Type 0
 Changes = ByKey Change
 

@@ -6,7 +6,7 @@ ghost use Rattle.gr_history.specs.Standing.{came};
 ghost use Rattle.gr_stamp.specs.Winner.{wins};
 ghost use Rattle.gr_route.specs.Turning.{fresh, winners, with_won};
 
-use crate::by_key::ByKey;
+use gr_by_key::ByKey;
 use gr_history::{Deed, Verdict};
 use gr_stamp::{Change, ChangeList, decide};
 use gr_value::{Copied, Memory};

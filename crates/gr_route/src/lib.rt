@@ -1,7 +1,6 @@
 //! Which queries a change can concern, and the events of all queries that a history opened.
 #![tactic(auto)]
 
-mod by_key;
 mod coming;
 mod enrolled;
 mod laws;

@@ -4,11 +4,12 @@ ghost use Rattle.gr_history.specs.declared.deed.Deed.{Deed};
 ghost use Rattle.gr_history.specs.Standing.{drops};
 ghost use Rattle.gr_history.specs.Turned.{is_other, value_of, turned_by, turned};
 ghost use Rattle.gr_stamp.specs.Winner.{is_there};
-ghost use Rattle.gr_route.specs.Turning.{could_drop, left_by, mentioned, moved_by, touched, turned_in, turned_each, turns_by, winners, with_keys, with_move, with_value};
+ghost use Rattle.gr_route.specs.Turning.{could_drop, left_by, mentioned, moved_by, touched, turned_in, turned_each, turns_by, winners, with_keys, with_move};
 ghost use Rattle.gr_route.specs.Turning.{IsBehind};
+ghost use Rattle.gr_by_key.specs.Maps.{with_value};
 
-use crate::by_key::ByKey;
 use crate::coming::{came, note, winners};
+use gr_by_key::ByKey;
 use gr_history::Deed;
 use gr_oql::Turned;
 use gr_stamp::{Change, Kind};
@@ -278,7 +279,7 @@ fn set(standing: &mut ByKey<Change>, key: Key, change: Option<Change>) -> Result
             let _old = standing.take(&key);
             Ok(())
         }
-        Some(change) => standing.put(key, change),
+        Some(change) => Ok(standing.put(key, change)?),
     }
 }
 

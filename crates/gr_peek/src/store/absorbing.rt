@@ -15,7 +15,7 @@ impl Store {
             (λ step. (step ≡ Turn key value) × (self.new ≡ self.old)) }
     {
         let Some(value) = value else {
-            self.entries.remove(&key);
+            let _old = self.entries.take(&key);
             return Ok(());
         };
         match self.entries.put(key, value) {

@@ -2,8 +2,8 @@ ghost use Rattle.std.specs.Prelude.{◌≡◌, IfOk, option_and_then, option_cop
 ghost use Rattle.std.specs.FinMap as finite;
 
 use super::Store;
-use crate::entries::Entries;
 use crate::told::Told;
+use gr_by_key::ByKey;
 use gr_value::{Copied, Key, Memory, Value};
 use std::alloc::Global;
 
@@ -14,7 +14,7 @@ impl Store {
     {
         Store {
             alloc,
-            entries: Entries::new(alloc),
+            entries: ByKey::new(alloc),
             told: told.again(),
         }
     }

@@ -1,8 +1,9 @@
 use Rattle.std.proofs.Common.{sym, ap, ◌∙◌}
 use Rattle.std.specs.Prelude.{None}
 use Rattle.std.specs.FinMap as finite
-use Rattle.gr_durable.proofs.Maps.{get_found, with_value, with_value_is}
-use Rattle.gr_durable.proofs.by_key.ByKey.take.Goals as goal
+use Rattle.gr_by_key.proofs.Maps.{get_found, with_value_is}
+use Rattle.gr_by_key.specs.Maps.{with_value}
+use Rattle.gr_by_key.proofs.by_key.ByKey.take.Goals as goal
 
 pub returns-clause-value : goal.returns-clause-value
 returns-clause-value g c =

@@ -2,9 +2,9 @@ use Rattle.std.proofs.Common.{◌≡◌, ap, sym, ◌∙◌, map, rules}
 use Rattle.std.specs.Map.{keys_of}
 use Rattle.std.specs.Map.Iter.{deref}
 use Rattle.std.proofs.lemmas.Map.Iter.{iter_end}
-use Rattle.gr_durable.specs.Tables.{names_in}
-use Rattle.gr_durable.proofs.Ordered.{names_in_order}
-use Rattle.gr_durable.proofs.by_key.ByKey.keys.Goals as goal
+use Rattle.gr_by_key.specs.Maps.{names_in}
+use Rattle.gr_by_key.proofs.Ordered.{names_in_order}
+use Rattle.gr_by_key.proofs.by_key.ByKey.keys.Goals as goal
 
 pub returns : goal.returns
 returns g c =

@@ -8,13 +8,7 @@ use Rattle.std.specs.Map.{lookup}
 use Rattle.std.specs.BTreeMap.{is_at}
 use Rattle.std.specs.FinMap as finite
 use Rattle.std.proofs.lemmas.Cmp.{nat_list_cmp_total}
-
-abbrev pub ByKey : Type 0 → Type 0
-ByKey V = finite.FinMap (slice_cmp nat_cmp) V
-
-abbrev pub with_value : {V : Type 0} → List ℕ → Option V → ByKey V → ByKey V
-with_value key None entries = finite.remove entries key
-with_value key (Some value) entries = finite.insert entries key value
+use Rattle.gr_by_key.specs.Maps.{ByKey, with_value}
 
 module _ {V : Type 0} where
   found_there : (es : List (List ℕ × V)) (key : List ℕ) → finite.find (slice_cmp nat_cmp) key es ≡ lookup (is_at (slice_cmp nat_cmp key)) es

@@ -1,12 +1,12 @@
 -- Entries that stand in order are those of their finite map.
-use Rattle.std.proofs.Common.{◌≡◌, ℕ, List, [], ◌∷◌, refl, sym, ap, ◌∙◌, map, length, Less, arith}
+use Rattle.std.proofs.Common.{◌≡◌, ℕ, List, [], ◌∷◌, refl, sym, ap, ◌∙◌, map, length, arith}
 use Rattle.std.specs.Ordering.{nat_cmp}
 use Rattle.std.specs.Cmp.Lexicographic.{slice_cmp}
 use Rattle.std.specs.List.Sorted.{IsStrictlySortedBy}
 use Rattle.std.specs.Map.{keys_of}
 use Rattle.std.specs.FinMap as finite
 use Rattle.std.proofs.lemmas.Cmp.{nat_list_cmp_total}
-use Rattle.gr_durable.specs.Tables.{names_in}
+use Rattle.gr_by_key.specs.Maps.{names_in}
 
 no_items : {A : Type 0} → (xs : List A) → length xs ≡ 0 → xs ≡ []
 no_items [] e = refl
@@ -34,7 +34,3 @@ module _ {V : Type 0} where
   pub names_in_order : (es : List (List ℕ × V)) → IsStrictlySortedBy (slice_cmp nat_cmp) (keys_of es)
       → names_in (finite.from_entries {R = slice_cmp nat_cmp} es) ≡ keys_of es
   names_in_order es sorted = ap (map (λ entry. entry.0)) (entries_in_order es sorted)
-
-pub map_twice : {A B C : Type 0} → (f : B → C) (g : A → B) (xs : List A) → map (λ x. f (g x)) xs ≡ map f (map g xs)
-map_twice f g [] = refl
-map_twice f g (x ∷ xs) = ap (λ rest. f (g x) ∷ rest) (map_twice f g xs)

@@ -1,0 +1,6 @@
+//! What stands under keys, as a finite map.
+#![tactic(auto)]
+
+mod by_key;
+
+pub use by_key::ByKey;
