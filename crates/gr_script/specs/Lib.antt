@@ -10,7 +10,6 @@ pub mod Index
 pub mod Items
 pub mod Kept
 pub mod Limits
-pub mod LineNumbers
 pub mod LinesSaid
 pub mod Narrow
 pub mod Numerals
