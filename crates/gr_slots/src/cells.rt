@@ -19,10 +19,11 @@ use std::collections::BTreeMap;
 use std::marker::Model;
 
 // A key keeps its cell once nothing stands there any more, so no place moves and a chain's end tells that
-// no chain has the key. Where such cells may be more than half, they are let go of. A chain has a few cells at most: a key that has no room in its own is in no chain,
-// and an ordered map has its place, so that keys which were chosen to have one seat are found by a search.
-// A place beyond 32 bits is refused as memory is. std's map can't promise room for keys that aren't named
-// yet, so a key is entered only where memory may be refused. Rows are put in order when they are asked for.
+// no chain has the key. Where such cells may be more than half, they are let go of. A chain has a few cells
+// at most: a key that has no room in its own is in no chain, and an ordered map has its place, so that keys
+// which were chosen to have one seat are found by a search. A place beyond 32 bits is refused as memory is.
+// std's map can't promise room for keys that aren't named yet, so a key is entered only where memory may be
+// refused. Rows are put in order when they are asked for.
 /// Slots in cells, one for each key. The chain of a key's seat leads to its cell.
 #[derive(Drop)]
 pub struct Cells {
