@@ -10,5 +10,5 @@ returns-in-Ok g c =
     written_explains (request.Alone mode.Check) _ _ None c.as_slice.result.now c.hand_out.result
     (refl, subst (IsPrinted _) (sym c.as_slice.ensures.value) c.in-Ok.ensures) c.hand_out.ensures
 
-pub returns : goal.returns
-returns g c = c.in-Err.ensures _ (record { bytes = refl; faults = refl })
+pub returns-in-Err : goal.returns-in-Err
+returns-in-Err g c = c.in-Err.ensures _ (record { bytes = refl; faults = refl })

@@ -15,7 +15,7 @@ returns-in-Ok g c = record {
   printed_is = c.in-Ok.ensures.printed_is;
 }
 
-pub returns-in-Err : goal.returns-in-Err
-returns-in-Err g c =
+pub returns : goal.returns
+returns g c =
     let asked = request.Alone mode.Check in
     c.cause_of.ensures asked _ tt (subst (IsWhole _) (sym c.as_slice-bytes.ensures.value) (c.in_ok-text.ensures asked tt)) c.in-Err.ensures

@@ -13,7 +13,7 @@ returns-in-Ok-run_expanded g c detail =
     let left : IsRunOf _ _ = record { text = given.0; script = c.in-Ok.script; given = given.1; left = c.in-Ok-run_expanded.ensures } in
     record { within = within _ given.0 given.1.whole; keeps = left; prints = (left, refl) }
 
-pub returns : goal.returns
-returns g c detail sink untouched =
+pub returns-in-Err-run_expanded : goal.returns-in-Err-run_expanded
+returns-in-Err-run_expanded g c detail sink untouched =
     let given = c.in-Ok.ensures (request.Run detail) tt refl in
     (tt, within _ given.0 given.1.whole, untouched)
