@@ -1,15 +1,15 @@
 -- The record of a run is what is left of its threads.
-use Rattle.std.proofs.Common.{◌≡◌, ◌≢◌, ◌⊎◌, ℕ, zero, suc, ◌+◌, ◌-◌, ◌<◌, ◌≤◌, ◌==◌, Bool, true, false, List, [], ◌∷◌, length, map, Option, Some, None}
+use Rattle.std.proofs.Common.{◌≡◌, ◌≢◌, ◌⊎◌, ℕ, suc, ◌+◌, ◌-◌, ◌<◌, ◌≤◌, ◌==◌, Bool, true, false, List, [], ◌∷◌, length, map, Option, Some, None}
 use Rattle.std.proofs.Common.{refl, sym, ap, ◌∙◌, subst, arith, inl, inr, flat_map, get_or, if◌then◌else◌, eqb-true, eq-eqb, leb, length-append, ⊎_elim}
 use Rattle.std.specs.Prelude.{cond, slice_get}
-use Rattle.std.specs.List.{AllByRecursion, cons_option, filter_map}
+use Rattle.std.specs.List.{AllByRecursion, filter_map}
 use Rattle.std.specs.Option.{option_to_list}
 use Rattle.std.proofs.lemmas.Bool.Decides.{leb_tells}
 use Rattle.std.proofs.lemmas.Option.{get_or_from_slice_get, slice_get-get_or, slice_get_within}
 use Rattle.gr_turn.specs.Views.{times}
 use Rattle.gr_history.specs.declared.record.MemberRecord.{MemberRecord}
 use Rattle.gr_law.specs.Grids.{Among}
-use Rattle.gr_law.proofs.Lists.{among_either, among_left, among_reverse, among_right}
+use Rattle.gr_law.proofs.Lists.{among_either, among_reverse}
 use Rattle.gr_post.specs.declared.mail.Posted.{Posted}
 use Rattle.gr_post.specs.Mails.{has_end, of}
 use Rattle.gr_post.specs.Passes.{Ring, Sending, Taking}
@@ -22,71 +22,36 @@ use Rattle.gr_run_law.specs.Threads.{IsLeftByThreads, client_place, member_place
 use Rattle.gr_run_law.proofs.Clients.{home_is_member}
 use Rattle.gr_run_law.proofs.Delivering.{among_map, map_among}
 use Rattle.gr_run_law.proofs.Integrity.{among_flat, flat_among}
-use Rattle.gr_run_law.proofs.Lists.{among_get, get_some, same_in_some, same_number}
+use Rattle.gr_run_law.proofs.Lists.{among_get, get_some, same_in_some}
 use Rattle.gr_value.specs.Lists.{StartsWith}
 use Rattle.gr_member.specs.Fresh.{IsFresh, IsFreshSeat}
 use Rattle.gr_member.specs.Left.{AreLeftBy}
-use Rattle.gr_member.specs.Passes.{HaveAll, House, StaysAll}
+use Rattle.gr_member.specs.Passes.{HaveAll, House}
 use Rattle.gr_member.specs.Seats.{Place, nowhere}
 use Rattle.gr_runner.specs.declared.gathering.Left.{Left}
 use Rattle.gr_runner.specs.declared.gathering.News.{News}
 use Rattle.gr_runner.specs.declared.gathering.News.TheVariants as news_of
 use Rattle.gr_runner.specs.declared.slots.Slot.{Slot}
-use Rattle.gr_runner.specs.declared.slots.Worker.{Worker}
-use Rattle.gr_runner.specs.declared.slots.Worker.TheVariants as worker
-use Rattle.gr_runner.specs.Dealing.{dealt_at, worker_at}
+use Rattle.gr_runner.specs.Dealing.{dealt_at}
 use Rattle.gr_runner.specs.Ending.{AreEnded}
 use Rattle.gr_runner.specs.Gathering.{Knows, KnowsAll, left_at, seats_at}
 use Rattle.gr_runner.specs.Gone.{HasGone}
 use Rattle.gr_runner.specs.Left.{ClientLeft, HasMet, HostLeft, IsEnded, LeavesClient, LeavesHost, at_shard, places_left, visit_at}
 use Rattle.gr_runner.specs.Makings.{passes_at, plan_of}
-use Rattle.gr_runner.specs.Slots.{LeavesOf}
 use Rattle.gr_runner.specs.Sorting.{take_in, told_in}
 use Rattle.gr_runner.proofs.Found.{filter_first, get_among}
 use Rattle.gr_runner.proofs.Joiners.{joiner_is}
 use Rattle.gr_runner.proofs.Leaving.{lawful_record}
-use Rattle.gr_runner.proofs.Lists.{all_among, all_places}
+use Rattle.gr_runner.proofs.Lists.{all_among, all_places, numbered_behind, numbered_on}
 use Rattle.gr_runner.proofs.Ran.{dealt_passes, fresh_at, slot_ran}
 use Rattle.gr_runner.proofs.Shared.{client_there}
 use Rattle.gr_runner.proofs.Told.{same_at, same_many}
 use Rattle.gr_runner.proofs.Whole.{ClientFacts, HostFacts, all_clients, all_hosts}
 
+use Rattle.gr_runner.proofs.Standing.{own_among, visit_among, stands_for}
+
 one_time : (n : ℕ) → 0 < times n (n ∷ [])
 one_time n = let e : cond {A = ℕ} (n == n) 1 0 ≡ 1 = ap (λ (b : Bool). cond {A = ℕ} b 1 0) (eq-eqb n n refl) in omega (arith, e)
-
--- Items that are numbered on from a number.
-numbered_on : {A : Type 0} (f : A → ℕ) (from n : ℕ) (xs : List A) → length xs ≡ n
-    → ((k : ℕ) (x : A) → slice_get xs k ≡ Some x → f x ≡ from + k) → map f xs ≡ numbers_from from n (λ m. m)
-numbered_on f from zero [] e each = refl
-numbered_on f from zero (x ∷ xs) e each = absurd (omega (arith, e))
-numbered_on f from (suc n) [] e each = absurd (omega (arith, e))
-numbered_on f from (suc n) (x ∷ xs) e each =
-    let first : f x ≡ from = (let z : from + 0 ≡ from = omega arith in each zero x refl ∙ z) in
-    ap (λ (y : ℕ). y ∷ map f xs) first
-    ∙ ap (λ (l : List ℕ). from ∷ l) (numbered_on f (suc from) n xs (omega (arith, e))
-    (λ k y get. (let z : from + suc k ≡ suc from + k = omega arith in each (suc k) y get ∙ z)))
-
--- What f gives where it gives nothing of the first, and of the others what F gives of their numbers.
-numbered_behind : {A B : Type 0} (f : A → Option B) (F : ℕ → B) (from m n : ℕ) (xs : List A) → length xs ≡ m + n
-    → ((k : ℕ) (x : A) → k < m → slice_get xs k ≡ Some x → f x ≡ None)
-    → ((k : ℕ) (x : A) → k < n → slice_get xs (m + k) ≡ Some x → f x ≡ Some (F (from + k))) → filter_map f xs ≡ numbers_from from n F
-numbered_behind f F from zero zero [] e none some = refl
-numbered_behind f F from zero zero (x ∷ xs) e none some = absurd (omega (arith, e))
-numbered_behind f F from zero (suc n) [] e none some = absurd (omega (arith, e))
-numbered_behind {B = B} f F from zero (suc n) (x ∷ xs) e none some =
-    let first : f x ≡ Some (F from) =
-    (let z : from + 0 ≡ from = omega arith in some zero x (omega arith) refl ∙ ap (λ (i : ℕ). Some (F i)) z) in
-    ap (λ (o : Option B). cons_option o (filter_map f xs)) first
-    ∙ ap (λ (l : List B). F from ∷ l) (numbered_behind f F (suc from) zero n xs (omega (arith, e)) (λ k y l g. absurd (omega (arith, l)))
-    (λ k y l g. (let z : from + suc k ≡ suc from + k = omega arith in
-    let a : zero + k ≡ k = omega arith in
-    let b : zero + suc k ≡ suc k = omega arith in
-    some (suc k) y (omega (arith, l)) (ap (slice_get (x ∷ xs)) b ∙ sym (ap (slice_get xs) a) ∙ g) ∙ ap (λ (i : ℕ). Some (F i)) z)))
-numbered_behind f F from (suc m) n [] e none some = absurd (omega (arith, e))
-numbered_behind {B = B} f F from (suc m) n (x ∷ xs) e none some =
-    ap (λ (o : Option B). cons_option o (filter_map f xs)) (none zero x (omega arith) refl)
-    ∙ numbered_behind f F from m n xs (omega (arith, e)) (λ k y l g. none (suc k) y (omega (arith, l)) g)
-    (λ k y l g. (let z : suc m + k ≡ suc (m + k) = omega arith in some k y l (ap (slice_get (x ∷ xs)) z ∙ g)))
 
 module _ (h : Heading) (lines : List Line) (script : IsScript h lines) (houses : List House) (rings : List Ring)
     (desks : List (List Place)) (news : List News) (g : HasGone h lines houses rings desks news) where
@@ -155,17 +120,6 @@ module _ (h : Heading) (lines : List Line) (script : IsScript h lines) (houses :
       (at_shard p shard)
       (map_among (λ (q : List Place). get_or q shard nowhere) p (flat_map (left_at (m - 1)) g.played.lefts)
       (flat_among (left_at (m - 1)) p left g.played.lefts there among))
-
-  own_among : (m : ℕ) (left : Left) → left.home ≡ m → Among left.pass (left_at m left)
-  own_among m left home =
-      among_right left.pass (option_to_list (slice_get left.visits.items m)) (if left.home == m then left.pass ∷ [] else [])
-      (subst (λ (b : Bool). Among left.pass (if b then left.pass ∷ [] else [])) (sym (ap (λ (i : ℕ). i == m) home ∙ same_number m))
-      (inl refl))
-
-  visit_among : (m : ℕ) (left : Left) (v : List Place) → slice_get left.visits.items m ≡ Some v → Among v (left_at m left)
-  visit_among m left v e =
-      among_left v (option_to_list (slice_get left.visits.items m)) (if left.home == m then left.pass ∷ [] else [])
-      (subst (λ (o : Option (List Place)). Among v (option_to_list o)) (sym e) (inl refl))
 
   met : (m shard : ℕ) → IsMember h m → shard < h.shards → HasMet h lines clients hosts m shard (at_shard (desk m) shard)
   met m shard is less = record {
@@ -358,66 +312,6 @@ module _ (h : Heading) (lines : List Line) (script : IsScript h lines) (houses :
                   (ap (slice_get g.played.lefts) spot ∙ there) among count
 
   -- ---- numbers
-
-  -- It stands for the pass p, by another that was left at the member.
-  record Stands (m : ℕ) (left : Left) (p : List Place) : Type 0 where
-    q : List Place
-    among : Among q (left_at (m - 1) left)
-    parts : (j : ℕ) (x : Place) → j < length p → (get_or q j x).view.parts ≡ (get_or p j x).view.parts
-
-  stands_for : (m home : ℕ) (left : Left) (p : List Place) (w : Option Worker) → LeavesOf home w (Some left)
-      → Among p (worker_at (m - 1) home w) → Stands m left p
-  stands_for m home left p None leaves among = absurd leaves
-  stands_for m home left p (Some (worker.Client client)) leaves among = at_test (home == m - 1) refl among
-    where
-      at_test : (b : Bool) → (home == m - 1) ≡ b → Among p (if b then client.session.pass ∷ [] else []) → Stands m left p
-      at_test false e a = absurd a
-      at_test true e (inr a) = absurd a
-      at_test true e (inl is) = record {
-        q = left.pass;
-        among = own_among (m - 1) left (leaves.there ∙ eqb-true home (m - 1) e);
-        parts = λ j x l.
-            let same = ap length is in
-            (leaves.stays.each j x (omega (arith, l, same))).numbers ∙ ap (λ (y : List Place). (get_or y j x).view.parts) (sym is);
-      }
-  stands_for m home left p (Some (worker.Member host)) leaves among = ⊎_elim at_visit at_home
-      (among_either p (option_to_list (slice_get host.visits.items (m - 1))) (if home == m - 1 then host.pass ∷ [] else []) among)
-    where
-      at_home : Among p (if home == m - 1 then host.pass ∷ [] else []) → Stands m left p
-      at_home a = at_test (home == m - 1) refl a
-        where
-          at_test : (b : Bool) → (home == m - 1) ≡ b → Among p (if b then host.pass ∷ [] else []) → Stands m left p
-          at_test false e b = absurd b
-          at_test true e (inr b) = absurd b
-          at_test true e (inl is) = record {
-            q = left.pass;
-            among = own_among (m - 1) left (leaves.there ∙ eqb-true home (m - 1) e);
-            parts = λ j x l.
-                let same = ap length is in
-                (leaves.stays.each j x (omega (arith, l, same))).numbers ∙ ap (λ (y : List Place). (get_or y j x).view.parts) (sym is);
-          }
-
-      at_visit : Among p (option_to_list (slice_get host.visits.items (m - 1))) → Stands m left p
-      at_visit a =
-          let e = some_is (slice_get host.visits.items (m - 1)) refl a in
-          let within = slice_get_within host.visits.items (m - 1) p e in
-          let many = leaves.visits.many in
-          let v : List Place = get_or left.visits.items (m - 1) p in
-          let there = slice_get-get_or left.visits.items (m - 1) p (omega (arith, within, many)) in
-          let stays : StaysAll p v =
-          subst (λ (y : List Place). StaysAll y v) (get_or_from_slice_get host.visits.items (m - 1) p p e)
-          (leaves.visits.each (m - 1) p within) in
-          record {
-            q = v;
-            among = visit_among (m - 1) left v there;
-            parts = λ j x l. (stays.each j x l).numbers;
-          }
-        where
-          some_is : (o : Option (List Place)) → slice_get host.visits.items (m - 1) ≡ o → Among p (option_to_list o)
-              → slice_get host.visits.items (m - 1) ≡ Some p
-          some_is None e b = absurd b
-          some_is (Some v) e (inl is) = e ∙ ap (λ (x : List Place). Some x) (sym is)
-          some_is (Some v) e (inr b) = absurd b
 
   have_all : (m : ℕ) → IsMember h m → HaveAll (desk m)
   have_all m is k s less n few =

@@ -19,6 +19,7 @@ pub mod Mailed
 pub mod Found
 pub mod Ran
 pub mod Whole
+pub mod Standing
 pub mod Lawful
 pub mod Taken
 pub mod Dealings

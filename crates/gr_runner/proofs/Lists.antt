@@ -1,13 +1,14 @@
--- How lists begin, end and turn.
-use Rattle.std.proofs.Common.{◌≡◌, ℕ, zero, suc, Bool, true, false, ◌&&◌, List, [], ◌∷◌, ◌++◌, Some}
-use Rattle.std.proofs.Common.{refl, sym, ap, ◌∙◌, subst, inl, inr, reverse, append_assoc}
+-- How lists begin, end, turn and are numbered.
+use Rattle.std.proofs.Common.{◌≡◌, ℕ, zero, suc, ◌+◌, ◌<◌, Bool, true, false, ◌&&◌, List, [], ◌∷◌, ◌++◌, length, map, Option, Some, None}
+use Rattle.std.proofs.Common.{refl, sym, ap, ◌∙◌, subst, arith, inl, inr, reverse, append_assoc}
 use Rattle.std.specs.Prelude.{slice_get}
-use Rattle.std.specs.List.{AllByRecursion}
+use Rattle.std.specs.List.{AllByRecursion, cons_option, filter_map}
 use Rattle.std.proofs.lemmas.List.{reverse-append}
 use Rattle.gr_history.specs.declared.deed.Deed.{Deed}
 use Rattle.gr_law.specs.Grids.{Among, Older}
 use Rattle.gr_law.proofs.Made.{older_itself}
 use Rattle.gr_value.specs.Lists.{StartsWith}
+use Rattle.gr_world.specs.Numbered.{numbers_from}
 
 module _ {E : Type 0} where
   pub starts_trans : (a b c : List E) → StartsWith a b → StartsWith b c → StartsWith a c
@@ -53,3 +54,37 @@ pub older_front : (list first : List Deed) → StartsWith list first → Older (
 older_front list first s =
     subst (λ (l : List Deed). Older (reverse first) l) (sym (ap reverse s.1 ∙ reverse-append first s.0))
     (older_behind (reverse s.0) (reverse first))
+
+-- Items that are numbered on from a number.
+pub numbered_on : {A : Type 0} (f : A → ℕ) (from n : ℕ) (xs : List A) → length xs ≡ n
+    → ((k : ℕ) (x : A) → slice_get xs k ≡ Some x → f x ≡ from + k) → map f xs ≡ numbers_from from n (λ m. m)
+numbered_on f from zero [] e each = refl
+numbered_on f from zero (x ∷ xs) e each = absurd (omega (arith, e))
+numbered_on f from (suc n) [] e each = absurd (omega (arith, e))
+numbered_on f from (suc n) (x ∷ xs) e each =
+    let first : f x ≡ from = (let z : from + 0 ≡ from = omega arith in each zero x refl ∙ z) in
+    ap (λ (y : ℕ). y ∷ map f xs) first
+    ∙ ap (λ (l : List ℕ). from ∷ l) (numbered_on f (suc from) n xs (omega (arith, e))
+    (λ k y get. (let z : from + suc k ≡ suc from + k = omega arith in each (suc k) y get ∙ z)))
+
+-- What f gives where it gives nothing of the first, and of the others what F gives of their numbers.
+pub numbered_behind : {A B : Type 0} (f : A → Option B) (F : ℕ → B) (from m n : ℕ) (xs : List A) → length xs ≡ m + n
+    → ((k : ℕ) (x : A) → k < m → slice_get xs k ≡ Some x → f x ≡ None)
+    → ((k : ℕ) (x : A) → k < n → slice_get xs (m + k) ≡ Some x → f x ≡ Some (F (from + k))) → filter_map f xs ≡ numbers_from from n F
+numbered_behind f F from zero zero [] e none some = refl
+numbered_behind f F from zero zero (x ∷ xs) e none some = absurd (omega (arith, e))
+numbered_behind f F from zero (suc n) [] e none some = absurd (omega (arith, e))
+numbered_behind {B = B} f F from zero (suc n) (x ∷ xs) e none some =
+    let first : f x ≡ Some (F from) =
+    (let z : from + 0 ≡ from = omega arith in some zero x (omega arith) refl ∙ ap (λ (i : ℕ). Some (F i)) z) in
+    ap (λ (o : Option B). cons_option o (filter_map f xs)) first
+    ∙ ap (λ (l : List B). F from ∷ l) (numbered_behind f F (suc from) zero n xs (omega (arith, e)) (λ k y l g. absurd (omega (arith, l)))
+    (λ k y l g. (let z : from + suc k ≡ suc from + k = omega arith in
+    let a : zero + k ≡ k = omega arith in
+    let b : zero + suc k ≡ suc k = omega arith in
+    some (suc k) y (omega (arith, l)) (ap (slice_get (x ∷ xs)) b ∙ sym (ap (slice_get xs) a) ∙ g) ∙ ap (λ (i : ℕ). Some (F i)) z)))
+numbered_behind f F from (suc m) n [] e none some = absurd (omega (arith, e))
+numbered_behind {B = B} f F from (suc m) n (x ∷ xs) e none some =
+    ap (λ (o : Option B). cons_option o (filter_map f xs)) (none zero x (omega arith) refl)
+    ∙ numbered_behind f F from m n xs (omega (arith, e)) (λ k y l g. none (suc k) y (omega (arith, l)) g)
+    (λ k y l g. (let z : suc m + k ≡ suc (m + k) = omega arith in some k y l (ap (slice_get (x ∷ xs)) z ∙ g)))

@@ -16,7 +16,7 @@ use Rattle.gr_script.specs.declared.script.Script.{Script as TheScript}
 use Rattle.gr_script.specs.Cuts.{line_count}
 use Rattle.gr_script.specs.Drill.{IsDrill}
 use Rattle.gr_script.specs.Expanded.{expansion}
-use Rattle.gr_script.specs.Printed.{script_text}
+use Rattle.gr_script.specs.Reprinted.{IsPrintOf}
 use Rattle.gr_script.specs.Rules.{Heading}
 use Rattle.gr_script.specs.Said.{script_of}
 use Rattle.gr_script.specs.Scripts.{heading_of}
@@ -136,12 +136,11 @@ Keeps (Run detail) source kept = IfSome kept (IsRunOf source)
 Keeps (Drill start steps) source kept =
     IsUntouched source × IfSome kept (λ record_of. (script : TheScript) × IsDrillOf start steps script record_of)
 
--- The text of a script that the source had.
+-- The text that the source had says a script, of which this is printed.
 pub record IsPrinted (source : Stream) (printed : List ℕ) : Type 0 where
   pub text : List ℕ
-  pub script : TheScript
-  pub given : IsGiven false source text script
-  pub printed_is : printed ≡ script_text (heading_of script) script.lines
+  pub whole : IsWhole source text
+  pub print : IsPrintOf text printed
 
 -- What is printed: the script, the text of the record, what is wanted of a member, or the summary.
 abbrev pub Prints : Request → Stream → Option Record → List ℕ → Type 0

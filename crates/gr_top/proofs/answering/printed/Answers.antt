@@ -7,12 +7,8 @@ use Rattle.gr_top.proofs.answering.printed.Goals as goal
 pub returns-in-Ok : goal.returns-in-Ok
 returns-in-Ok g c = record {
   text = c.as_slice-bytes.result.now;
-  script = c.in-Ok.ensures.script;
-  given = record {
-    whole = subst (IsWhole _) (sym c.as_slice-bytes.ensures.value) (c.in_ok-text.ensures (request.Alone mode.Check) tt);
-    read = c.in-Ok.ensures.says;
-  };
-  printed_is = c.in-Ok.ensures.printed_is;
+  whole = subst (IsWhole _) (sym c.as_slice-bytes.ensures.value) (c.in_ok-text.ensures (request.Alone mode.Check) tt);
+  print = c.in-Ok.ensures;
 }
 
 pub returns : goal.returns
