@@ -34,7 +34,7 @@ impl World {
             (λ _. PlaysAt stage.entry (λ heading. takes_all heading site.member site.shard changes.now) self.old self.new) }
     {
         for change in changes {
-            self.grid.does(stage.alloc, site, Task::Take(change))?;
+            self.does(stage, site, Task::Take(change))?;
         }
         Ok(())
     }
@@ -48,7 +48,7 @@ impl World {
         ensures { IfOk result (λ _. PlaysAt stage.entry (λ heading. takes_gift heading site.member site.shard gift.now) self.old self.new) }
     {
         match gift {
-            Gift::Image(image) => Ok(self.grid.does(stage.alloc, site, Task::Merge(image))?),
+            Gift::Image(image) => Ok(self.does(stage, site, Task::Merge(image))?),
             Gift::Own(changes) => Ok(self.take_all(stage, site, changes.as_slice())?),
         }
     }
@@ -71,7 +71,10 @@ impl World {
             member: giver,
             ..site
         };
-        let gift = self.grid.give(stage.alloc, from, site.member, what)?;
+        let gift = self
+            .grid
+            .cell_mut(from)
+            .give(stage.alloc, site.member, what)?;
         Ok(self.take_gift(stage, site, &gift)?)
     }
 

@@ -127,7 +127,8 @@ impl World {
         ensures { IfOk result
             (λ _. PlaysAt stage.entry (λ heading. does heading site.member site.shard (doing_of task.entry)) self.old self.new) }
     {
-        Ok(self.grid.does(stage.alloc, site, task)?)
+        let cell = self.grid.cell_mut(site);
+        Ok(cell.does(stage.alloc, task)?)
     }
 
     fn call(&mut self, stage: Stage, step: StepName, ask: Ask) -> Result<(), Memory>
@@ -140,7 +141,7 @@ impl World {
         let shard = ask.key().shard(stage.script.shards);
         let site = Site { member, shard };
         let at = self.grid.cell(site).shard().history().len();
-        let told = self.grid.call(stage.alloc, site, step, ask)?;
+        let told = self.grid.cell_mut(site).call(stage.alloc, step, ask)?;
         let place = DeedPlace { site, at };
         note(&mut self.made, stage.script.members, step, place, told.made)?;
         Ok(self.tellings.tell(step.client, Answer::Reply(told.reply))?)
@@ -195,7 +196,7 @@ impl World {
         if let Some(change) = self.change_of(stage, client, seq)? {
             let shard = change.key.shard(stage.script.shards);
             let site = Site { member: to, shard };
-            self.grid.does(stage.alloc, site, Task::Take(&change))?;
+            self.does(stage, site, Task::Take(&change))?;
         }
         Ok(())
     }
@@ -210,8 +211,7 @@ impl World {
             (λ heading. for_each heading.shards (λ shard. does heading member shard (doing_of task.entry))) self.old self.new) }
     {
         for shard in 0..stage.script.shards {
-            let site = Site { member, shard };
-            self.grid.does(stage.alloc, site, task)?;
+            self.does(stage, Site { member, shard }, task)?;
         }
         Ok(())
     }
@@ -226,8 +226,7 @@ impl World {
         for shard in 0..stage.script.shards {
             if let Some(report) = self.grid.cell(Site { member: of, shard }).reported(number) {
                 let report = report.copy(stage.alloc)?;
-                let site = Site { member: by, shard };
-                self.grid.does(stage.alloc, site, Task::Hear(&report))?;
+                self.does(stage, Site { member: by, shard }, Task::Hear(&report))?;
             }
         }
         Ok(())
