@@ -17,31 +17,28 @@ use Rattle.gr_shard.specs.Merges.{IsGiftFor}
 use Rattle.gr_shard.specs.View.{Account}
 use Rattle.gr_script.specs.Rules.{Heading, IsMember}
 use Rattle.gr_world.specs.declared.world.World.{World}
-use Rattle.gr_world.specs.Courses.{does, gives, identity_at, takes_all, takes_gift}
-use Rattle.gr_world.specs.Doings.{Takes, Gives}
+use Rattle.gr_world.specs.Courses.{does, for_each_of, gives, identity_at, takes_gift}
+use Rattle.gr_world.specs.Doings.{Gives}
 use Rattle.gr_world.specs.Events.{Event, history}
 use Rattle.gr_world.specs.Tasks.{IsGiven}
 use Rattle.gr_world.specs.Worlds.{IsWorld, Plays, account_at}
 use Rattle.gr_world.proofs.Worlds.{Adds, cell_left, quiet_plays}
 
--- one change more is taken in
-takes_more : (heading : Heading) (member shard : ℕ) (changes : List Change) (i : ℕ) (d : Change) (before : List Event) → i < length changes
-    → takes_all heading member shard (take (suc i) changes) before
-    ≡ does heading member shard (Takes (get_or changes i d)) (takes_all heading member shard (take i changes) before)
-takes_more heading member shard [] i d before less = absurd (omega (arith, less))
-takes_more heading member shard (change ∷ rest) zero d before less = refl
-takes_more heading member shard (change ∷ rest) (suc i) d before less =
-    takes_more heading member shard rest i d (does heading member shard (Takes change) before) (omega (arith, less))
+-- one item more
+of_more : {A : Type 0} (act : A → List Event → List Event) (items : List A) (i : ℕ) (d : A) (before : List Event) → i < length items
+    → for_each_of act (take (suc i) items) before ≡ act (get_or items i d) (for_each_of act (take i items) before)
+of_more act [] i d before less = absurd (omega (arith, less))
+of_more act (item ∷ rest) zero d before less = refl
+of_more act (item ∷ rest) (suc i) d before less = of_more act rest i d (act item before) (omega (arith, less))
 
-pub takes_more_plays : (heading : Heading) (first now next : World) (member shard : ℕ) (changes : List Change) (i : ℕ) (change : Change)
-    → i < length changes → change ≡ get_or changes i change
-    → Plays heading (takes_all heading member shard (take i changes)) first now
-    → Plays heading (does heading member shard (Takes change)) now next
-    → Plays heading (takes_all heading member shard (take (i + 1) changes)) first next
-takes_more_plays heading first now next member shard changes i change less is so_far more events world =
-    let before = takes_all heading member shard (take i changes) events in
-    let here = subst (λ one. IsWorld heading (does heading member shard (Takes one) before) next) is (more before (so_far events world)) in
-    rw add-one (subst (λ all. IsWorld heading all next) (sym (takes_more heading member shard changes i change events less)) here)
+pub of_more_plays : {A : Type 0} (heading : Heading) (act : A → List Event → List Event) (items : List A) (i : ℕ) (item : A)
+    (first now next : World) → i < length items → item ≡ get_or items i item
+    → Plays heading (for_each_of act (take i items)) first now → Plays heading (act item) now next
+    → Plays heading (for_each_of act (take (i + 1) items)) first next
+of_more_plays heading act items i item first now next less is so_far more events world =
+    let before = for_each_of act (take i items) events in
+    let here = subst (λ one. IsWorld heading (act one before) next) is (more before (so_far events world)) in
+    rw add-one (subst (λ all. IsWorld heading all next) (sym (of_more act items i item events less)) here)
 
 -- ---- what is given
 

@@ -6,12 +6,14 @@ use Rattle.gr_history.specs.Asks.{key_of}
 use Rattle.gr_shard.specs.Merges.{IsImageFor}
 use Rattle.gr_shard.specs.View.{Account}
 use Rattle.gr_script.specs.Rules.{Heading, IsMember}
+use Rattle.gr_world.specs.declared.site.Site.{Site}
 use Rattle.gr_world.specs.declared.world.World.{World}
 use Rattle.gr_world.specs.Doings.{Doing, Calls, Takes, Gives, Merges, Reports, Hears, Sweeps, Asks}
 use Rattle.gr_world.specs.Events.{Event}
 use Rattle.gr_world.specs.Tasks.{BelongsTo}
 use Rattle.gr_world.specs.Courses.{identity_at}
-use Rattle.gr_world.specs.Worlds.{IsAtWork, IsWorld, account_at, account_left}
+use Rattle.gr_world.specs.Stages.{HasSite}
+use Rattle.gr_world.specs.Worlds.{IsWorld, account_at, account_left}
 use Rattle.gr_world.proofs.Worlds.{cell_left}
 
 -- What belongs to a shard is told by whose it is.
@@ -34,7 +36,7 @@ seen_left heading world member shard seen is within at events left =
     at ∙ ap (λ grid. account_at grid member shard) left.grid_is ∙ cell_left heading events member shard is within
 
 -- and so is whose it is
-pub work_id : (heading : Heading) (world : World) (member shard : ℕ) (seen : Account) → IsAtWork heading world → IsMember heading member
-    → shard < heading.shards → seen ≡ account_at world.grid member shard → seen.id ≡ identity_at heading member shard
-work_id heading world member shard seen (events, left) is within at =
-    ap (λ account. account.id) (seen_left heading world member shard seen is within at events left)
+pub work_id : (heading : Heading) (world : World) (site : Site) (seen : Account) → HasSite heading world site
+    → seen ≡ account_at world.grid site.member site.shard → seen.id ≡ identity_at heading site.member site.shard
+work_id heading world site seen has at =
+    ap (λ account. account.id) (seen_left heading world site.member site.shard seen has.member has.shard at has.work.0 has.work.1)

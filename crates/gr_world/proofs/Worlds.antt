@@ -21,7 +21,9 @@ use Rattle.gr_script.specs.declared.line.Line.TheVariants.{Step, Deliver}
 use Rattle.gr_script.specs.declared.script.Script.{Script}
 use Rattle.gr_script.specs.Rules.{Heading, IsMember, IsStated, home_of}
 use Rattle.gr_script.specs.Scripts.{heading_of}
+use Rattle.gr_world.specs.declared.site.Site.{Site}
 use Rattle.gr_world.specs.declared.world.World.{World}
+use Rattle.gr_world.specs.Stages.{HasSite}
 use Rattle.gr_world.specs.Events.{Event, Did, Peeked, Gathered, put_if, history}
 use Rattle.gr_world.specs.Clients.{Numbered, add_some, told, told_by, told_by_deed}
 use Rattle.gr_world.specs.Noted.{Notes, place_of}
@@ -449,26 +451,28 @@ shard_within key shard shards some is = mod_within (key_hash key) shards some is
     mod_within a n some is = omega (arith, some, is)
 
 -- there is a cell for each member and shard
-pub work_cell : (heading : Heading) (world : World) (member shard : ℕ) → IsAtWork heading world → IsMember heading member
-    → shard < heading.shards
-    → IsCell world.grid member shard
-work_cell heading world member shard (events, left) is within =
-    subst (λ grid. IsCell grid member shard) (sym left.grid_is) (is_cell heading events member shard is within)
+pub work_cell : (heading : Heading) (world : World) (site : Site) → HasSite heading world site → IsCell world.grid site.member site.shard
+work_cell heading world site has =
+    subst (λ grid. IsCell grid site.member site.shard) (sym has.work.1.grid_is)
+    (is_cell heading has.work.0 site.member site.shard has.member has.shard)
 
 -- also where the shard is that of a key
 pub key_cell : (script : Script) (world : World) (member shard : ℕ) (key : List ℕ) → IsAtWork (heading_of script) world
     → IsMember (heading_of script) member → shard ≡ shard_of key script.shards
     → IsCell world.grid member shard
 key_cell script world member shard key work is at_shard =
-    work_cell (heading_of script) world member shard work is
-    (shard_within key shard script.shards script.ruled.heading.shards.0 at_shard)
+    work_cell (heading_of script) world (record { member = member; shard = shard }) (record {
+      work = work;
+      member = is;
+      shard = shard_within key shard script.shards script.ruled.heading.shards.0 at_shard;
+    })
 
 -- What plays leaves a world that is at work.
 pub work_on : (heading : Heading) (act : List Event → List Event) (old new : World) → IsAtWork heading old → Plays heading act old new
     → IsAtWork heading new
 work_on heading act old new (events, left) plays = (act events, plays events left)
 
--- one shard more
+-- one number more
 pub for_each_plays : (heading : Heading) (act : ℕ → List Event → List Event) (n : ℕ) (first now next : World)
     → Plays heading (for_each n act) first now → Plays heading (act n) now next → Plays heading (for_each (n + 1) act) first next
 for_each_plays heading act n first now next so_far more events is =

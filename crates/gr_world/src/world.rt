@@ -12,7 +12,7 @@ ghost use Rattle.gr_world.specs.Events.{Event};
 ghost use Rattle.gr_world.specs.Named.{made_by};
 ghost use Rattle.gr_world.specs.Records.{IsLeft};
 ghost use Rattle.gr_world.specs.Noted.{Notes};
-ghost use Rattle.gr_world.specs.Stages.{PlaysAt, heading_at};
+ghost use Rattle.gr_world.specs.Stages.{HasSite, PlaysAt, heading_at};
 ghost use Rattle.gr_world.specs.Worlds.{CanPlay, IsAtWork, IsWorld, account_left};
 ghost use Rattle.gr_history.specs.Made.{made_in};
 
@@ -109,9 +109,7 @@ impl World {
 
     /// A member's shard.
     pub fn view(&self, stage: Stage, site: Site) -> &Shard
-        requires work { IsAtWork (heading_at stage) self.now }
-        requires member { IsMember (heading_at stage) site.member }
-        requires shard { site.shard < stage.script.now.shards }
+        requires { HasSite (heading_at stage) self.now site }
         ensures { (events : List Event) → IsWorld (heading_at stage.entry) events self.now
             → result.now ≡ account_left (heading_at stage.entry) events site.member site.shard }
     {
@@ -120,9 +118,7 @@ impl World {
 
     /// Does one thing at a member's shard, and nothing else.
     pub fn does(&mut self, stage: Stage, site: Site, task: Task) -> Result<(), Memory>
-        requires work { IsAtWork (heading_at stage) self.old }
-        requires member { IsMember (heading_at stage) site.member }
-        requires shard { site.shard < stage.script.now.shards }
+        requires site { HasSite (heading_at stage) self.old site }
         requires here { BelongsTo (account_left (heading_at stage) [] site.member site.shard) (doing_of task) }
         ensures { IfOk result
             (λ _. PlaysAt stage.entry (λ heading. does heading site.member site.shard (doing_of task.entry)) self.old self.new) }
@@ -248,7 +244,7 @@ impl World {
             Line::Sweep { member, moment } => {
                 Ok(self.at_each_shard(stage, member, Task::Sweep(moment))?)
             }
-            Line::Join { member, from } => Ok(self.join(stage, member, from)?),
+            Line::Join { member, from } => Ok(self.join(stage, &[], member, from)?),
             Line::Depart { .. } => unreachable!(),
             Line::Leave { .. } | Line::Back { .. } => Ok(()),
         }

@@ -3,14 +3,8 @@ use Rattle.gr_world.specs.Courses.{does, for_each}
 use Rattle.gr_world.specs.Stages.{heading_at}
 use Rattle.gr_world.specs.Tasks.{doing_of}
 use Rattle.gr_world.specs.Worlds.{Plays, account_left}
-use Rattle.gr_world.proofs.Worlds.{for_each_plays, work_on}
+use Rattle.gr_world.proofs.Worlds.{for_each_plays}
 use Rattle.gr_world.proofs.world.World.at_each_shard.Goals as goal
-
-pub does-requires-clause-work : goal.does-requires-clause-work
-does-requires-clause-work c =
-    let heading = heading_at c.args.stage in
-    work_on heading (for_each c.loop-shard.shard (λ shard. does heading c.args.member shard (doing_of c.args.task))) c.args.self.now
-    c.loop-shard.self c.requires.work c.loop-shard.invariant
 
 pub does-requires-clause-here : goal.does-requires-clause-here
 does-requires-clause-here c = c.requires.any (account_left (heading_at c.args.stage) [] c.args.member c.loop-shard.shard)

@@ -29,8 +29,11 @@ call-requires c =
     let shard = c.shard-shard.result in
     let at = c.shard-shard.ensures ∙ ap (λ k. shard_of k script.shards) c.key.ensures in
     belongs_too (account_left heading [] member shard) c.cell_mut.result.now (Calls c.args.step.client c.args.step.seq c.args.ask)
-    (work_id heading c.args.self.now member shard c.cell_mut.result.now c.requires.work c.home-member.ensures.member
-    (shard_within (key_of c.args.ask) shard script.shards script.ruled.heading.shards.0 at) c.cell_mut.ensures.shows) (sym at)
+    (work_id heading c.args.self.now (record { member = member; shard = shard }) c.cell_mut.result.now (record {
+      work = c.requires.work;
+      member = c.home-member.ensures.member;
+      shard = shard_within (key_of c.args.ask) shard script.shards script.ruled.heading.shards.0 at;
+    }) c.cell_mut.ensures.shows) (sym at)
 
 pub tell-requires-clause-stated : goal.tell-requires-clause-stated
 tell-requires-clause-stated c =

@@ -3,10 +3,14 @@ use Rattle.gr_world.specs.Stages.{heading_at}
 use Rattle.gr_world.proofs.Worlds.{deliver_plays, shard_within}
 use Rattle.gr_world.proofs.world.World.deliver.Goals as goal
 
-pub does-requires-clause-shard : goal.does-requires-clause-shard
-does-requires-clause-shard c =
+pub does-requires-clause-site : goal.does-requires-clause-site
+does-requires-clause-site c =
     let script = c.args.stage.script.now in
-    shard_within c.in-Some.change.key c.shard-shard.result script.shards script.ruled.heading.shards.0 c.shard-shard.ensures
+    record {
+      work = c.requires.work;
+      member = c.requires.member;
+      shard = shard_within c.in-Some.change.key c.shard-shard.result script.shards script.ruled.heading.shards.0 c.shard-shard.ensures;
+    }
 
 pub does-requires-clause-here : goal.does-requires-clause-here
 does-requires-clause-here c = sym c.shard-shard.ensures

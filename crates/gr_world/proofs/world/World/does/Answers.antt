@@ -8,8 +8,7 @@ use Rattle.gr_world.proofs.world.World.does.Goals as goal
 
 pub cell_mut-cell-requires : goal.cell_mut-cell-requires
 cell_mut-cell-requires c =
-    work_cell (heading_at c.args.stage) c.args.self.now c.args.site.member c.args.site.shard c.requires.work c.requires.member
-    c.requires.shard
+    work_cell (heading_at c.args.stage) c.args.self.now c.args.site c.requires.site
 
 pub does-requires : goal.does-requires
 does-requires c =
@@ -17,13 +16,12 @@ does-requires c =
     let site = c.args.site in
     let was = c.cell_mut-cell.result.now in
     belongs_too (account_left heading [] site.member site.shard) was (doing_of c.args.task)
-    (work_id heading c.args.self.now site.member site.shard was c.requires.work c.requires.member c.requires.shard
-    c.cell_mut-cell.ensures.shows)
+    (work_id heading c.args.self.now site was c.requires.site c.cell_mut-cell.ensures.shows)
     c.requires.here
 
 pub returns : goal.returns
 returns c =
     let site = c.args.site in
     task_plays (heading_at c.args.stage) c.args.self.now site.member site.shard c.args.task _ c.cell_mut-cell.result.now c.does.new.self
-    c.requires.member c.requires.shard
+    c.requires.site.member c.requires.site.shard
     (record { lent = c.cell_mut-cell.ensures.shows; deed_is = refl; added = c.in_ok-does.ensures })

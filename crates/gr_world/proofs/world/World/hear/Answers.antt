@@ -11,16 +11,22 @@ use Rattle.gr_world.proofs.world.World.hear.Goals.{in-Some+in_ok-report+in_ok-do
 pub cell-requires : goal.cell-requires
 cell-requires c =
     let heading = heading_at c.args.stage in
-    work_cell heading c.loop-shard.self c.args.of c.loop-shard.shard
-    (work_on heading (for_each c.loop-shard.shard (hears_of heading c.args.by c.args.of c.args.number)) c.args.self.now c.loop-shard.self
-    c.requires.work c.loop-shard.invariant)
-    c.requires.of c.loop-shard-test.true
+    work_cell heading c.loop-shard.self (record { member = c.args.of; shard = c.loop-shard.shard }) (record {
+      work = work_on heading (for_each c.loop-shard.shard (hears_of heading c.args.by c.args.of c.args.number)) c.args.self.now
+          c.loop-shard.self c.requires.work c.loop-shard.invariant;
+      member = c.requires.of;
+      shard = c.loop-shard-test.true;
+    })
 
-pub does-requires-clause-work : goal.does-requires-clause-work
-does-requires-clause-work c =
+pub does-requires-clause-site : goal.does-requires-clause-site
+does-requires-clause-site c =
     let heading = heading_at c.args.stage in
-    work_on heading (for_each c.loop-shard.shard (hears_of heading c.args.by c.args.of c.args.number)) c.args.self.now c.loop-shard.self
-    c.requires.work c.loop-shard.invariant
+    record {
+      work = work_on heading (for_each c.loop-shard.shard (hears_of heading c.args.by c.args.of c.args.number)) c.args.self.now
+          c.loop-shard.self c.requires.work c.loop-shard.invariant;
+      member = c.requires.by;
+      shard = c.loop-shard-test.true;
+    }
 
 pub loop-shard-preserved : goal.loop-shard-preserved
 loop-shard-preserved c =

@@ -11,10 +11,12 @@ pub cell_mut-requires : goal.cell_mut-requires
 cell_mut-requires c =
     let heading = heading_at c.args.stage in
     let step = c.args.step in
-    work_cell heading c.loop-shard.self c.home-member.result c.loop-shard.shard
-    (work_on heading (asks_at_each heading step.client step.seq c.args.ask.now c.loop-shard.shard) c.args.self.now c.loop-shard.self
-    c.requires.work c.loop-shard.invariant.plays)
-    c.home-member.ensures.member c.loop-shard-test.true
+    work_cell heading c.loop-shard.self (record { member = c.home-member.result; shard = c.loop-shard.shard }) (record {
+      work = work_on heading (asks_at_each heading step.client step.seq c.args.ask.now c.loop-shard.shard) c.args.self.now
+          c.loop-shard.self c.requires.work c.loop-shard.invariant.plays;
+      member = c.home-member.ensures.member;
+      shard = c.loop-shard-test.true;
+    })
 
 pub loop-shard-init : goal.loop-shard-init
 loop-shard-init c =

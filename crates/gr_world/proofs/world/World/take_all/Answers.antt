@@ -1,19 +1,12 @@
-use Rattle.std.proofs.Common.{◌≡◌, subst, sym, take}
+use Rattle.std.proofs.Common.{◌≡◌, subst, sym}
 use Rattle.std.proofs.lemmas.List.Elements.{All-from_recursion}
 use Rattle.gr_value.specs.Shard.{shard_of}
 use Rattle.gr_stamp.specs.declared.change.Change.{Change}
-use Rattle.gr_world.specs.Courses.{takes_all}
+use Rattle.gr_world.specs.Courses.{does}
+use Rattle.gr_world.specs.Doings.{Takes}
 use Rattle.gr_world.specs.Stages.{heading_at}
-use Rattle.gr_world.proofs.Handing.{takes_more_plays}
-use Rattle.gr_world.proofs.Worlds.{work_on}
+use Rattle.gr_world.proofs.Handing.{of_more_plays}
 use Rattle.gr_world.proofs.world.World.take_all.Goals as goal
-
-pub does-requires-clause-work : goal.does-requires-clause-work
-does-requires-clause-work c =
-    let heading = heading_at c.args.stage in
-    let site = c.args.site in
-    work_on heading (takes_all heading site.member site.shard (take c.loop-change.change-index c.args.changes.now)) c.args.self.now
-    c.loop-change.self c.requires.work c.loop-change.invariant
 
 pub does-requires-clause-here : goal.does-requires-clause-here
 does-requires-clause-here c =
@@ -24,5 +17,7 @@ does-requires-clause-here c =
 pub loop-change-preserved : goal.loop-change-preserved
 loop-change-preserved c =
     let site = c.args.site in
-    takes_more_plays (heading_at c.args.stage) c.args.self.now c.loop-change.self _ site.member site.shard c.args.changes.now
-    c.loop-change.change-index c.change-item.result c.loop-change-test.true c.change-item.is c.loop-change.invariant c.in_ok-does.ensures
+    let heading = heading_at c.args.stage in
+    of_more_plays heading (λ change. does heading site.member site.shard (Takes change)) c.args.changes.now c.loop-change.change-index
+    c.change-item.result c.args.self.now c.loop-change.self _ c.loop-change-test.true c.change-item.is c.loop-change.invariant
+    c.in_ok-does.ensures
