@@ -25,19 +25,6 @@ use Rattle.gr_world.specs.Events.{Event, history}
 use Rattle.gr_world.specs.Named.{made_by}
 use Rattle.gr_world.specs.Worlds.{IsWorld, Plays, account_left}
 
--- one member more, who is numbered from 1
-pub each_plays : (heading : Heading) (act : ℕ → List Event → List Event) (n : ℕ) (first now next : World)
-    → Plays heading (for_each n (λ k. act (suc k))) first now → Plays heading (act (n + 1)) now next
-    → Plays heading (for_each (n + 1) (λ k. act (suc k))) first next
-each_plays heading act n first now next so_far more events is =
-    let e : n + 1 ≡ suc n = omega arith in
-    let here = subst (λ k. Plays heading (act k) now next) e more in
-    rw add-one (here (for_each n (λ k. act (suc k)) events) (so_far events is))
-
-pub all_played : (heading : Heading) (act : ℕ → List Event → List Event) (n whole : ℕ) (first now : World) → n ≡ whole
-    → Plays heading (for_each n act) first now → Plays heading (for_each whole act) first now
-all_played heading act n whole first now e = subst (λ k. Plays heading (for_each k act) first now) e
-
 -- A shard that is seen is the course's.
 abbrev pub IsSeen : Heading → World → ℕ → ℕ → Account → Type 0
 IsSeen heading world member shard seen = (events : List Event) → IsWorld heading events world → seen ≡ account_left heading events member shard
@@ -56,25 +43,6 @@ pub close_plays : (heading : Heading) (old new : World) (member shard of : ℕ) 
 close_plays heading old new member shard of seen report is made plays events left =
     subst (λ one. IsWorld heading (does heading member shard (Hears one) events) new)
     (made ∙ seen_past (closing_report of) heading old member shard seen is events left) (plays events left)
-
--- one change more is taken in
-takes_more : (heading : Heading) (member shard : ℕ) (changes : List Change) (i : ℕ) (d : Change) (before : List Event) → i < length changes
-    → takes_new_all heading member shard (take (suc i) changes) before
-    ≡ takes_new heading member shard (get_or changes i d) (takes_new_all heading member shard (take i changes) before)
-takes_more heading member shard [] i d before less = absurd (omega (arith, less))
-takes_more heading member shard (change ∷ rest) zero d before less = refl
-takes_more heading member shard (change ∷ rest) (suc i) d before less =
-    takes_more heading member shard rest i d (takes_new heading member shard change before) (omega (arith, less))
-
-pub takes_more_plays : (heading : Heading) (first now next : World) (member shard : ℕ) (changes : List Change) (i : ℕ) (change : Change)
-    → i < length changes → change ≡ get_or changes i change
-    → Plays heading (takes_new_all heading member shard (take i changes)) first now
-    → Plays heading (takes_new heading member shard change) now next
-    → Plays heading (takes_new_all heading member shard (take (i + 1) changes)) first next
-takes_more_plays heading first now next member shard changes i change less is so_far more events world =
-    let before = takes_new_all heading member shard (take i changes) events in
-    let here = subst (λ one. IsWorld heading (takes_new heading member shard one before) next) is (more before (so_far events world)) in
-    rw add-one (subst (λ all. IsWorld heading all next) (sym (takes_more heading member shard changes i change events less)) here)
 
 -- What one took in another takes in.
 pub copies_plays : (heading : Heading) (old new : World) (of shard taker giver : ℕ) (seen : Account) (taken : List Change)

@@ -1,6 +1,6 @@
 -- Each line of a script can be done.
 use Rattle.std.proofs.Common.{◌≡◌, sym, subst, refl, ℕ, ◌<◌, List, [], ◌∷◌, length, reverse, get_or}
-use Rattle.std.specs.List.{AllByRecursion}
+use Rattle.std.specs.List.{All, AllByRecursion}
 use Rattle.std.proofs.lemmas.List.{reverse-reverse}
 use Rattle.std.proofs.lemmas.List.Elements.{All-from_recursion}
 use Rattle.gr_script.specs.declared.line.Line.{Line}
@@ -25,12 +25,11 @@ pub all_doable : (heading : Heading) (past : List Line) → IsHeading heading �
 all_doable heading [] is all = tt
 all_doable heading (line ∷ past) is all = (line_doable heading line past is all.0, all_doable heading past is all.1)
 
-pub can_do : (heading : Heading) (lines : List Line) → IsScript heading lines → (i : ℕ) (line : Line) → i < length lines
-    → line ≡ get_or lines i line → CanDo heading line
-can_do heading lines is i line less at =
-    let all = subst (AllByRecursion (CanDo heading)) (reverse-reverse lines)
-    (all-reverse (CanDo heading) (reverse lines) (all_doable heading (reverse lines) is.heading is.lines_stand)) in
-    subst (CanDo heading) (sym at) (All-from_recursion (CanDo heading) lines all i line less)
+pub lines_doable : (heading : Heading) (lines : List Line) → IsScript heading lines → All (CanDo heading) lines
+lines_doable heading lines is =
+    All-from_recursion (CanDo heading) lines
+    (subst (AllByRecursion (CanDo heading)) (reverse-reverse lines)
+    (all-reverse (CanDo heading) (reverse lines) (all_doable heading (reverse lines) is.heading is.lines_stand)))
 
 -- the line that follows those that were played
 pub next_doable : (heading : Heading) (played : List Line) (line : Line) → IsScript heading (reverse (line ∷ played)) → CanDo heading line

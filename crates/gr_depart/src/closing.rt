@@ -1,17 +1,16 @@
-ghost use Rattle.std.specs.Prelude.{◌≡◌, ◌<◌, IfOk, not, reverse};
+ghost use Rattle.std.specs.Prelude.{◌≡◌, IfOk, not, reverse};
 ghost use Rattle.gr_script.specs.declared.line.Line.TheVariants as line;
 ghost use Rattle.gr_script.specs.Rules.{IsMember};
 ghost use Rattle.gr_script.specs.Steps.{is_gone};
 ghost use Rattle.gr_world.specs.Courses.{after, closes, closes_all, sweeps_at, unless};
 ghost use Rattle.gr_world.specs.Departures.{closing_report};
-ghost use Rattle.gr_world.specs.Stages.{PlaysAt, heading_at};
+ghost use Rattle.gr_world.specs.Stages.{HasSite, PlaysAt, heading_at};
 ghost use Rattle.gr_world.specs.Worlds.{IsAtWork};
 
-use crate::gone::is_gone;
 use gr_shard::Shard;
 use gr_value::Memory;
 use gr_vector::{Report, SharedVector};
-use gr_world::{Site, Stage, Task, World};
+use gr_world::{Site, Stage, Task, World, is_gone};
 use std::alloc::Global;
 
 /// Where the places of closing reports begin, behind those of all others.
@@ -33,9 +32,7 @@ fn closing_report(alloc: Global, shard: &Shard, of: u8) -> Result<Report, Memory
 
 // A member hears the closing report of one that departed.
 fn close(world: &mut World, stage: Stage, site: Site, of: u8) -> Result<(), Memory>
-    requires work { IsAtWork (heading_at stage) world.old }
-    requires member { IsMember (heading_at stage) site.member }
-    requires shard { site.shard < stage.script.now.shards }
+    requires { HasSite (heading_at stage) world.old site }
     ensures { IfOk result (λ _. PlaysAt stage.entry (λ heading. closes heading site.member site.shard of) world.old world.new) }
 {
     let report = closing_report(stage.alloc, world.view(stage, site), of)?;
@@ -50,9 +47,7 @@ fn close_if_gone(
     site: Site,
     of: u8,
 ) -> Result<(), Memory>
-    requires work { IsAtWork (heading_at stage) world.old }
-    requires member { IsMember (heading_at stage) site.member }
-    requires shard { site.shard < stage.script.now.shards }
+    requires { HasSite (heading_at stage) world.old site }
     ensures { IfOk result
         (λ _. PlaysAt stage.entry
         (λ heading. unless (not (is_gone gone.now of)) (closes heading site.member site.shard of)) world.old world.new) }
@@ -65,9 +60,7 @@ fn close_if_gone(
 
 // It hears that of each that departed.
 fn close_all(world: &mut World, stage: Stage, gone: &[u8], site: Site) -> Result<(), Memory>
-    requires work { IsAtWork (heading_at stage) world.old }
-    requires member { IsMember (heading_at stage) site.member }
-    requires shard { site.shard < stage.script.now.shards }
+    requires { HasSite (heading_at stage) world.old site }
     ensures { IfOk result
         (λ _. PlaysAt stage.entry (λ heading. closes_all heading gone.now site.member site.shard) world.old world.new) }
 {
@@ -85,9 +78,7 @@ fn sweep_at(
     site: Site,
     moment: u64,
 ) -> Result<(), Memory>
-    requires work { IsAtWork (heading_at stage) world.old }
-    requires member { IsMember (heading_at stage) site.member }
-    requires shard { site.shard < stage.script.now.shards }
+    requires { HasSite (heading_at stage) world.old site }
     ensures { IfOk result
         (λ _. PlaysAt stage.entry (λ heading. sweeps_at heading gone.now site.member moment site.shard) world.old world.new) }
 {

@@ -6,15 +6,14 @@ ghost use Rattle.gr_script.specs.Rules.{IsMember};
 ghost use Rattle.gr_script.specs.Steps.{is_gone};
 ghost use Rattle.gr_world.specs.Courses.{after, copies, copies_all, delivers, for_each, hands_over, takes_new, takes_new_all, unless};
 ghost use Rattle.gr_world.specs.Departures.{taken_of};
-ghost use Rattle.gr_world.specs.Stages.{PlaysAt, heading_at};
+ghost use Rattle.gr_world.specs.Stages.{HasSite, PlaysAt, heading_at};
 ghost use Rattle.gr_world.specs.Worlds.{IsAtWork};
 
-use crate::gone::is_gone;
 use gr_history::Deed;
 use gr_shard::Shard;
 use gr_stamp::Change;
 use gr_value::{Copied, Memory};
-use gr_world::{Site, Stage, Task, World};
+use gr_world::{Site, Stage, Task, World, is_gone};
 use std::alloc::Global;
 
 // Whether the change's id is known at the shard.
@@ -52,9 +51,7 @@ fn taken_of(alloc: Global, shard: &Shard, of: u8) -> Result<Vec<Change>, Memory>
 // A member takes in a change that it doesn't know yet. What another one took in at this shard has a key of
 // it; where that weren't so, this gives up as where memory is refused.
 fn take_new(world: &mut World, stage: Stage, site: Site, change: &Change) -> Result<(), Memory>
-    requires work { IsAtWork (heading_at stage) world.old }
-    requires member { IsMember (heading_at stage) site.member }
-    requires shard { site.shard < stage.script.now.shards }
+    requires { HasSite (heading_at stage) world.old site }
     ensures { IfOk result
         (λ _. PlaysAt stage.entry (λ heading. takes_new heading site.member site.shard change.now) world.old world.new) }
 {
@@ -74,9 +71,7 @@ fn take_new_all(
     site: Site,
     changes: &[Change],
 ) -> Result<(), Memory>
-    requires work { IsAtWork (heading_at stage) world.old }
-    requires member { IsMember (heading_at stage) site.member }
-    requires shard { site.shard < stage.script.now.shards }
+    requires { HasSite (heading_at stage) world.old site }
     ensures { IfOk result
         (λ _. PlaysAt stage.entry (λ heading. takes_new_all heading site.member site.shard changes.now) world.old world.new) }
 {
@@ -88,10 +83,8 @@ fn take_new_all(
 
 // A member takes in the departed member's changes that another one took in.
 fn copy_from(world: &mut World, stage: Stage, site: Site, of: u8, giver: u8) -> Result<(), Memory>
-    requires work { IsAtWork (heading_at stage) world.old }
-    requires member { IsMember (heading_at stage) site.member }
+    requires site { HasSite (heading_at stage) world.old site }
     requires giver { IsMember (heading_at stage) giver }
-    requires shard { site.shard < stage.script.now.shards }
     ensures { IfOk result
         (λ _. PlaysAt stage.entry (λ heading. copies heading of site.shard site.member giver) world.old world.new) }
 {
@@ -112,10 +105,8 @@ fn copy_if_staying(
     of: u8,
     giver: u8,
 ) -> Result<(), Memory>
-    requires work { IsAtWork (heading_at stage) world.old }
-    requires member { IsMember (heading_at stage) site.member }
+    requires site { HasSite (heading_at stage) world.old site }
     requires giver { IsMember (heading_at stage) giver }
-    requires shard { site.shard < stage.script.now.shards }
     ensures { IfOk result
         (λ _. PlaysAt stage.entry
         (λ heading. unless (giver == site.member || is_gone gone.now giver) (copies heading of site.shard site.member giver))
@@ -130,9 +121,7 @@ fn copy_if_staying(
 
 // It takes in those of each other member that stays.
 fn copy_all(world: &mut World, stage: Stage, gone: &[u8], site: Site, of: u8) -> Result<(), Memory>
-    requires work { IsAtWork (heading_at stage) world.old }
-    requires member { IsMember (heading_at stage) site.member }
-    requires shard { site.shard < stage.script.now.shards }
+    requires { HasSite (heading_at stage) world.old site }
     ensures { IfOk result
         (λ _. PlaysAt stage.entry (λ heading. copies_all heading gone.now of site.shard site.member) world.old world.new) }
 {
@@ -150,9 +139,7 @@ fn take_if_staying(
     site: Site,
     of: u8,
 ) -> Result<(), Memory>
-    requires work { IsAtWork (heading_at stage) world.old }
-    requires member { IsMember (heading_at stage) site.member }
-    requires shard { site.shard < stage.script.now.shards }
+    requires { HasSite (heading_at stage) world.old site }
     ensures { IfOk result
         (λ _. PlaysAt stage.entry
         (λ heading. unless (is_gone gone.now site.member) (copies_all heading gone.now of site.shard site.member))

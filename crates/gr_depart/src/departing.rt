@@ -10,7 +10,6 @@ ghost use Rattle.gr_world.specs.Worlds.{IsAtWork, IsWorld};
 
 use crate::closing::sweep;
 use crate::copying::{deliver, depart};
-use crate::joining::join;
 use gr_durable::Turn;
 use gr_script::{Line, LineList, Script};
 use gr_value::{Copied, Memory};
@@ -57,7 +56,7 @@ impl Departing {
             Line::Report { member } => Ok(world.play(stage, Line::Report { member })?),
             Line::Hear { by, of, number } => Ok(world.play(stage, Line::Hear { by, of, number })?),
             Line::Sweep { member, moment } => Ok(sweep(world, stage, &self.gone, member, moment)?),
-            Line::Join { member, from } => Ok(join(world, stage, &self.gone, member, from)?),
+            Line::Join { member, from } => Ok(world.join(stage, &self.gone, member, from)?),
             Line::Depart { member } => {
                 self.gone.insert(0, member)?;
                 Ok(depart(world, stage, &self.gone, member)?)

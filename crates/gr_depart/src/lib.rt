@@ -4,8 +4,6 @@
 mod closing;
 mod copying;
 mod departing;
-mod gone;
-mod joining;
 mod playing;
 mod replaying;
 

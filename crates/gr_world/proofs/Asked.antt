@@ -8,14 +8,15 @@ use Rattle.gr_history.specs.Queries.{query_gives}
 use Rattle.gr_script.specs.declared.line.Act.TheVariants as act
 use Rattle.gr_script.specs.declared.line.Line.TheVariants.{Step}
 use Rattle.gr_script.specs.Rules.{Heading, IsMember, IsStated, home_of}
+use Rattle.gr_shard.specs.View.{Account}
 use Rattle.gr_world.specs.declared.world.World.{World}
 use Rattle.gr_world.specs.Courses.{does, after, asks_at_each}
 use Rattle.gr_world.specs.Doings.{Asks}
 use Rattle.gr_world.specs.Events.{Event, Gathered, history}
-use Rattle.gr_world.specs.Worlds.{AreAsked, HasMade, IsDone, IsWorld, Plays, told_also}
+use Rattle.gr_world.specs.Worlds.{AreAsked, HasMade, IsWorld, Plays, told_also, with_account}
 use Rattle.gr_world.proofs.Asking.{not_yet}
 use Rattle.gr_world.proofs.Lists.{numbers_more}
-use Rattle.gr_world.proofs.Worlds.{done_left, for_each_plays, kept_made, quiet_plays, tellings_next}
+use Rattle.gr_world.proofs.Worlds.{IsDone, done_left, for_each_plays, kept_made, quiet_plays, tellings_next}
 
 pub asked_none : (heading : Heading) (client seq : ℕ) (ask : QueryAsk) (replies : List QueryReply) (world : World) → replies ≡ []
     → AreAsked heading client seq ask 0 replies world world
@@ -26,20 +27,22 @@ asked_none heading client seq ask replies world none = record {
 
 -- One shard more is asked.
 pub asked_next : (heading : Heading) (client seq : ℕ) (ask : QueryAsk) (n : ℕ) (replies : List QueryReply) (reply : QueryReply)
-    (first now next : World) (member : ℕ) → IsMember heading member → n < heading.shards → member ≡ home_of heading client
+    (first now : World) (member : ℕ) (was longer : Account) → IsMember heading member → n < heading.shards → member ≡ home_of heading client
     → AreAsked heading client seq ask n replies first now
-    → IsDone now.grid next.grid member n (Asks client seq ask) (Asked client seq ask reply)
-    → next.tellings ≡ now.tellings → next.made ≡ now.made
-    → AreAsked heading client seq ask (n + 1) (replies ++ reply ∷ []) first next
-asked_next heading client seq ask n replies reply first now next member is within at_home asked done tells made_same = record {
+    → IsDone now.grid member n (Asks client seq ask) (Asked client seq ask reply) was longer
+    → AreAsked heading client seq ask (n + 1) (replies ++ reply ∷ []) first (record now { grid = with_account now.grid member n longer })
+asked_next heading client seq ask n replies reply first now member was longer is within at_home asked done = record {
   plays = for_each_plays heading (λ shard. does heading (home_of heading client) shard (Asks client seq ask)) n first now next asked.plays
       (subst (λ m. Plays heading (does heading m n (Asks client seq ask)) now next) at_home
-      (quiet_plays heading now next member n (Asks client seq ask) (Asked client seq ask reply)
-      (λ id opening past. record { unmade = λ c number. refl; untold = λ c. refl }) is within done tells made_same));
+      (quiet_plays heading now member n (Asks client seq ask) (Asked client seq ask reply) was longer
+      (λ id opening past. record { unmade = λ c number. refl; untold = λ c. refl }) is within done));
   replies_are = λ events world. numbers_more 0 n (λ shard. query_gives client ask (history (home_of heading client) shard events))
       replies reply (asked.replies_are events world) (gives events world);
 }
   where
+    next : World
+    next = record now { grid = with_account now.grid member n longer }
+
     same_reply : (a b : QueryReply) → Asked client seq ask a ≡ Asked client seq ask b → a ≡ b
     same_reply a b e = cc
 
@@ -47,7 +50,7 @@ asked_next heading client seq ask n replies reply first now next member is withi
         → reply ≡ query_gives client ask (history (home_of heading client) (0 + n) events)
     gives events world =
         let so_far = asks_at_each heading client seq ask n events in
-        let one = done_left heading so_far now.grid next.grid member n (Asks client seq ask) (Asked client seq ask reply) is within
+        let one = done_left heading so_far now.grid member n (Asks client seq ask) (Asked client seq ask reply) was longer is within
         (asked.plays events world).grid_is done in
         let e : n ≡ 0 + n = omega arith in
         same_reply reply (query_gives client ask (history member n so_far)) one.0

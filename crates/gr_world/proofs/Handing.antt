@@ -1,8 +1,6 @@
 -- A joiner takes in what every other member gives it.
 use Rattle.std.proofs.Common.{zero, suc, ◌≡◌, ◌∙◌, ap, sym, subst, refl, ℕ, ◌+◌, ◌<◌, List, [], ◌∷◌, length, take, get_or, add-one, arith}
-use Rattle.std.specs.List.{AllByRecursion}
 use Rattle.std.proofs.lemmas.List.{reverse-reverse}
-use Rattle.gr_value.specs.Shard.{shard_of}
 use Rattle.gr_stamp.specs.declared.change.Change.{Change}
 use Rattle.gr_history.specs.declared.deed.Deed.{Deed}
 use Rattle.gr_history.specs.declared.image.Gift.{Gift}
@@ -16,41 +14,31 @@ use Rattle.gr_history.specs.Ids.{known}
 use Rattle.gr_history.specs.Regions.{all_standing}
 use Rattle.gr_history.specs.Room.{HasNoRoom}
 use Rattle.gr_shard.specs.Merges.{IsGiftFor}
+use Rattle.gr_shard.specs.View.{Account}
 use Rattle.gr_script.specs.Rules.{Heading, IsMember}
 use Rattle.gr_world.specs.declared.world.World.{World}
-use Rattle.gr_world.specs.Courses.{does, gives, identity_at, takes_all, takes_gift}
-use Rattle.gr_world.specs.Doings.{Takes, Gives}
+use Rattle.gr_world.specs.Courses.{does, for_each_of, gives, identity_at, takes_gift}
+use Rattle.gr_world.specs.Doings.{Gives}
 use Rattle.gr_world.specs.Events.{Event, history}
 use Rattle.gr_world.specs.Tasks.{IsGiven}
-use Rattle.gr_world.specs.Worlds.{IsAtWork, IsWorld, Plays, account_at}
+use Rattle.gr_world.specs.Worlds.{IsWorld, Plays, account_at}
 use Rattle.gr_world.proofs.Worlds.{Adds, cell_left, quiet_plays}
 
--- one change more is taken in
-takes_more : (heading : Heading) (member shard : ℕ) (changes : List Change) (i : ℕ) (d : Change) (before : List Event) → i < length changes
-    → takes_all heading member shard (take (suc i) changes) before
-    ≡ does heading member shard (Takes (get_or changes i d)) (takes_all heading member shard (take i changes) before)
-takes_more heading member shard [] i d before less = absurd (omega (arith, less))
-takes_more heading member shard (change ∷ rest) zero d before less = refl
-takes_more heading member shard (change ∷ rest) (suc i) d before less =
-    takes_more heading member shard rest i d (does heading member shard (Takes change) before) (omega (arith, less))
+-- one item more
+of_more : {A : Type 0} (act : A → List Event → List Event) (items : List A) (i : ℕ) (d : A) (before : List Event) → i < length items
+    → for_each_of act (take (suc i) items) before ≡ act (get_or items i d) (for_each_of act (take i items) before)
+of_more act [] i d before less = absurd (omega (arith, less))
+of_more act (item ∷ rest) zero d before less = refl
+of_more act (item ∷ rest) (suc i) d before less = of_more act rest i d (act item before) (omega (arith, less))
 
-pub takes_more_plays : (heading : Heading) (first now next : World) (member shard : ℕ) (changes : List Change) (i : ℕ) (change : Change)
-    → i < length changes → change ≡ get_or changes i change
-    → Plays heading (takes_all heading member shard (take i changes)) first now
-    → Plays heading (does heading member shard (Takes change)) now next
-    → Plays heading (takes_all heading member shard (take (i + 1) changes)) first next
-takes_more_plays heading first now next member shard changes i change less is so_far more events world =
-    let before = takes_all heading member shard (take i changes) events in
-    let here = subst (λ one. IsWorld heading (does heading member shard (Takes one) before) next) is (more before (so_far events world)) in
-    rw add-one (subst (λ all. IsWorld heading all next) (sym (takes_more heading member shard changes i change events less)) here)
-
--- each of the changes is of the shard
-shard_here : (shards shard : ℕ) (changes : List Change) (i : ℕ) (d : Change)
-    → AllByRecursion (λ change. shard_of change.key shards ≡ shard) changes → i < length changes
-    → shard_of (get_or changes i d).key shards ≡ shard
-shard_here shards shard [] i d all less = absurd (omega (arith, less))
-shard_here shards shard (change ∷ rest) zero d all less = all.0
-shard_here shards shard (change ∷ rest) (suc i) d all less = shard_here shards shard rest i d all.1 (omega (arith, less))
+pub of_more_plays : {A : Type 0} (heading : Heading) (act : A → List Event → List Event) (items : List A) (i : ℕ) (item : A)
+    (first now next : World) → i < length items → item ≡ get_or items i item
+    → Plays heading (for_each_of act (take i items)) first now → Plays heading (act item) now next
+    → Plays heading (for_each_of act (take (i + 1) items)) first next
+of_more_plays heading act items i item first now next less is so_far more events world =
+    let before = for_each_of act (take i items) events in
+    let here = subst (λ one. IsWorld heading (act one before) next) is (more before (so_far events world)) in
+    rw add-one (subst (λ all. IsWorld heading all next) (sym (of_more act items i item events less)) here)
 
 -- ---- what is given
 
@@ -90,29 +78,12 @@ fits_too heading giver joiner shard (gift.Image image) fits =
     record { in_order = fits.in_order; of_shard = fits.of_shard; low = fits.low }
 fits_too heading giver joiner shard (gift.Own changes) fits = fits
 
--- whose shard a cell is
-pub work_id : (heading : Heading) (world : World) (member shard : ℕ) → IsAtWork heading world → IsMember heading member
-    → shard < heading.shards → (account_at world.grid member shard).id ≡ identity_at heading member shard
-work_id heading world member shard (events, left) is within =
-    ap (λ grid. (account_at grid member shard).id) left.grid_is ∙ ap (λ account. account.id)
-    (cell_left heading events member shard is within)
-
--- and its changes belong there
-pub item_here : (heading : Heading) (world : World) (member shard : ℕ) (changes : List Change) (i : ℕ) (change : Change)
-    → IsAtWork heading world → IsMember heading member → shard < heading.shards
-    → AllByRecursion (λ change. shard_of change.key heading.shards ≡ shard) changes → i < length changes → change ≡ get_or changes i change
-    → shard_of change.key (account_at world.grid member shard).id.shards ≡ (account_at world.grid member shard).id.shard
-item_here heading world member shard changes i change work is within all less at =
-    let id = work_id heading world member shard work is within in
-    ap (λ d. shard_of change.key d.shards) id ∙ ap (λ c. shard_of c.key heading.shards) at
-    ∙ shard_here heading.shards shard changes i change all less ∙ sym (ap (λ d. d.shard) id)
-
 -- ---- a gift is given and taken in
 
-pub give_plays : (heading : Heading) (old new : World) (giver shard joiner : ℕ) (what_ : What) (deed : Deed)
-    → Adds heading old new giver shard (Gives joiner what_) deed
-give_plays heading old new giver shard joiner what_ deed =
-    quiet_plays heading old new giver shard (Gives joiner what_) deed
+pub give_plays : (heading : Heading) (old : World) (giver shard joiner : ℕ) (what_ : What) (deed : Deed) (was now : Account)
+    → Adds heading old giver shard (Gives joiner what_) deed was now
+give_plays heading old giver shard joiner what_ deed was now =
+    quiet_plays heading old giver shard (Gives joiner what_) deed was now
     (λ id opening past. record { unmade = λ client number. refl; untold = λ client. refl })
 
 gives_are : (heading : Heading) (joiner shard giver : ℕ) (what_ : What) (before : List Event)

@@ -18,6 +18,7 @@ pub mod Served
 pub mod Left
 pub mod Lists
 pub mod Worlds
+pub mod Rounds
 pub mod Leaving
 pub mod Playable
 pub mod Scripts

@@ -1,4 +1,4 @@
--- What another crate does at a shard of a world.
+-- What is seen and done at one shard of a world.
 use Rattle.std.proofs.Common.{◌≡◌, ◌∙◌, ap, sym, subst, ℕ, ◌<◌, ◌≤◌, List}
 use Rattle.gr_value.specs.Shard.{shard_of}
 use Rattle.gr_history.specs.declared.identity.Identity.{Identity}
@@ -6,10 +6,13 @@ use Rattle.gr_history.specs.Asks.{key_of}
 use Rattle.gr_shard.specs.Merges.{IsImageFor}
 use Rattle.gr_shard.specs.View.{Account}
 use Rattle.gr_script.specs.Rules.{Heading, IsMember}
+use Rattle.gr_world.specs.declared.site.Site.{Site}
 use Rattle.gr_world.specs.declared.world.World.{World}
 use Rattle.gr_world.specs.Doings.{Doing, Calls, Takes, Gives, Merges, Reports, Hears, Sweeps, Asks}
 use Rattle.gr_world.specs.Events.{Event}
 use Rattle.gr_world.specs.Tasks.{BelongsTo}
+use Rattle.gr_world.specs.Courses.{identity_at}
+use Rattle.gr_world.specs.Stages.{HasSite}
 use Rattle.gr_world.specs.Worlds.{IsWorld, account_at, account_left}
 use Rattle.gr_world.proofs.Worlds.{cell_left}
 
@@ -31,3 +34,9 @@ pub seen_left : (heading : Heading) (world : World) (member shard : ℕ) (seen :
     → seen ≡ account_left heading events member shard
 seen_left heading world member shard seen is within at events left =
     at ∙ ap (λ grid. account_at grid member shard) left.grid_is ∙ cell_left heading events member shard is within
+
+-- and so is whose it is
+pub work_id : (heading : Heading) (world : World) (site : Site) (seen : Account) → HasSite heading world site
+    → seen ≡ account_at world.grid site.member site.shard → seen.id ≡ identity_at heading site.member site.shard
+work_id heading world site seen has at =
+    ap (λ account. account.id) (seen_left heading world site.member site.shard seen has.member has.shard at has.work.0 has.work.1)

@@ -70,15 +70,17 @@ all-reverse P [] all = tt
 all-reverse P (x ∷ xs) all = subst (AllByRecursion P) (sym (reverse_onto xs x []))
     (all-append P (reverse xs) (x ∷ []) (all-reverse P xs all.1) (all.0, tt))
 
-lines_playable : (heading : Heading) (lines : List Line) → IsScript heading lines → departed lines ≡ [] → All (CanPlay heading) lines
+pub lines_playable : (heading : Heading) (lines : List Line) → IsScript heading lines → departed lines ≡ [] → All (CanPlay heading) lines
 lines_playable heading lines is none =
     All-from_recursion (CanPlay heading) lines
     (subst (AllByRecursion (CanPlay heading)) (reverse-reverse lines)
     (all-reverse _ (reverse lines) (all_playable heading (reverse lines) is.heading is.lines_stand (none_departs lines none))))
 
-pub can_play : (heading : Heading) (lines : List Line) → IsScript heading lines → departed lines ≡ []
-    → (i : ℕ) (line : Line) → i < length lines → line ≡ get_or lines i line → CanPlay heading line
-can_play heading lines is none i line less at = subst (CanPlay heading) (sym at) (lines_playable heading lines is none i line less)
+-- What holds of each line holds of the copy of one.
+pub copied_line : (P : Line → Type 0) (lines items : List Line) (i : ℕ) (line copied : Line) → All P lines → items ≡ lines → copied ≡ line
+    → i < length items → line ≡ get_or items i line → P copied
+copied_line P lines items i line copied all same copy less at =
+    subst P (sym copy) (subst P (sym at) (subst (All P) (sym same) all i line less))
 
 behind_stands : (heading : Heading) (front past : List Line) → AllStand heading (front ++ past) → AllStand heading past
 behind_stands heading [] past all = all

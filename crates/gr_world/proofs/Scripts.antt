@@ -1,6 +1,8 @@
 -- The rows are scripts.
-use Rattle.std.proofs.Common.{ℕ, ◌≤◌, List, [], ◌∷◌, length, codes, refl, arith, reverse}
-use Rattle.gr_script.specs.Rules.{heading, IsHeading, IsScript, IsWithin, AreWithin, AllStand, AllNameStaying, AllAttend}
+use Rattle.std.proofs.Common.{ℕ, ◌≤◌, List, [], ◌∷◌, length, codes, refl, arith, reverse, subst, sym}
+use Rattle.std.proofs.lemmas.List.{reverse-reverse}
+use Rattle.gr_script.specs.declared.line.Line.{Line}
+use Rattle.gr_script.specs.Rules.{Heading, heading, IsHeading, IsScript, IsWithin, AreWithin, AllStand, AllNameStaying, AllAttend}
 use Rattle.gr_world.specs.Rows.{two_members, three_members, concurrent, repeated, joining}
 
 -- two facts as one
@@ -83,26 +85,23 @@ repeated-attended = tt & tt & refl & tt
 joining-attended : AllAttend joining
 joining-attended = refl & tt & tt & tt & tt & tt & tt & tt & tt & refl & tt & refl & tt
 
+-- Lines, the last one first, of which all this holds are a script.
+is_script : (heading : Heading) (past : List Line) → IsHeading heading → AllStand heading past → AllNameStaying heading past
+    → AllAttend past → IsScript heading (reverse past)
+is_script heading past is stand staying attended =
+    let same = sym (reverse-reverse past) in
+    record {
+      heading = is;
+      lines_stand = subst (AllStand heading) same stand;
+      names_staying = subst (AllNameStaying heading) same staying;
+      attended = subst AllAttend same attended;
+    }
+
 pub concurrent-script : IsScript two_members (reverse concurrent)
-concurrent-script = record {
-  heading = two-heading;
-  lines_stand = concurrent-stand;
-  names_staying = concurrent-staying;
-  attended = concurrent-attended;
-}
+concurrent-script = is_script two_members concurrent two-heading concurrent-stand concurrent-staying concurrent-attended
 
 pub repeated-script : IsScript two_members (reverse repeated)
-repeated-script = record {
-  heading = two-heading;
-  lines_stand = repeated-stand;
-  names_staying = repeated-staying;
-  attended = repeated-attended;
-}
+repeated-script = is_script two_members repeated two-heading repeated-stand repeated-staying repeated-attended
 
 pub joining-script : IsScript three_members (reverse joining)
-joining-script = record {
-  heading = three-heading;
-  lines_stand = joining-stand;
-  names_staying = joining-staying;
-  attended = joining-attended;
-}
+joining-script = is_script three_members joining three-heading joining-stand joining-staying joining-attended

@@ -21,7 +21,9 @@ use Rattle.gr_script.specs.declared.line.Line.TheVariants.{Step, Deliver}
 use Rattle.gr_script.specs.declared.script.Script.{Script}
 use Rattle.gr_script.specs.Rules.{Heading, IsMember, IsStated, home_of}
 use Rattle.gr_script.specs.Scripts.{heading_of}
+use Rattle.gr_world.specs.declared.site.Site.{Site}
 use Rattle.gr_world.specs.declared.world.World.{World}
+use Rattle.gr_world.specs.Stages.{HasSite}
 use Rattle.gr_world.specs.Events.{Event, Did, Peeked, Gathered, put_if, history}
 use Rattle.gr_world.specs.Clients.{Numbered, add_some, told, told_by, told_by_deed}
 use Rattle.gr_world.specs.Noted.{Notes, place_of}
@@ -32,10 +34,10 @@ use Rattle.gr_world.specs.Named.{made_by, made_by_deed, numbered, or_else, repor
 use Rattle.gr_world.specs.Tasks.{doing_of}
 use Rattle.gr_world.specs.declared.task.Task.{Task}
 use Rattle.gr_world.specs.declared.task.Task.TheVariants as task
-use Rattle.gr_world.specs.Courses.{identity_at, closes_all, does, delivers, for_each, hears, hears_of, after, sweeps_at, unless, closes}
+use Rattle.gr_world.specs.Courses.{identity_at, does, delivers, for_each, hears, hears_of, after, sweeps_at, unless, closes}
 use Rattle.gr_world.specs.declared.place.DeedPlace.{DeedPlace}
-use Rattle.gr_world.specs.Worlds.{HasMade, IsAtWork, IsCell, IsDone, IsFound, IsWorld, Plays, StandsAt, account_at, account_in}
-use Rattle.gr_world.specs.Worlds.{account_left, deed_at, grid_left, grid_with, longer, no_account, row_with, tellings_left, told_also}
+use Rattle.gr_world.specs.Worlds.{HasMade, IsAtWork, IsCell, IsFound, IsWorld, Plays, StandsAt, account_at, account_in}
+use Rattle.gr_world.specs.Worlds.{account_left, deed_at, grid_left, longer, no_account, tellings_left, told_also, with_account}
 use Rattle.gr_stamp.specs.declared.change.Change.{Change}
 use Rattle.gr_history.specs.declared.identity.Identity.{Identity}
 use Rattle.gr_vector.specs.declared.report.Report.{Report}
@@ -96,7 +98,8 @@ apart : (a b : ℕ) → (a ≡ b → ⊥) → (a == b) ≡ false
 apart a b h = grind (arith, nat_tests)
 
 row_next : (heading : Heading) (events : List Event) (member shard : ℕ) (deed : Deed) → shard < heading.shards
-    → row_with (row_left heading events member) shard deed ≡ row_left heading (Did member shard deed ∷ events) member
+    → set (row_left heading events member) shard (longer (account_left heading events member shard) deed)
+    ≡ row_left heading (Did member shard deed ∷ events) member
 unfolding account_of
 row_next heading events member shard deed within =
     let old = account_left heading events member in
@@ -106,8 +109,7 @@ row_next heading events member shard deed within =
     let here : longer (old shard) deed ≡ new shard =
     ap (λ deeds. record (old shard) { deeds = deeds }) (sym (reverse_onto past deed []))
     ∙ ap (account_of heading member shard) (sym (history_here member shard deed events)) in
-    ap (λ account. set (row_left heading events member) shard (longer account deed)) (account_in_row heading events member shard within)
-    ∙ ap (set (row_left heading events member) shard) (here ∙ ap new e)
+    ap (set (row_left heading events member) shard) (here ∙ ap new e)
     ∙ numbers_set 0 heading.shards shard old new within
     (λ k low high other. ap (account_of heading member k)
     (other_shard_here (k == shard) (member == member) (apart k shard (λ is. other (is ∙ e))) deed (history member k events)))
@@ -115,13 +117,15 @@ row_next heading events member shard deed within =
 -- One deed more at a member's shard.
 pub grid_next : (heading : Heading) (events : List Event) (member shard : ℕ) (deed : Deed) → IsMember heading member
     → shard < heading.shards
-    → grid_with (grid_left heading events) member shard deed ≡ grid_left heading (Did member shard deed ∷ events)
+    → with_account (grid_left heading events) member shard (longer (account_left heading events member shard) deed)
+    ≡ grid_left heading (Did member shard deed ∷ events)
 unfolding account_of
 grid_next heading events member shard deed is within =
     let old = row_left heading events in
     let new = row_left heading (Did member shard deed ∷ events) in
     let e : member ≡ 1 + (member - 1) = omega (arith, is.0) in
-    ap (λ row. set (grid_left heading events) (member - 1) (row_with row shard deed)) (row_at heading events member is)
+    ap (λ row. set (grid_left heading events) (member - 1) (set row shard (longer (account_left heading events member shard) deed)))
+    (row_at heading events member is)
     ∙ ap (set (grid_left heading events) (member - 1)) (row_next heading events member shard deed within ∙ ap new e)
     ∙ numbers_set 1 heading.members (member - 1) old new (omega (arith, is.0, is.1))
     (λ k low high other. numbers_same 0 heading.shards (account_left heading events k)
@@ -162,19 +166,30 @@ tellings_next heading events event client number told_now is tells =
     if_other : {b : Bool} → b ≡ false → (one : Numbered) → (if b then Some one else None) ≡ None
     if_other h one = rw h refl
 
+-- A member's shard was lent, and has the one deed more that its history tells.
+pub record IsDone (grid : List (List Account)) (member shard : ℕ) (doing : Doing) (deed : Deed) (was now : Account) : Type 0 where
+  pub lent : was ≡ account_at grid member shard
+  pub deed_is : deed ≡ deed_at was doing
+  pub added : now ≡ longer was deed
+
 -- What is done at a shard of the grid is done to its course.
-pub done_left : (heading : Heading) (events : List Event) (old new : List (List Account)) (member shard : ℕ) (doing : Doing) (deed : Deed)
-    → IsMember heading member → shard < heading.shards → old ≡ grid_left heading events → IsDone old new member shard doing deed
+pub done_left : (heading : Heading) (events : List Event) (grid : List (List Account)) (member shard : ℕ) (doing : Doing) (deed : Deed)
+    (was now : Account) → IsMember heading member → shard < heading.shards → grid ≡ grid_left heading events
+    → IsDone grid member shard doing deed was now
     → (deed ≡ deed_of (identity_at heading member shard) heading.floor (history member shard events) doing)
-    × (new ≡ grid_left heading (does heading member shard doing events))
-done_left heading events old new member shard doing deed is within same done =
+    × (with_account grid member shard now ≡ grid_left heading (does heading member shard doing events))
+done_left heading events grid member shard doing deed was now is within same done =
     let past = history member shard events in
+    let left = account_left heading events member shard in
+    let was_is : was ≡ left =
+    done.lent ∙ ap (λ g. account_at g member shard) same ∙ cell_left heading events member shard is within in
     let deed_is : deed ≡ deed_of (identity_at heading member shard) heading.floor past doing =
-    done.deed_is ∙ ap (λ grid. deed_at (account_at grid member shard) doing) same
-    ∙ ap (λ account. deed_at account doing) (cell_left heading events member shard is within)
+    done.deed_is ∙ ap (λ account. deed_at account doing) was_is
     ∙ ap (λ p. deed_of (identity_at heading member shard) heading.floor p doing) (reverse-reverse past) in (
       deed_is,
-      done.added ∙ ap (λ grid. grid_with grid member shard deed) same ∙ ap (grid_with (grid_left heading events) member shard) deed_is
+      ap (λ g. with_account g member shard now) same
+          ∙ ap (with_account (grid_left heading events) member shard)
+          (done.added ∙ ap (λ account. longer account deed) was_is ∙ ap (longer left) deed_is)
           ∙ grid_next heading events member shard _ is within,
     )
 
@@ -235,19 +250,21 @@ placed place None = refl
 placed place (Some change) = refl
 
 -- A call adds its deed and tells its reply, and where what it made stands is noted.
-pub call_plays : (heading : Heading) (old new : World) (member shard at client seq : ℕ) (ask : Ask) (done : Done)
+pub call_plays : (heading : Heading) (old new : World) (member shard at client seq : ℕ) (ask : Ask) (done : Done) (was now : Account)
     → IsMember heading member → IsStated client heading
     → member ≡ home_of heading client → shard ≡ shard_of (key_of ask) heading.shards → shard < heading.shards
-    → IsDone old.grid new.grid member shard (Calls client seq ask) (call_with client seq ask done)
+    → IsDone old.grid member shard (Calls client seq ask) (call_with client seq ask done) was now
+    → new.grid ≡ with_account old.grid member shard now
     → at ≡ length (account_at old.grid member shard).deeds
     → (1 < heading.members
     → Notes client seq (option_map (λ _. record { site = record { member = member; shard = shard }; at = at }) done.made) old.made new.made)
     → new.tellings ≡ told_also old.tellings client (answer.Reply done.reply)
     → Plays heading (after heading [] (Step client seq (act.Call ask))) old new
-call_plays heading old new member shard at client seq ask done is stated at_home at_shard within called behind notes tells events world =
+call_plays heading old new member shard at client seq ask done was now is stated at_home at_shard within called grid_is behind notes tells
+    events world =
     let doing = Calls client seq ask in
     let past = history member shard events in
-    let made = done_left heading events old.grid new.grid member shard doing deed is within world.grid_is called in
+    let made = done_left heading events old.grid member shard doing deed was now is within world.grid_is called in
     let did : List Event = Did member shard deed ∷ events in
     let same : did ≡ does heading member shard doing events = ap (λ one. Did member shard one ∷ events) made.0 in
     let tellings : new.tellings ≡ tellings_left heading did =
@@ -257,7 +274,7 @@ call_plays heading old new member shard at client seq ask done is stated at_home
     behind ∙ ap (λ grid. length (account_at grid member shard).deeds) world.grid_is
     ∙ ap (λ account. length account.deeds) (cell_left heading events member shard is within) ∙ length-reverse past in
     let here : IsWorld heading (does heading member shard doing events) new = record {
-      grid_is = made.1;
+      grid_is = grid_is ∙ made.1;
       tellings_are = tellings ∙ ap (tellings_left heading) same;
       made_are = subst (λ all. HasMade heading all new.made) same
           (λ many own number. subst (λ found. IsFound heading did found (made_by own number did)) (sym (notes many own number))
@@ -302,35 +319,32 @@ untold_left heading events member shard deed quiet =
     (λ client low high. ap (λ o. numbered_answers (add_some o (told client events))) (sym (quiet.untold client)))
 
 -- What is done at a shard is all that is done.
-abbrev pub Adds : Heading → World → World → ℕ → ℕ → Doing → Deed → Type 0
-Adds heading old new member shard doing deed =
-    IsMember heading member → shard < heading.shards
-    → IsDone old.grid new.grid member shard doing deed
-    → new.tellings ≡ old.tellings → new.made ≡ old.made
-    → Plays heading (does heading member shard doing) old new
+abbrev pub Adds : Heading → World → ℕ → ℕ → Doing → Deed → Account → Account → Type 0
+Adds heading old member shard doing deed was now =
+    IsMember heading member → shard < heading.shards → IsDone old.grid member shard doing deed was now
+    → Plays heading (does heading member shard doing) old (record old { grid = with_account old.grid member shard now })
 
 -- What is quiet adds its deed.
-pub quiet_plays : (heading : Heading) (old new : World) (member shard : ℕ) (doing : Doing) (deed : Deed)
+pub quiet_plays : (heading : Heading) (old : World) (member shard : ℕ) (doing : Doing) (deed : Deed) (was now : Account)
     → ((id : Identity) (opening : ℕ) (past : List Deed) → IsQuiet (deed_of id opening past doing))
-    → Adds heading old new member shard doing deed
-quiet_plays heading old new member shard doing deed is_quiet is within did tells made_same events world =
+    → Adds heading old member shard doing deed was now
+quiet_plays heading old member shard doing deed was now is_quiet is within did events world =
     let past = history member shard events in
-    let done = done_left heading events old.grid new.grid member shard doing deed is within world.grid_is did in
+    let done = done_left heading events old.grid member shard doing deed was now is within world.grid_is did in
     let added = deed_of (identity_at heading member shard) heading.floor past doing in
     let quiet = is_quiet (identity_at heading member shard) heading.floor past in
     record {
       grid_is = done.1;
-      tellings_are = tells ∙ world.tellings_are ∙ untold_left heading events member shard added quiet;
-      made_are = subst (HasMade heading (Did member shard added ∷ events)) (sym made_same)
-          (kept_made heading (Did member shard added) events old.made
-          (λ client number. ap (λ o. or_else o (made_by client number events)) (sym (quiet.unmade client number))) world.made_are);
+      tellings_are = world.tellings_are ∙ untold_left heading events member shard added quiet;
+      made_are = kept_made heading (Did member shard added) events old.made
+          (λ client number. ap (λ o. or_else o (made_by client number events)) (sym (quiet.unmade client number))) world.made_are;
     }
 
 -- A task adds its deed.
-pub task_plays : (heading : Heading) (old new : World) (member shard : ℕ) (task_ : Task) (deed : Deed)
-    → Adds heading old new member shard (doing_of task_) deed
-task_plays heading old new member shard task_ deed =
-    quiet_plays heading old new member shard (doing_of task_) deed (λ id opening past. quiet_task id opening past task_)
+pub task_plays : (heading : Heading) (old : World) (member shard : ℕ) (task_ : Task) (deed : Deed) (was now : Account)
+    → Adds heading old member shard (doing_of task_) deed was now
+task_plays heading old member shard task_ deed was now =
+    quiet_plays heading old member shard (doing_of task_) deed was now (λ id opening past. quiet_task id opening past task_)
 
 -- what a step made, by each course that left the world
 abbrev pub IsChangeOf : Heading → World → ℕ → ℕ → Option Change → Type 0
@@ -437,36 +451,28 @@ shard_within key shard shards some is = mod_within (key_hash key) shards some is
     mod_within a n some is = omega (arith, some, is)
 
 -- there is a cell for each member and shard
-pub work_cell : (heading : Heading) (world : World) (member shard : ℕ) → IsAtWork heading world → IsMember heading member
-    → shard < heading.shards
-    → IsCell world.grid member shard
-work_cell heading world member shard (events, left) is within =
-    subst (λ grid. IsCell grid member shard) (sym left.grid_is) (is_cell heading events member shard is within)
+pub work_cell : (heading : Heading) (world : World) (site : Site) → HasSite heading world site → IsCell world.grid site.member site.shard
+work_cell heading world site has =
+    subst (λ grid. IsCell grid site.member site.shard) (sym has.work.1.grid_is)
+    (is_cell heading has.work.0 site.member site.shard has.member has.shard)
 
 -- also where the shard is that of a key
 pub key_cell : (script : Script) (world : World) (member shard : ℕ) (key : List ℕ) → IsAtWork (heading_of script) world
     → IsMember (heading_of script) member → shard ≡ shard_of key script.shards
     → IsCell world.grid member shard
 key_cell script world member shard key work is at_shard =
-    work_cell (heading_of script) world member shard work is
-    (shard_within key shard script.shards script.ruled.heading.shards.0 at_shard)
-
--- and a key's change belongs to the shard of its key
-pub work_shard : (heading : Heading) (world : World) (member shard : ℕ) (key : List ℕ) → IsAtWork heading world → IsMember heading member
-    → 1 ≤ heading.shards → shard ≡ shard_of key heading.shards
-    → shard_of key (account_at world.grid member shard).id.shards ≡ (account_at world.grid member shard).id.shard
-work_shard heading world member shard key (events, left) is some at_shard =
-    let within = shard_within key shard heading.shards some at_shard in
-    let cell : account_at world.grid member shard ≡ account_left heading events member shard =
-    ap (λ grid. account_at grid member shard) left.grid_is ∙ cell_left heading events member shard is within in
-    ap (λ account. shard_of key account.id.shards) cell ∙ sym at_shard ∙ sym (ap (λ account. account.id.shard) cell)
+    work_cell (heading_of script) world (record { member = member; shard = shard }) (record {
+      work = work;
+      member = is;
+      shard = shard_within key shard script.shards script.ruled.heading.shards.0 at_shard;
+    })
 
 -- What plays leaves a world that is at work.
 pub work_on : (heading : Heading) (act : List Event → List Event) (old new : World) → IsAtWork heading old → Plays heading act old new
     → IsAtWork heading new
 work_on heading act old new (events, left) plays = (act events, plays events left)
 
--- one shard more
+-- one number more
 pub for_each_plays : (heading : Heading) (act : ℕ → List Event → List Event) (n : ℕ) (first now next : World)
     → Plays heading (for_each n act) first now → Plays heading (act n) now next → Plays heading (for_each (n + 1) act) first next
 for_each_plays heading act n first now next so_far more events is =

@@ -53,6 +53,11 @@ abbrev pub for_each : ℕ → (ℕ → List Event → List Event) → List Event
 for_each zero act before = before
 for_each (suc n) act before = act n (for_each n act before)
 
+-- for each of these, in order
+abbrev pub for_each_of : {A : Type 0} → (A → List Event → List Event) → List A → List Event → List Event
+for_each_of act [] before = before
+for_each_of act (item ∷ rest) before = for_each_of act rest (act item before)
+
 -- A client asks something of a query at the shards below n of its member.
 abbrev pub asks_at_each : Heading → ℕ → ℕ → QueryAsk → ℕ → List Event → List Event
 asks_at_each heading client number ask n =
@@ -90,9 +95,7 @@ abbrev pub hears_of : Heading → ℕ → ℕ → ℕ → ℕ → List Event →
 hears_of heading member of number shard now = hears heading member shard (numbered number (reports (history of shard now))) now
 
 abbrev pub takes_all : Heading → ℕ → ℕ → List Change → List Event → List Event
-takes_all heading member shard [] before = before
-takes_all heading member shard (change ∷ rest) before =
-    takes_all heading member shard rest (does heading member shard (Takes change) before)
+takes_all heading member shard = for_each_of (λ change. does heading member shard (Takes change))
 
 -- A joiner takes in what it was given: it merges an image, and takes in changes.
 abbrev pub takes_gift : Heading → ℕ → ℕ → Gift → List Event → List Event
@@ -145,9 +148,7 @@ takes_new heading member shard change before =
 
 -- the same of each of these, in order
 abbrev pub takes_new_all : Heading → ℕ → ℕ → List Change → List Event → List Event
-takes_new_all heading member shard [] before = before
-takes_new_all heading member shard (change ∷ rest) before =
-    takes_new_all heading member shard rest (takes_new heading member shard change before)
+takes_new_all heading member shard = for_each_of (takes_new heading member shard)
 
 -- A member takes in the departed member's changes that another one took in, the oldest first.
 abbrev pub copies : Heading → ℕ → ℕ → ℕ → ℕ → List Event → List Event

@@ -58,16 +58,9 @@ gives_at account ask = call_gives account.id account.opening (reverse account.de
 abbrev pub longer : Account → Deed → Account
 longer account deed = after_deed account deed
 
-abbrev pub row_with : List Account → ℕ → Deed → List Account
-row_with row shard deed = set row shard (longer (account_in row shard) deed)
-
-abbrev pub grid_with : List (List Account) → ℕ → ℕ → Deed → List (List Account)
-grid_with grid member shard deed = set grid (member - 1) (row_with (get_or grid (member - 1) []) shard deed)
-
--- The one shard has the one deed more that its history tells.
-pub record IsDone (old new : List (List Account)) (member shard : ℕ) (doing : Doing) (deed : Deed) : Type 0 where
-  pub deed_is : deed ≡ deed_at (account_at old member shard) doing
-  pub added : new ≡ grid_with old member shard deed
+-- the grid with another account at a member's shard
+abbrev pub with_account : List (List Account) → ℕ → ℕ → Account → List (List Account)
+with_account grid member shard account = set grid (member - 1) (set (get_or grid (member - 1) []) shard account)
 
 abbrev pub new_account : Identity → ℕ → ℕ → Account
 new_account id floor shard = record { id = record id { shard = shard }; opening = floor; deeds = []; spare = 0 }

@@ -1,19 +1,15 @@
-ghost use Rattle.std.specs.Prelude.{◌≡◌, ◌≤◌, IfOk, OnOk, length};
-ghost use Rattle.gr_history.specs.declared.deed.Deed.TheVariants as deed;
-ghost use Rattle.gr_shard.specs.Calls.{served};
-ghost use Rattle.gr_world.specs.Doings.{Asks, Calls, Gives};
+ghost use Rattle.std.specs.Prelude.{◌≡◌, ◌≤◌, IfOk, length};
+ghost use Rattle.std.specs.Borrow.{Lends, sem};
 ghost use Rattle.gr_shard.specs.View.{IsPlace};
 ghost use Rattle.gr_world.specs.Numbered.{numbers_from, PairsFrom};
-ghost use Rattle.gr_world.specs.Tasks.{BelongsTo, IsGiven, doing_of};
-ghost use Rattle.gr_world.specs.Worlds.{IsCell, IsDone, IsMemberOf, account_at, deed_at, gives_at, new_row};
+ghost use Rattle.gr_world.specs.Worlds.{IsCell, IsMemberOf, account_at, new_row, with_account};
+ghost use Rattle.gr_world.specs.contracts.cell.Cell.{the_row as cell_row};
+ghost use Rattle.gr_world.specs.contracts.grid.Grid.{the_row};
 
 use crate::cell::Cell;
 use crate::row::Row;
 use crate::site::Site;
-use crate::step::StepName;
-use crate::task::Task;
-use gr_history::{Ask, Gift, Identity, MemberRecordList, QueryAsk, QueryReply, What};
-use gr_shard::Served;
+use gr_history::{Identity, MemberRecordList};
 use gr_value::Memory;
 use std::alloc::Global;
 use std::marker::Model;
@@ -59,64 +55,14 @@ impl Grid {
         self.rows[usize::from(site.member) - 1].cell(site.shard)
     }
 
-    pub fn call(
-        &mut self,
-        alloc: Global,
-        site: Site,
-        step: StepName,
-        ask: Ask,
-    ) -> Result<Served, Memory>
-        requires cell { IsCell self.old site.member site.shard }
-        requires here { BelongsTo (account_at self.old site.member site.shard) (Calls step.client step.seq ask) }
-        ensures told { IfOk result (λ told. told ≡ served (gives_at (account_at self.old site.member site.shard) ask)) }
-        ensures done { OnOk result
-            (IsDone self.old self.new site.member site.shard (Calls step.client step.seq ask)
-            (deed_at (account_at self.old site.member site.shard) (Calls step.client step.seq ask))) }
-    {
-        let row = &mut self.rows[usize::from(site.member) - 1];
-        row.call(alloc, site.shard, step, ask)
-    }
-
-    /// Does a client's step on one of its queries, at a member's shard.
-    pub fn query(
-        &mut self,
-        alloc: Global,
-        site: Site,
-        step: StepName,
-        ask: &QueryAsk,
-    ) -> Result<QueryReply, Memory>
+    /// Lends a member's shard to be changed, and the others stay as they are.
+    pub fn cell_mut(&mut self, site: Site) -> &mut Cell
         requires { IsCell self.old site.member site.shard }
-        ensures { IfOk result
-            (λ reply. IsDone self.old self.new site.member site.shard (Asks step.client step.seq ask.now)
-            (deed.Asked step.client step.seq ask.now reply)) }
+        ensures* writes_back { sem 𝓛 (Lends the_row cell_row self.entry result (with_account self.old site.member site.shard)) }
+        ensures shows { result.now ≡ account_at self.old site.member site.shard }
     {
         let row = &mut self.rows[usize::from(site.member) - 1];
-        row.query(alloc, site.shard, step, ask)
-    }
-
-    /// A member gives a joiner the image of a shard or the changes that it made there.
-    pub fn give(&mut self, alloc: Global, site: Site, to: u8, what: What) -> Result<Gift, Memory>
-        requires cell { IsCell self.old site.member site.shard }
-        requires here { BelongsTo (account_at self.old site.member site.shard) (Gives to what) }
-        ensures given { IfOk result (IsGiven (account_at self.old site.member site.shard) what) }
-        ensures done { OnOk result
-            (IsDone self.old self.new site.member site.shard (Gives to what)
-            (deed_at (account_at self.old site.member site.shard) (Gives to what))) }
-    {
-        let row = &mut self.rows[usize::from(site.member) - 1];
-        row.give(alloc, site.shard, to, what)
-    }
-
-    /// Does one thing at a member's shard, which adds its deed.
-    pub fn does(&mut self, alloc: Global, site: Site, task: Task) -> Result<(), Memory>
-        requires cell { IsCell self.old site.member site.shard }
-        requires here { BelongsTo (account_at self.old site.member site.shard) (doing_of task) }
-        ensures { OnOk result
-            (IsDone self.old self.new site.member site.shard (doing_of task.entry)
-            (deed_at (account_at self.old site.member site.shard) (doing_of task.entry))) }
-    {
-        let row = &mut self.rows[usize::from(site.member) - 1];
-        row.does(alloc, site.shard, task)
+        row.cell_mut(site.shard)
     }
 
     /// What all members leave.

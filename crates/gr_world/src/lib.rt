@@ -2,6 +2,7 @@
 #![tactic(auto)]
 
 mod cell;
+mod gone;
 mod grid;
 mod joining;
 mod laws;
@@ -19,6 +20,7 @@ mod task;
 mod tellings;
 mod world;
 
+pub use gone::is_gone;
 pub use laws::{laws_of_courses, records_keep_the_laws};
 pub use replaying::replay;
 pub use rows::{

@@ -28,7 +28,8 @@ impl World {
         let mut replies = QueryReplyList::new(stage.alloc)?;
         for shard in 0..stage.script.shards {
             let site = Site { member, shard };
-            replies.push(self.grid.query(stage.alloc, site, step, ask)?)?;
+            let reply = self.grid.cell_mut(site).query(stage.alloc, step, ask)?;
+            replies.push(reply)?;
         }
         Ok(self.tellings.tell(step.client, Answer::Asked(replies))?)
     }

@@ -1,18 +1,14 @@
-ghost use Rattle.std.specs.Prelude.{◌≡◌, ◌<◌, IfOk, OnOk, length};
+ghost use Rattle.std.specs.Prelude.{◌≡◌, ◌<◌, IfOk, length, set};
+ghost use Rattle.std.specs.Borrow.{Lends, sem};
 ghost use Rattle.gr_shard.specs.Records.{IsRecordOf};
 ghost use Rattle.gr_shard.specs.View.{IsPlace};
-ghost use Rattle.gr_history.specs.declared.deed.Deed.TheVariants as deed;
-ghost use Rattle.gr_shard.specs.Calls.{served};
-ghost use Rattle.gr_world.specs.Doings.{Asks, Calls, Gives};
 ghost use Rattle.gr_world.specs.Numbered.{PairsFrom};
-ghost use Rattle.gr_world.specs.Tasks.{BelongsTo, IsGiven, doing_of};
-ghost use Rattle.gr_world.specs.Worlds.{account_in, deed_at, gives_at, new_row, row_with};
+ghost use Rattle.gr_world.specs.Worlds.{account_in, new_row};
+ghost use Rattle.gr_world.specs.contracts.cell.Cell.{the_row as cell_row};
+ghost use Rattle.gr_world.specs.contracts.row.Row.{the_row};
 
 use crate::cell::Cell;
-use crate::step::StepName;
-use crate::task::Task;
-use gr_history::{Ask, Gift, Identity, MemberRecord, QueryAsk, QueryReply, ShardRecordList, What};
-use gr_shard::Served;
+use gr_history::{Identity, MemberRecord, ShardRecordList};
 use gr_value::Memory;
 use std::alloc::Global;
 use std::marker::Model;
@@ -56,59 +52,13 @@ impl Row {
         &self.cells[usize::from(shard)]
     }
 
-    pub fn call(
-        &mut self,
-        alloc: Global,
-        shard: u8,
-        step: StepName,
-        ask: Ask,
-    ) -> Result<Served, Memory>
-        requires within { shard < length self.old }
-        requires here { BelongsTo (account_in self.old shard) (Calls step.client step.seq ask) }
-        ensures told { IfOk result (λ told. told ≡ served (gives_at (account_in self.old shard) ask)) }
-        ensures added { OnOk result
-            (self.new ≡ row_with self.old shard (deed_at (account_in self.old shard) (Calls step.client step.seq ask))) }
-    {
-        let cell = &mut self.cells[usize::from(shard)];
-        cell.call(alloc, step, ask)
-    }
-
-    /// Does a client's step on one of its queries, at a shard.
-    pub fn query(
-        &mut self,
-        alloc: Global,
-        shard: u8,
-        step: StepName,
-        ask: &QueryAsk,
-    ) -> Result<QueryReply, Memory>
+    /// Lends a shard to be changed, and the others stay as they are.
+    pub fn cell_mut(&mut self, shard: u8) -> &mut Cell
         requires { shard < length self.old }
-        ensures reply { IfOk result
-            (λ reply. deed.Asked step.client step.seq ask.now reply ≡ deed_at (account_in self.old shard) (Asks step.client step.seq ask.now)) }
-        ensures added { IfOk result (λ reply. self.new ≡ row_with self.old shard (deed.Asked step.client step.seq ask.now reply)) }
+        ensures* writes_back { sem 𝓛 (Lends the_row cell_row self.entry result (set self.old shard)) }
+        ensures shows { result.now ≡ account_in self.old shard }
     {
-        let cell = &mut self.cells[usize::from(shard)];
-        cell.query(alloc, step, ask)
-    }
-
-    /// Gives a joiner the image of a shard or the changes that were made there.
-    pub fn give(&mut self, alloc: Global, shard: u8, to: u8, what: What) -> Result<Gift, Memory>
-        requires within { shard < length self.old }
-        requires here { BelongsTo (account_in self.old shard) (Gives to what) }
-        ensures given { IfOk result (IsGiven (account_in self.old shard) what) }
-        ensures added { OnOk result (self.new ≡ row_with self.old shard (deed_at (account_in self.old shard) (Gives to what))) }
-    {
-        let cell = &mut self.cells[usize::from(shard)];
-        cell.give(alloc, to, what)
-    }
-
-    /// Does one thing at a shard, which adds its deed.
-    pub fn does(&mut self, alloc: Global, shard: u8, task: Task) -> Result<(), Memory>
-        requires within { shard < length self.old }
-        requires here { BelongsTo (account_in self.old shard) (doing_of task) }
-        ensures { OnOk result (self.new ≡ row_with self.old shard (deed_at (account_in self.old shard) (doing_of task.entry))) }
-    {
-        let cell = &mut self.cells[usize::from(shard)];
-        cell.does(alloc, task)
+        &mut self.cells[usize::from(shard)]
     }
 
     /// What the member leaves.

@@ -12,7 +12,7 @@ ghost use Rattle.gr_world.specs.Events.{Event};
 ghost use Rattle.gr_world.specs.Named.{made_by};
 ghost use Rattle.gr_world.specs.Records.{IsLeft};
 ghost use Rattle.gr_world.specs.Noted.{Notes};
-ghost use Rattle.gr_world.specs.Stages.{PlaysAt, heading_at};
+ghost use Rattle.gr_world.specs.Stages.{HasSite, PlaysAt, heading_at};
 ghost use Rattle.gr_world.specs.Worlds.{CanPlay, IsAtWork, IsWorld, account_left};
 ghost use Rattle.gr_history.specs.Made.{made_in};
 
@@ -109,9 +109,7 @@ impl World {
 
     /// A member's shard.
     pub fn view(&self, stage: Stage, site: Site) -> &Shard
-        requires work { IsAtWork (heading_at stage) self.now }
-        requires member { IsMember (heading_at stage) site.member }
-        requires shard { site.shard < stage.script.now.shards }
+        requires { HasSite (heading_at stage) self.now site }
         ensures { (events : List Event) → IsWorld (heading_at stage.entry) events self.now
             → result.now ≡ account_left (heading_at stage.entry) events site.member site.shard }
     {
@@ -120,14 +118,13 @@ impl World {
 
     /// Does one thing at a member's shard, and nothing else.
     pub fn does(&mut self, stage: Stage, site: Site, task: Task) -> Result<(), Memory>
-        requires work { IsAtWork (heading_at stage) self.old }
-        requires member { IsMember (heading_at stage) site.member }
-        requires shard { site.shard < stage.script.now.shards }
+        requires site { HasSite (heading_at stage) self.old site }
         requires here { BelongsTo (account_left (heading_at stage) [] site.member site.shard) (doing_of task) }
         ensures { IfOk result
             (λ _. PlaysAt stage.entry (λ heading. does heading site.member site.shard (doing_of task.entry)) self.old self.new) }
     {
-        Ok(self.grid.does(stage.alloc, site, task)?)
+        let cell = self.grid.cell_mut(site);
+        Ok(cell.does(stage.alloc, task)?)
     }
 
     fn call(&mut self, stage: Stage, step: StepName, ask: Ask) -> Result<(), Memory>
@@ -140,7 +137,7 @@ impl World {
         let shard = ask.key().shard(stage.script.shards);
         let site = Site { member, shard };
         let at = self.grid.cell(site).shard().history().len();
-        let told = self.grid.call(stage.alloc, site, step, ask)?;
+        let told = self.grid.cell_mut(site).call(stage.alloc, step, ask)?;
         let place = DeedPlace { site, at };
         note(&mut self.made, stage.script.members, step, place, told.made)?;
         Ok(self.tellings.tell(step.client, Answer::Reply(told.reply))?)
@@ -195,7 +192,7 @@ impl World {
         if let Some(change) = self.change_of(stage, client, seq)? {
             let shard = change.key.shard(stage.script.shards);
             let site = Site { member: to, shard };
-            self.grid.does(stage.alloc, site, Task::Take(&change))?;
+            self.does(stage, site, Task::Take(&change))?;
         }
         Ok(())
     }
@@ -210,8 +207,7 @@ impl World {
             (λ heading. for_each heading.shards (λ shard. does heading member shard (doing_of task.entry))) self.old self.new) }
     {
         for shard in 0..stage.script.shards {
-            let site = Site { member, shard };
-            self.grid.does(stage.alloc, site, task)?;
+            self.does(stage, Site { member, shard }, task)?;
         }
         Ok(())
     }
@@ -226,8 +222,7 @@ impl World {
         for shard in 0..stage.script.shards {
             if let Some(report) = self.grid.cell(Site { member: of, shard }).reported(number) {
                 let report = report.copy(stage.alloc)?;
-                let site = Site { member: by, shard };
-                self.grid.does(stage.alloc, site, Task::Hear(&report))?;
+                self.does(stage, Site { member: by, shard }, Task::Hear(&report))?;
             }
         }
         Ok(())
@@ -249,7 +244,7 @@ impl World {
             Line::Sweep { member, moment } => {
                 Ok(self.at_each_shard(stage, member, Task::Sweep(moment))?)
             }
-            Line::Join { member, from } => Ok(self.join(stage, member, from)?),
+            Line::Join { member, from } => Ok(self.join(stage, &[], member, from)?),
             Line::Depart { .. } => unreachable!(),
             Line::Leave { .. } | Line::Back { .. } => Ok(()),
         }

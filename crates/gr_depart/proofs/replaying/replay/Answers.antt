@@ -9,9 +9,9 @@ use Rattle.gr_script.specs.Steps.{departed, departs}
 use Rattle.gr_world.specs.Courses.{after, course}
 use Rattle.gr_world.specs.Records.{IsReplayed}
 use Rattle.gr_world.specs.Worlds.{IsWorld}
-use Rattle.gr_world.proofs.Playable.{one_more}
+use Rattle.gr_world.proofs.Playable.{copied_line, one_more}
 use Rattle.gr_depart.specs.Lines.{CanDo}
-use Rattle.gr_depart.proofs.Doable.{can_do}
+use Rattle.gr_depart.proofs.Doable.{lines_doable}
 use Rattle.gr_depart.proofs.replaying.replay.Goals as goal
 
 pub play-requires-clause-work : goal.play-requires-clause-work
@@ -22,13 +22,11 @@ play-requires-clause-work c = (
 
 pub play-requires-clause-stated : goal.play-requires-clause-stated
 play-requires-clause-stated c =
-    let heading = heading_of c.args.script.now in
-    let line = c.line-item.result in
-    let i = c.loop-line.line-index in
-    let CanAt : List Line → Type 0 = λ lines. i < length lines → line ≡ get_or lines i line → CanDo heading line in
-    subst (CanDo heading) (sym c.in_ok-copy.ensures)
-    (subst CanAt (sym c.as_slice-line-items.ensures) (can_do heading c.args.script.now.lines c.args.script.now.ruled i line)
-    c.loop-line-test.true c.line-item.is)
+    let script = c.args.script.now in
+    let heading = heading_of script in
+    copied_line (CanDo heading) script.lines c.as_slice-line-items.result.now c.loop-line.line-index c.line-item.result
+    c.in_ok-copy.field-0 (lines_doable heading script.lines script.ruled) c.as_slice-line-items.ensures c.in_ok-copy.ensures
+    c.loop-line-test.true c.line-item.is
 
 pub loop-line-preserved : goal.loop-line-preserved
 loop-line-preserved c =
@@ -48,20 +46,16 @@ loop-line-preserved c =
           ∙ ap (cons_option (departs line)) c.loop-line.invariant.1 ∙ ap departed (sym more),
     )
 
--- Once all lines were played, what is left is theirs.
-played : (heading : Heading) (lines : List Line) (left : Record) (count : ℕ) (all : List Line) → take count all ≡ all → all ≡ lines
-    → IsReplayed heading (take count all) left → IsReplayed heading lines left
-played heading lines left count all whole is = subst (λ some. IsReplayed heading some left) (whole ∙ is)
-
 pub returns : goal.returns
 returns c =
     let script = c.args.script.now in
     let heading = heading_of script in
     let left = c.in_ok-finish.field-0 in
     let laws = c.records_keep_the_laws.ensures in
-    let all : IsReplayed heading script.lines left =
-    played heading script.lines left c.loop-line.line-index c.as_slice-line-items.result.now
-    (grind (arith, common_steps, c.loop-line-test.false)) c.as_slice-line-items.ensures (c.in_ok-finish.ensures _ c.loop-line.invariant.0) in
+    let items = c.as_slice-line-items.result.now in
+    let whole : take c.loop-line.line-index items ≡ items = grind (arith, common_steps, c.loop-line-test.false) in
+    let all = subst (λ lines. IsReplayed heading lines left) (whole ∙ c.as_slice-line-items.ensures)
+    (c.in_ok-finish.ensures _ c.loop-line.invariant.0) in
     record {
       replayed = all;
       laws = laws.abiding heading script.lines script.ruled left all;

@@ -1,15 +1,12 @@
 use Rattle.std.proofs.lemmas.Grind.{common_steps}
 use Rattle.gr_world.specs.Records.{IsReplayed}
 use Rattle.gr_world.proofs.Left.{plain_abiding, left_served, left_follows}
-use Rattle.gr_history.specs.declared.record.Record.{Record}
-use Rattle.gr_script.specs.Rules.{Heading}
-use Rattle.std.proofs.Common.{[], ◌≡◌, ◌∙◌, arith, subst, sym, reverse, take, ℕ, List, length, get_or, ◌<◌}
-use Rattle.gr_script.specs.declared.line.Line.{Line}
+use Rattle.std.proofs.Common.{[], ◌≡◌, ◌∙◌, arith, subst, sym, reverse, take}
 use Rattle.gr_script.specs.Scripts.{heading_of}
 use Rattle.gr_script.specs.Steps.{departed}
 use Rattle.gr_world.specs.Courses.{after, course}
 use Rattle.gr_world.specs.Worlds.{CanPlay, IsWorld}
-use Rattle.gr_world.proofs.Playable.{can_play, none_so_far, one_more}
+use Rattle.gr_world.proofs.Playable.{copied_line, lines_playable, none_so_far, one_more}
 use Rattle.gr_world.proofs.replaying.replay.Goals as goal
 
 pub play-requires-clause-work : goal.play-requires-clause-work
@@ -20,13 +17,11 @@ play-requires-clause-work c = (
 
 pub play-requires-clause-stated : goal.play-requires-clause-stated
 play-requires-clause-stated c =
-    let heading = heading_of c.args.script.now in
-    let line = c.line-item.result in
-    let i = c.loop-line.line-index in
-    let CanAt : List Line → Type 0 = λ lines. i < length lines → line ≡ get_or lines i line → CanPlay heading line in
-    subst (CanPlay heading) (sym c.in_ok-copy.ensures)
-    (subst CanAt (sym c.as_slice-line-items.ensures) (can_play heading c.args.script.now.lines c.args.script.now.ruled c.requires i line)
-    c.loop-line-test.true c.line-item.is)
+    let script = c.args.script.now in
+    let heading = heading_of script in
+    copied_line (CanPlay heading) script.lines c.as_slice-line-items.result.now c.loop-line.line-index c.line-item.result
+    c.in_ok-copy.field-0 (lines_playable heading script.lines script.ruled c.requires) c.as_slice-line-items.ensures c.in_ok-copy.ensures
+    c.loop-line-test.true c.line-item.is
 
 pub loop-line-preserved : goal.loop-line-preserved
 loop-line-preserved c =
@@ -42,19 +37,15 @@ loop-line-preserved c =
     (subst (λ one. IsWorld heading (after heading [] one before) c.play.new.self) c.in_ok-copy.ensures
     (c.in_ok-play.ensures before c.loop-line.invariant)))
 
--- Once all lines were played, what is left is theirs.
-played : (heading : Heading) (lines : List Line) (left : Record) (count : ℕ) (all : List Line) → take count all ≡ all → all ≡ lines
-    → IsReplayed heading (take count all) left → IsReplayed heading lines left
-played heading lines left count all whole is = subst (λ some. IsReplayed heading some left) (whole ∙ is)
-
 pub returns : goal.returns
 returns c =
     let script = c.args.script.now in
     let heading = heading_of script in
     let left = c.in_ok-finish.field-0 in
-    let all : IsReplayed heading script.lines left =
-    played heading script.lines left c.loop-line.line-index c.as_slice-line-items.result.now
-    (grind (arith, common_steps, c.loop-line-test.false)) c.as_slice-line-items.ensures (c.in_ok-finish.ensures _ c.loop-line.invariant) in
+    let items = c.as_slice-line-items.result.now in
+    let whole : take c.loop-line.line-index items ≡ items = grind (arith, common_steps, c.loop-line-test.false) in
+    let all = subst (λ lines. IsReplayed heading lines left) (whole ∙ c.as_slice-line-items.ensures)
+    (c.in_ok-finish.ensures _ c.loop-line.invariant) in
     record {
       replayed = all;
       laws = plain_abiding heading script.lines script.ruled c.requires left all;

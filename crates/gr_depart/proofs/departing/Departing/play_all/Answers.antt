@@ -18,16 +18,10 @@ loop-line-preserved c =
     (subst (λ (rest : List Line). IsAmid (heading_at c.args.stage) rest c.args.lines c.args.self.now c.loop-line.self) c.in-Some.ensures.steps.0
     c.loop-line.invariant) c.in_ok-play.ensures.done c.in_ok-play.ensures.gone
 
-pub returns-clause-done : goal.returns-clause-done
-returns-clause-done c =
+pub returns : goal.returns
+returns c =
     let rest = c.loop-line.line-iterator.rest.ok in
     let none = c.in-None.ensures.steps.0 in
-    (amid_last (heading_at c.args.stage) c.loop-line.line-iterator.rest.items c.args.lines c.args.self.now c.loop-line.self
-    (omega (arith, rest, none)) c.loop-line.invariant).0
-
-pub returns-clause-gone : goal.returns-clause-gone
-returns-clause-gone c =
-    let rest = c.loop-line.line-iterator.rest.ok in
-    let none = c.in-None.ensures.steps.0 in
-    (amid_last (heading_at c.args.stage) c.loop-line.line-iterator.rest.items c.args.lines c.args.self.now c.loop-line.self
-    (omega (arith, rest, none)) c.loop-line.invariant).1
+    let last = amid_last (heading_at c.args.stage) c.loop-line.line-iterator.rest.items c.args.lines c.args.self.now c.loop-line.self
+    (omega (arith, rest, none)) c.loop-line.invariant in
+    record { done = last.0; gone = last.1 }

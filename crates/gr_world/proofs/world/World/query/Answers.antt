@@ -1,20 +1,22 @@
 use Rattle.std.proofs.Common.{◌≡◌, ◌+◌, arith, refl, subst, sym}
 use Rattle.gr_world.specs.Courses.{asks_at_each}
 use Rattle.gr_world.specs.Stages.{heading_at}
-use Rattle.gr_world.specs.Worlds.{AreAsked}
+use Rattle.gr_world.specs.Worlds.{AreAsked, with_account}
 use Rattle.gr_world.specs.declared.world.World.{World}
 use Rattle.gr_world.proofs.Asked.{asked_next, asked_none, query_plays}
 use Rattle.gr_world.proofs.Worlds.{work_cell, work_clients, work_on}
 use Rattle.gr_world.proofs.world.World.query.Goals as goal
 
-pub query-requires : goal.query-requires
-query-requires c =
+pub cell_mut-requires : goal.cell_mut-requires
+cell_mut-requires c =
     let heading = heading_at c.args.stage in
     let step = c.args.step in
-    work_cell heading c.loop-shard.self c.home-member.result c.loop-shard.shard
-    (work_on heading (asks_at_each heading step.client step.seq c.args.ask.now c.loop-shard.shard) c.args.self.now c.loop-shard.self
-    c.requires.work c.loop-shard.invariant.plays)
-    c.home-member.ensures.member c.loop-shard-test.true
+    work_cell heading c.loop-shard.self (record { member = c.home-member.result; shard = c.loop-shard.shard }) (record {
+      work = work_on heading (asks_at_each heading step.client step.seq c.args.ask.now c.loop-shard.shard) c.args.self.now
+          c.loop-shard.self c.requires.work c.loop-shard.invariant.plays;
+      member = c.home-member.ensures.member;
+      shard = c.loop-shard-test.true;
+    })
 
 pub loop-shard-init : goal.loop-shard-init
 loop-shard-init c =
@@ -27,13 +29,13 @@ loop-shard-preserved c =
     let step = c.args.step in
     let first = c.args.self.now in
     let now = c.loop-shard.self in
-    let next : World = record { grid = c.query.new.self; tellings = now.tellings; made = now.made } in
+    let next : World = record now { grid = with_account now.grid c.home-member.result c.loop-shard.shard c.query.new.self } in
     subst
     (λ replies. AreAsked heading step.client step.seq c.args.ask.now (c.loop-shard.shard + 1) replies first next)
     (sym c.in_ok-push.ensures.ok)
-    (asked_next heading step.client step.seq c.args.ask.now c.loop-shard.shard c.loop-shard.replies _ first now next
-    c.home-member.result c.home-member.ensures.member c.loop-shard-test.true c.home-member.ensures.home c.loop-shard.invariant
-    c.in_ok-query.ensures refl refl)
+    (asked_next heading step.client step.seq c.args.ask.now c.loop-shard.shard c.loop-shard.replies _ first now c.home-member.result
+    c.cell_mut.result.now c.query.new.self c.home-member.ensures.member c.loop-shard-test.true c.home-member.ensures.home c.loop-shard.invariant
+    (record { lent = c.cell_mut.ensures.shows; deed_is = c.in_ok-reply.ensures.reply; added = c.in_ok-reply.ensures.added }))
 
 pub tell-requires-clause-stated : goal.tell-requires-clause-stated
 tell-requires-clause-stated c =

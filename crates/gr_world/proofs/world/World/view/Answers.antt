@@ -6,8 +6,7 @@ use Rattle.gr_world.proofs.world.World.view.Goals as goal
 
 pub cell-requires : goal.cell-requires
 cell-requires c =
-    work_cell (heading_at c.args.stage) c.args.self.now c.args.site.member c.args.site.shard c.requires.work c.requires.member
-    c.requires.shard
+    work_cell (heading_at c.args.stage) c.args.self.now c.args.site c.requires
 
 pub returns : goal.returns
 returns c =

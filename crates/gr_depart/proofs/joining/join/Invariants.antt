@@ -1,9 +1,0 @@
-use Rattle.gr_world.specs.Courses.{for_each, joins_at}
-use Rattle.gr_world.specs.Stages.{heading_at}
-use Rattle.gr_world.specs.Worlds.{Plays}
-use Rattle.gr_depart.proofs.joining.join.Given as goal
-
-abbrev pub invariant-loop-shard : goal.invariant-loop-shard
-invariant-loop-shard l =
-    let heading = heading_at l.fn.stage in
-    Plays heading (for_each l.shard (joins_at heading l.fn.gone l.fn.member l.fn.provider)) l.fn.world l.world
