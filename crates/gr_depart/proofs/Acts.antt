@@ -1,5 +1,5 @@
 -- What is done for each number, and to what is seen of a shard.
-use Rattle.std.proofs.Common.{zero, suc, ◌≡◌, ◌∙◌, ap, sym, subst, refl, ℕ, ◌+◌, ◌<◌, List, [], ◌∷◌, length, take, reverse, get_or, add-one, arith}
+use Rattle.std.proofs.Common.{◌≡◌, ◌∙◌, ap, sym, subst, ℕ, ◌+◌, ◌<◌, List, [], ◌∷◌, length, take, reverse, get_or}
 use Rattle.std.proofs.Common.{◌++◌, ◌==◌, Bool, true, false, not, if◌then◌else◌, ◌&&◌, Option, Some}
 use Rattle.std.proofs.lemmas.Grind.{reverse_onto}
 use Rattle.std.proofs.lemmas.List.{append-nil, length-reverse, reverse-reverse, take_more}
@@ -18,7 +18,7 @@ use Rattle.gr_script.specs.declared.line.Line.TheVariants.{Deliver, Step}
 use Rattle.gr_script.specs.Rules.{Heading}
 use Rattle.gr_script.specs.Steps.{is_gone}
 use Rattle.gr_world.specs.declared.world.World.{World}
-use Rattle.gr_world.specs.Courses.{after, closes, copies, delivers, does, for_each, takes_new, takes_new_all, unless}
+use Rattle.gr_world.specs.Courses.{after, closes, copies, delivers, does, takes_new, takes_new_all, unless}
 use Rattle.gr_world.specs.Departures.{behind_all, closing_report, taken_of}
 use Rattle.gr_world.specs.Doings.{Hears, Takes}
 use Rattle.gr_world.specs.Events.{Event, history}

@@ -1,5 +1,5 @@
 -- Each line of a script can be done.
-use Rattle.std.proofs.Common.{◌≡◌, sym, subst, refl, ℕ, ◌<◌, List, [], ◌∷◌, length, reverse, get_or}
+use Rattle.std.proofs.Common.{subst, refl, List, [], ◌∷◌, reverse}
 use Rattle.std.specs.List.{All, AllByRecursion}
 use Rattle.std.proofs.lemmas.List.{reverse-reverse}
 use Rattle.std.proofs.lemmas.List.Elements.{All-from_recursion}

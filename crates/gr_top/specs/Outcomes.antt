@@ -17,7 +17,6 @@ use Rattle.gr_script.specs.Cuts.{line_count}
 use Rattle.gr_script.specs.Drill.{IsDrill}
 use Rattle.gr_script.specs.Expanded.{expansion}
 use Rattle.gr_script.specs.Reprinted.{IsPrintOf}
-use Rattle.gr_script.specs.Rules.{Heading}
 use Rattle.gr_script.specs.Said.{script_of}
 use Rattle.gr_script.specs.Scripts.{heading_of}
 use Rattle.gr_world.specs.Played.{IsPlayed}

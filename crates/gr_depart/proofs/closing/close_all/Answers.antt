@@ -1,4 +1,4 @@
-use Rattle.std.proofs.Common.{◌≡◌, ℕ, List, suc, not, arith}
+use Rattle.std.proofs.Common.{ℕ, List, suc, not, arith}
 use Rattle.gr_script.specs.Rules.{Heading}
 use Rattle.gr_script.specs.Steps.{is_gone}
 use Rattle.gr_world.specs.declared.site.Site.{Site}

@@ -1,4 +1,4 @@
-use Rattle.std.proofs.Common.{◌≡◌, ℕ, List, suc, ◌==◌, arith}
+use Rattle.std.proofs.Common.{ℕ, List, suc, ◌==◌, arith}
 use Rattle.std.specs.Prelude.{◌||◌}
 use Rattle.gr_script.specs.Rules.{Heading}
 use Rattle.gr_script.specs.Steps.{is_gone}

@@ -1,9 +1,6 @@
 use Rattle.std.proofs.lemmas.Grind.{common_steps}
-use Rattle.std.proofs.Common.{◌≡◌, ◌∙◌, ap, arith, subst, sym, reverse, take, ℕ, List, length, get_or, ◌<◌}
+use Rattle.std.proofs.Common.{◌≡◌, ◌∙◌, ap, arith, subst, sym, reverse, take}
 use Rattle.std.specs.List.{cons_option}
-use Rattle.gr_history.specs.declared.record.Record.{Record}
-use Rattle.gr_script.specs.declared.line.Line.{Line}
-use Rattle.gr_script.specs.Rules.{Heading}
 use Rattle.gr_script.specs.Scripts.{heading_of}
 use Rattle.gr_script.specs.Steps.{departed, departs}
 use Rattle.gr_world.specs.Courses.{after, course}
