@@ -47,7 +47,6 @@ use Rattle.gr_runner.proofs.Ran.{dealt_passes, fresh_at, slot_ran}
 use Rattle.gr_runner.proofs.Shared.{client_there}
 use Rattle.gr_runner.proofs.Told.{same_at, same_many}
 use Rattle.gr_runner.proofs.Whole.{ClientFacts, HostFacts, all_clients, all_hosts}
-
 use Rattle.gr_runner.proofs.Standing.{own_among, visit_among, stands_for}
 
 one_time : (n : ℕ) → 0 < times n (n ∷ [])
