@@ -2,8 +2,9 @@ ghost use Rattle.std.specs.Prelude.{◌≡◌, ◌<◌, ◌+◌, OnOk};
 
 use gr_oql::{Query, Turned};
 use gr_route::Router;
-use gr_value::{Key, Memory, Value};
+use gr_value::{Key, Value};
 use std::alloc::Global;
+use std::process::Abort;
 use std::test::Fail;
 
 // A key whose value was this one, or is.
@@ -19,9 +20,10 @@ fn turned(alloc: Global, was: bool, text: &[u8]) -> Result<Turned, Fail> {
     })
 }
 
-// How many queries a change reaches, and the first of them.
-fn reached(alloc: Global, router: &Router, turned: &Turned) -> Result<(usize, u32), Memory> {
-    let numbers = router.reach(alloc, turned)?;
+// How many queries a change of that key reaches, and the first of them.
+fn reached(alloc: Global, router: &Router, was: bool, text: &[u8]) -> Result<(usize, u32), Fail> {
+    let turned = turned(alloc, was, text)?;
+    let numbers = router.reach(alloc, &turned)?;
     let first = numbers.as_slice().first().copied().unwrap_or(9);
     Ok((numbers.len(), first))
 }
@@ -39,20 +41,43 @@ const BOTH: &str = "SELECT * FROM /trades WHERE price = 1 AND x = 2";
 
 const ABOVE: &str = "SELECT * FROM /trades WHERE price > 1";
 
+fn number_both_queries(rt: &impl Abort, alloc: Global, router: &mut Router) -> Result<(), Fail>
+    requires { router.old.next ≡ 0 }
+    ensures { OnOk result (router.new.next ≡ 2) }
+{
+    let both = number(alloc, router, BOTH)?;
+    let above = number(alloc, router, ABOVE)?;
+    assert!(rt; both == 0);
+    assert!(rt; above == 1);
+    Ok(())
+}
+
+fn reach_each(rt: &impl Abort, alloc: Global, router: &Router) -> Result<(), Fail> {
+    let made = reached(alloc, router, false, b"{\"price\":2}")?;
+    let removed = reached(alloc, router, true, b"{\"price\":1}")?;
+    assert!(rt; made == (1, 1));
+    assert!(rt; removed == (2, 0));
+    Ok(())
+}
+
+fn number_anew(rt: &impl Abort, alloc: Global, router: &mut Router) -> Result<(), Fail>
+    requires { router.old.next ≡ 2 }
+{
+    router.leave(1);
+    let above = number(alloc, router, ABOVE)?;
+    let made = reached(alloc, router, false, b"{\"price\":2}")?;
+    assert!(rt; above == 2);
+    assert!(rt; made == (1, 2));
+    Ok(())
+}
+
 // A change is routed to the queries whose first part by AND its old or new value meets, and to those
 // that have no such part. A number isn't given again.
 #[test]
 fn changes_are_routed_by_either_value(rt: HostRuntime) -> Result<(), Fail> {
     let alloc = rt.alloc();
     let mut router = Router::new(alloc)?;
-    assert!(rt; number(alloc, &mut router, BOTH)? == 0);
-    assert!(rt; number(alloc, &mut router, ABOVE)? == 1);
-    let made = turned(alloc, false, b"{\"price\":2}")?;
-    let removed = turned(alloc, true, b"{\"price\":1}")?;
-    assert!(rt; reached(alloc, &router, &made)? == (1, 1));
-    assert!(rt; reached(alloc, &router, &removed)? == (2, 0));
-    router.leave(1);
-    assert!(rt; number(alloc, &mut router, ABOVE)? == 2);
-    assert!(rt; reached(alloc, &router, &made)? == (1, 2));
-    Ok(())
+    number_both_queries(&rt, alloc, &mut router)?;
+    reach_each(&rt, alloc, &router)?;
+    number_anew(&rt, alloc, &mut router)
 }
