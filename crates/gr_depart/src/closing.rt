@@ -8,8 +8,8 @@ ghost use Rattle.gr_world.specs.Stages.{HasSite, PlaysAt, heading_at};
 ghost use Rattle.gr_world.specs.Worlds.{IsAtWork};
 
 use gr_shard::Shard;
-use gr_value::Memory;
-use gr_vector::{Report, SharedVector};
+use gr_value::{Memory, Shared};
+use gr_vector::Report;
 use gr_world::{Site, Stage, Task, World, is_gone};
 use std::alloc::Global;
 
@@ -26,7 +26,7 @@ fn closing_report(alloc: Global, shard: &Shard, of: u8) -> Result<Report, Memory
         at: BEHIND_ALL + shard.history().as_slice().len() as u64,
         own: 0,
         to: 0,
-        vector: SharedVector::new(alloc, vector)?,
+        vector: Shared::new(alloc, vector)?,
     })
 }
 

@@ -9,10 +9,10 @@ ghost use Rattle.gr_world.specs.Departures.{taken_of};
 ghost use Rattle.gr_world.specs.Stages.{HasSite, PlaysAt, heading_at};
 ghost use Rattle.gr_world.specs.Worlds.{IsAtWork};
 
-use gr_history::Deed;
+use gr_history::Entry;
 use gr_shard::Shard;
 use gr_stamp::Change;
-use gr_value::{Copied, Memory};
+use gr_value::{Copied, Memory, Shared};
 use gr_world::{Site, Stage, Task, World, is_gone};
 use std::alloc::Global;
 
@@ -25,11 +25,16 @@ fn is_known(shard: &Shard, change: &Change) -> bool
 }
 
 // Puts a change of the member last, if the deed took one in.
-fn add_taken(alloc: Global, taken: &mut Vec<Change>, deed: &Deed, of: u8) -> Result<(), Memory>
+fn add_taken(
+    alloc: Global,
+    taken: &mut Vec<Shared<Change>>,
+    deed: &Entry,
+    of: u8,
+) -> Result<(), Memory>
     ensures { OnOk result (taken.new.items ≡ taken.old.items ++ taken_of of (deed.now ∷ [])) }
 {
-    if let Deed::Taken { change, .. } = deed {
-        if change.stamp.member() == of {
+    if let Some(change) = deed.taken() {
+        if change.get().stamp.member() == of {
             taken.push(change.copy(alloc)?)?;
         }
     }
@@ -37,7 +42,7 @@ fn add_taken(alloc: Global, taken: &mut Vec<Change>, deed: &Deed, of: u8) -> Res
 }
 
 // The changes of the member that were taken in, the oldest first.
-fn taken_of(alloc: Global, shard: &Shard, of: u8) -> Result<Vec<Change>, Memory>
+fn taken_of(alloc: Global, shard: &Shard, of: u8) -> Result<Vec<Shared<Change>>, Memory>
     ensures { IfOk result (λ taken. taken.items ≡ reverse (taken_of of (reverse shard.now.deeds))) }
 {
     let mut taken = Vec::new(alloc);
@@ -50,15 +55,20 @@ fn taken_of(alloc: Global, shard: &Shard, of: u8) -> Result<Vec<Change>, Memory>
 
 // A member takes in a change that it doesn't know yet. What another one took in at this shard has a key of
 // it; where that weren't so, this gives up as where memory is refused.
-fn take_new(world: &mut World, stage: Stage, site: Site, change: &Change) -> Result<(), Memory>
+fn take_new(
+    world: &mut World,
+    stage: Stage,
+    site: Site,
+    change: &Shared<Change>,
+) -> Result<(), Memory>
     requires { HasSite (heading_at stage) world.old site }
     ensures { IfOk result
         (λ _. PlaysAt stage.entry (λ heading. takes_new heading site.member site.shard change.now) world.old world.new) }
 {
-    if is_known(world.view(stage, site), change) {
+    if is_known(world.view(stage, site), change.get()) {
         return Ok(());
     }
-    if change.key.shard(stage.script.shards) != site.shard {
+    if change.get().key.shard(stage.script.shards) != site.shard {
         return Err(Memory);
     }
     Ok(world.does(stage, site, Task::Take(change))?)
@@ -69,7 +79,7 @@ fn take_new_all(
     world: &mut World,
     stage: Stage,
     site: Site,
-    changes: &[Change],
+    changes: &[Shared<Change>],
 ) -> Result<(), Memory>
     requires { HasSite (heading_at stage) world.old site }
     ensures { IfOk result
@@ -178,16 +188,23 @@ pub fn depart(world: &mut World, stage: Stage, gone: &[u8], of: u8) -> Result<()
 }
 
 // A member takes in a change, but no new one of a member that departed.
-fn take(world: &mut World, stage: Stage, gone: &[u8], to: u8, change: &Change) -> Result<(), Memory>
+fn take(
+    world: &mut World,
+    stage: Stage,
+    gone: &[u8],
+    to: u8,
+    change: &Shared<Change>,
+) -> Result<(), Memory>
     requires work { IsAtWork (heading_at stage) world.old }
     requires member { IsMember (heading_at stage) to }
     ensures { IfOk result
         (λ _. PlaysAt stage.entry (λ heading. delivers heading gone.now to (Some change.now)) world.old world.new) }
 {
-    let shard = change.key.shard(stage.script.shards);
+    let Change { key, stamp, .. } = change.get();
+    let shard = key.shard(stage.script.shards);
     let site = Site { member: to, shard };
-    let departed = is_gone(gone, change.stamp.member());
-    let refused = departed && !is_known(world.view(stage, site), change);
+    let departed = is_gone(gone, stamp.member());
+    let refused = departed && !is_known(world.view(stage, site), change.get());
     if !refused {
         world.does(stage, site, Task::Take(change))?;
     }

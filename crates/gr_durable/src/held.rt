@@ -5,7 +5,7 @@ ghost use Rattle.gr_durable.specs.Tables.{held_after, held_by, put_table, with_d
 
 use crate::playing::{Rows, after_reply};
 use gr_by_key::ByKey;
-use gr_history::{Deed, QueryAsk, QueryReply, ShardRecord};
+use gr_history::{Deed, Entry, QueryAsk, QueryReply, ShardRecord};
 use gr_value::{Copied, ItemList, Key, Memory};
 use std::alloc::Global;
 
@@ -55,12 +55,12 @@ fn take_deed(alloc: Global, held: &mut Held, client: u8, deed: &Deed) -> Result<
 }
 
 // What a client holds by the deeds of one shard.
-fn held_after(alloc: Global, client: u8, deeds: &[Deed]) -> Result<Held, Memory>
+fn held_after(alloc: Global, client: u8, deeds: &[Entry]) -> Result<Held, Memory>
     ensures { IfOk result (λ held. held ≡ held_after client (reverse deeds.now)) }
 {
     let mut held = Held::new(alloc);
     for deed in deeds {
-        take_deed(alloc, &mut held, client, deed)?;
+        take_deed(alloc, &mut held, client, &deed.deed(alloc)?)?;
     }
     Ok(held)
 }

@@ -90,9 +90,9 @@ pub fn after_reply(
     ensures { IfOk result (λ left. left ≡ with_reply reply.now before) }
 {
     match (reply, before) {
-        (QueryReply::Opened(rows), _) => Ok(Some(map_of(alloc, rows.as_slice())?)),
+        (QueryReply::Opened(rows), _) => Ok(Some(map_of(alloc, rows.get().as_slice())?)),
         (QueryReply::Fetched(events), Some(rows)) => {
-            Ok(Some(followed(alloc, rows, events.as_slice())?))
+            Ok(Some(followed(alloc, rows, events.get().as_slice())?))
         }
         (QueryReply::Fetched(_), None) => Ok(None),
         (QueryReply::Closed, _) => Ok(None),

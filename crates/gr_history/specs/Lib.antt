@@ -2,6 +2,7 @@ pub mod Asks
 pub mod Calls
 pub mod Clock
 pub mod Deeds
+pub mod Entries
 pub mod Floor
 pub mod Gifts
 pub mod Ids

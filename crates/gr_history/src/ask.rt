@@ -1,6 +1,8 @@
-ghost use Rattle.std.specs.Prelude.{◌≡◌};
+ghost use Rattle.std.specs.Prelude.{◌≡◌, IfOk};
 ghost use Rattle.gr_history.specs.Asks.{key_of};
+ghost use Rattle.gr_history.specs.Entries.{kind_of};
 
+use gr_stamp::Kind;
 use gr_value::{Copied, Key, Memory, Value};
 use std::alloc::Global;
 
@@ -35,6 +37,20 @@ impl Ask {
             Ask::Destroy { key } => key,
             Ask::Remove { key, .. } => key,
             Ask::Invalidate { key } => key,
+        }
+    }
+
+    /// What it does to its key, where it changes it.
+    pub fn kind(&self, alloc: Global) -> Result<Kind, Memory>
+        ensures { IfOk result (λ kind. kind ≡ kind_of self.now) }
+    {
+        match self {
+            Ask::Put { value, .. }
+            | Ask::PutIfAbsent { value, .. }
+            | Ask::Replace { value, .. }
+            | Ask::ReplaceIf { new: value, .. } => Ok(Kind::Put(value.copy(alloc)?)),
+            Ask::Destroy { .. } | Ask::Remove { .. } => Ok(Kind::Remove),
+            Ask::Get { .. } | Ask::Invalidate { .. } => Ok(Kind::Invalid),
         }
     }
 }

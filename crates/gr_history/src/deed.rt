@@ -1,16 +1,15 @@
-ghost use Rattle.std.specs.Prelude.{◌≡◌, IfOk};
-ghost use Rattle.gr_history.specs.Deeds.{is_of_client, is_discarded, is_repeat};
+ghost use Rattle.std.specs.Prelude.{◌≡◌, None, IfOk, option_copied};
+ghost use Rattle.gr_history.specs.declared.deed.Deed.TheVariants.{Call};
+ghost use Rattle.gr_history.specs.Deeds.{is_of_client, is_discarded, is_repeat, kind_of_deed, taken_in};
+ghost use Rattle.gr_history.specs.Made.{made_in, reply_in, to_in};
 
-use crate::{Ask, Image, QueryAsk, QueryReply, Reply, Verdict, What};
+use crate::{Ask, DeedKind, Image, QueryAsk, QueryReply, Reply, Verdict, What};
 use gr_stamp::Change;
-use gr_value::{Copied, KeyList, Memory};
+use gr_value::{Copied, KeyList, Memory, Shared};
 use gr_vector::Report;
 use std::alloc::Global;
 
-// A deed stands whole, so that a history lends it and takes any. Of what a call made the stamp alone could
-// be kept, since a lawful call makes what it asks for; a deed would then take 80 bytes in place of 120,
-// but could be neither lent nor pushed without asking that it is so.
-/// One entry of a history.
+/// One deed of a history.
 #[derive(Drop)]
 pub enum Deed {
     /// A client's step on a key: what was replied, the change that was made, and the members that it
@@ -21,7 +20,7 @@ pub enum Deed {
         seq: u32,
         ask: Ask,
         reply: Reply,
-        made: Option<Change>,
+        made: Option<Shared<Change>>,
     },
     /// A client's step on one of its queries.
     Asked {
@@ -32,7 +31,7 @@ pub enum Deed {
     },
     /// A change came, and what became of it.
     Taken {
-        change: Change,
+        change: Shared<Change>,
         verdict: Verdict,
     },
     /// A joiner was given something.
@@ -59,9 +58,76 @@ pub enum Deed {
     },
 }
 
-const _: () = prove!(size_of::<Deed>() == 120);
-
 impl Deed {
+    /// A call that changes nothing.
+    pub fn answered(client: u8, seq: u32, ask: Ask, reply: Reply) -> Deed
+        ensures { result ≡ Call client 0 seq ask reply None }
+    {
+        Deed::Call {
+            client,
+            to: 0,
+            seq,
+            ask,
+            reply,
+            made: None,
+        }
+    }
+
+    pub fn kind(&self) -> DeedKind
+        ensures { result ≡ kind_of_deed self.now }
+    {
+        match self {
+            Deed::Call { .. } => DeedKind::Call,
+            Deed::Asked { .. } => DeedKind::Asked,
+            Deed::Taken { .. } => DeedKind::Taken,
+            Deed::Gave { .. } => DeedKind::Gave,
+            Deed::Imaged { .. } => DeedKind::Imaged,
+            Deed::Reported { .. } => DeedKind::Reported,
+            Deed::Heard { .. } => DeedKind::Heard,
+            Deed::Swept { .. } => DeedKind::Swept,
+        }
+    }
+
+    /// What a call replied, and nothing of another deed.
+    pub fn reply(&self, alloc: Global) -> Result<Reply, Memory>
+        ensures { IfOk result (λ reply. reply ≡ reply_in self.now) }
+    {
+        match self {
+            Deed::Call { reply, .. } => reply.copy(alloc),
+            _ => Ok(Reply::Null),
+        }
+    }
+
+    /// The members that what it made goes to, with bit m - 1 for member m.
+    pub fn to(&self) -> u8
+        ensures { result ≡ to_in self.now }
+    {
+        match self {
+            Deed::Call { to, .. } => *to,
+            _ => 0,
+        }
+    }
+
+    /// The change that it made, if it made one.
+    pub fn made(&self) -> Option<&Shared<Change>>
+        ensures { option_copied result ≡ made_in self.now }
+    {
+        match self {
+            Deed::Call { made, .. } => made.as_ref(),
+            _ => None,
+        }
+    }
+
+    /// The change that came, if one did.
+    pub fn taken(&self) -> Option<&Shared<Change>>
+        ensures { option_copied result ≡ taken_in self.now }
+    {
+        match self {
+            Deed::Taken { change, .. } => Some(change),
+            _ => None,
+        }
+    }
+
     /// Whether it is a step of this client.
     pub fn is_of(&self, client: u8) -> bool
         ensures { result ≡ is_of_client client self.now }

@@ -2,7 +2,7 @@ ghost use Rattle.std.specs.Prelude.{◌≡◌, ◌==◌, ◌≤◌, ◌+◌, [],
 ghost use Rattle.std.specs.Prelude.{IsOk, IfOk, OnOk, OnErr, option_copied, slice_get, count_by};
 ghost use Rattle.gr_history.specs.Deeds.{is_of_client, is_discarded, is_repeat};
 
-use crate::Deed;
+use crate::{Deed, Entry};
 use gr_value::{Copied, Memory};
 use std::alloc::Global;
 use std::marker::Model;
@@ -11,7 +11,7 @@ use std::marker::Model;
 /// of deeds that there is room for. The changes that were discarded or came again are counted.
 #[derive(Drop)]
 pub struct History {
-    deeds: Vec<Deed>,
+    deeds: Vec<Entry>,
     discarded: u64,
     repeats: u64,
 }
@@ -56,17 +56,28 @@ impl History {
     }
 
     /// The deed at a place, counted from 0.
-    pub fn get(&self, place: u64) -> Option<&Deed>
+    pub fn get(&self, place: u64) -> Option<&Entry>
         ensures { option_copied result ≡ slice_get self.now.deeds place }
     {
         self.deeds.get(place as usize)
     }
 
     /// All deeds, the oldest first.
-    pub fn as_slice(&self) -> &[Deed]
+    pub fn as_slice(&self) -> &[Entry]
         ensures { result.now ≡ self.now.deeds }
     {
         self.deeds.as_slice()
+    }
+
+    /// All deeds by value, the oldest first. What is large in them is shared.
+    pub fn deeds(&self, alloc: Global) -> Result<Vec<Deed>, Memory>
+        ensures { IfOk result (λ deeds. deeds.items ≡ self.now.deeds) }
+    {
+        let mut deeds = Vec::with_capacity(alloc, self.deeds.len())?;
+        for deed in &self.deeds {
+            deeds.push(deed.deed(alloc)?)?;
+        }
+        Ok(deeds)
     }
 
     /// Makes room for so many more deeds.
@@ -81,7 +92,7 @@ impl History {
 
     /// Puts a deed last. Where memory is refused the deed is dropped.
     #[inline(always)]
-    pub fn push(&mut self, deed: Deed) -> Result<(), Memory>
+    pub fn push(&mut self, deed: Entry) -> Result<(), Memory>
         ensures ok { OnOk result (self.new.deeds ≡ self.old.deeds ++ deed ∷ []) }
         ensures err { OnErr result (self.new.deeds ≡ self.old.deeds) }
         ensures room { 1 ≤ self.old.spare → IsOk result }

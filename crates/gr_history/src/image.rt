@@ -1,8 +1,7 @@
 ghost use Rattle.std.specs.Prelude.{◌≡◌};
 
-use crate::SharedList;
 use gr_stamp::{Change, ChangeList};
-use gr_value::{Copied, Memory};
+use gr_value::{Copied, ItemList, Memory, Shared};
 use gr_vector::Vector;
 use std::alloc::Global;
 
@@ -14,7 +13,7 @@ pub struct Image {
     /// How many deeds its history had.
     pub at: u64,
     /// What stands, removals too, in the order of the keys.
-    pub rows: SharedList<Change>,
+    pub rows: Shared<ChangeList>,
     pub vector: Vector,
     pub floor: u64,
 }
@@ -44,7 +43,7 @@ pub enum What {
 pub enum Gift {
     Image(Image),
     /// The changes that the giver made, the oldest first.
-    Own(ChangeList),
+    Own(ItemList<Shared<Change>>),
 }
 
 impl Copied for Gift {

@@ -2,8 +2,11 @@
 #![tactic(auto)]
 
 mod ask;
+mod cause;
 mod deed;
+mod deed_kind;
 mod done;
+mod entry;
 mod history;
 mod identity;
 mod image;
@@ -14,12 +17,14 @@ mod query_rows;
 mod record;
 mod reply;
 mod rows;
-mod shared_list;
 mod verdict;
 
 pub use ask::Ask;
+pub use cause::Cause;
 pub use deed::Deed;
+pub use deed_kind::DeedKind;
 pub use done::Done;
+pub use entry::{Entry, lent};
 pub use history::History;
 pub use identity::Identity;
 pub use image::{Gift, Image, What};
@@ -38,5 +43,4 @@ pub use rows::{
     a_joiner_counts_once_it_is_given_to, a_joiner_waits_for_its_image, a_late_put_is_discarded,
     a_put_passes_an_expired_tombstone,
 };
-pub use shared_list::SharedList;
 pub use verdict::Verdict;

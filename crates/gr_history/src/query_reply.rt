@@ -1,6 +1,5 @@
-use crate::SharedList;
-use gr_oql::Event;
-use gr_value::{Copied, ItemList, Key, Memory, Value};
+use gr_oql::EventList;
+use gr_value::{Copied, ItemList, Key, Memory, Shared, Value};
 use std::alloc::Global;
 
 /// A key with the value that is present there.
@@ -25,11 +24,11 @@ impl Copied for Row {
 #[derive(Drop)]
 pub enum QueryReply {
     /// It runs from now on. The rows are those of its result, in the order of their keys.
-    Opened(SharedList<Row>),
+    Opened(Shared<RowList>),
     Stopped,
     Closed,
     /// The events that waited.
-    Fetched(SharedList<Event>),
+    Fetched(Shared<EventList>),
     /// The client has no query of that name.
     Unknown,
     /// It has one already.

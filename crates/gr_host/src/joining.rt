@@ -9,8 +9,8 @@ ghost use Rattle.gr_host.specs.Joins.{Joined, JoinedWhere, Receives, TakesEach};
 
 use gr_history::{Gift, What};
 use gr_member::{Member, Pass, Plan};
-use gr_stamp::ChangeList;
-use gr_value::Memory;
+use gr_stamp::Change;
+use gr_value::{ItemList, Memory, Shared};
 use std::alloc::Global;
 use std::sync::Wait;
 
@@ -139,7 +139,7 @@ fn take_each<R: Wait + Sync>(
     alloc: Global,
     member: &Member,
     pass: &mut Pass,
-    changes: &ChangeList,
+    changes: &ItemList<Shared<Change>>,
 ) -> Result<(), Memory>
     requires { IsPassOf member.now pass.old }
     ensures stays { StaysAll pass.old pass.new }

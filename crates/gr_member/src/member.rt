@@ -21,7 +21,7 @@ use gr_history::{Ask, Done, Gift, Image, QueryAsk, QueryReplyList, Verdict, What
 use gr_peek::{PeekEnd, Seen};
 use gr_shard::{Came, Next};
 use gr_stamp::Change;
-use gr_value::{Key, Memory};
+use gr_value::{Key, Memory, Shared};
 use gr_vector::{Report, ReportList};
 use std::alloc::Global;
 use std::marker::Model;
@@ -79,7 +79,7 @@ impl Member {
         rt: &R,
         alloc: Global,
         pass: &mut Pass,
-        change: &Change,
+        change: &Shared<Change>,
     ) -> Result<Verdict, Memory>
         requires { IsPassOf self.now pass.old }
         ensures stays { StaysAll pass.old pass.new }
@@ -87,7 +87,7 @@ impl Member {
             (deed.Taken change.now told) pass.new) }
         ensures refused { OnErr result (LooksAt (shard_of change.now.key self.now.plan.shards) pass.old pass.new) }
     {
-        let shard = change.key.shard(self.plan.shards);
+        let shard = change.get().key.shard(self.plan.shards);
         let came = self.act(rt, alloc, pass, shard, &Next::TakeIn { change })?;
         Ok(verdict_in(came))
     }

@@ -1,12 +1,12 @@
 use gr_stamp::Change;
-use gr_value::{Copied, Memory};
+use gr_value::{Copied, Memory, Shared};
 use gr_vector::Report;
 use std::alloc::Global;
 
 /// What members tell each other of a shard. `End` is the last mail of its sender.
 #[derive(Drop)]
 pub enum Mail {
-    Change { shard: u8, change: Change },
+    Change { shard: u8, change: Shared<Change> },
     Report { shard: u8, report: Report },
     End,
 }

@@ -11,7 +11,7 @@ use crate::put::{put_counted, put_number, put_text, put_word};
 use crate::queries::{put_query_step, put_shard_line};
 use crate::regions::put_stamp;
 use crate::written::Written;
-use gr_history::{Ask, Deed, Image, Reply, Verdict, What};
+use gr_history::{Ask, Deed, Entry, Image, Reply, Verdict, What, lent};
 use gr_stamp::{Change, Kind};
 use gr_value::{Key, KeyList, Memory, Value};
 use gr_vector::Report;
@@ -139,7 +139,7 @@ fn put_image(out: &mut Vec<u8>, image: &Image) -> Result<(), Memory>
 {
     put_counted(out, "image from ", u128::from(image.from))?;
     put_counted(out, " at ", u128::from(image.at))?;
-    put_counted(out, " rows ", image.rows.len() as u128)?;
+    put_counted(out, " rows ", image.rows.get().len() as u128)?;
     put_counted(out, " floor ", u128::from(image.floor))
 }
 
@@ -179,7 +179,7 @@ fn put_deed(alloc: Global, out: &mut Vec<u8>, deed: &Deed) -> Result<(), Memory>
             to,
         } => {
             put_asked(alloc, out, *client, *seq, ask)?;
-            put_told(alloc, out, reply, change.as_ref(), *to)
+            put_told(alloc, out, reply, lent(change.as_ref()), *to)
         }
         Deed::Asked {
             client,
@@ -191,7 +191,7 @@ fn put_deed(alloc: Global, out: &mut Vec<u8>, deed: &Deed) -> Result<(), Memory>
             put_text(out, " -> ")?;
             put_shard_line(out, reply)
         }
-        Deed::Taken { change, verdict } => put_taken(alloc, out, change, *verdict),
+        Deed::Taken { change, verdict } => put_taken(alloc, out, change.get(), *verdict),
         Deed::Gave { to, what } => {
             put_counted(out, "gave ", u128::from(*to))?;
             put_what(out, *what)
@@ -221,11 +221,11 @@ fn put_told(
     put_made(out, made, to)
 }
 
-impl Written for Deed {
+impl Written for Entry {
     ghost text = { deed_line };
 
     fn put(&self, alloc: Global, out: &mut Vec<u8>) -> Result<(), Memory> {
-        put_deed(alloc, out, self)?;
+        put_deed(alloc, out, &self.deed(alloc)?)?;
         put_text(out, "\n")
     }
 }

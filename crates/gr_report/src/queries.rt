@@ -69,8 +69,8 @@ pub fn put_shard_line(out: &mut Vec<u8>, reply: &QueryReply) -> Result<(), Memor
     ensures { OnOk result (out.new.items ≡ out.old.items ++ shard_line reply.now) }
 {
     match reply {
-        QueryReply::Opened(rows) => put_line(out, reply, rows.len() as u128),
-        QueryReply::Fetched(events) => put_line(out, reply, events.len() as u128),
+        QueryReply::Opened(rows) => put_line(out, reply, rows.get().len() as u128),
+        QueryReply::Fetched(events) => put_line(out, reply, events.get().len() as u128),
         _ => put_line(out, reply, 0),
     }
 }
@@ -147,7 +147,7 @@ fn gather_reply<'a>(
     ensures { OnOk result (shown rows.new.entries ≡ fold (with_row (λ row. row.key)) (shown rows.old.entries) (opened_rows reply.now)) }
 {
     match reply {
-        QueryReply::Opened(more) => gather(alloc, rows, more.as_slice()),
+        QueryReply::Opened(more) => gather(alloc, rows, more.get().as_slice()),
         _ => Ok(()),
     }
 }
@@ -180,7 +180,7 @@ fn put_told(alloc: Global, out: &mut Vec<u8>, reply: &QueryReply) -> Result<(), 
     ensures { OnOk result (out.new.items ≡ out.old.items ++ flat_map event_text (fetched_events reply.now)) }
 {
     match reply {
-        QueryReply::Fetched(events) => put_all(alloc, out, events.as_slice()),
+        QueryReply::Fetched(events) => put_all(alloc, out, events.get().as_slice()),
         _ => Ok(()),
     }
 }
@@ -189,7 +189,7 @@ fn told_of(reply: &QueryReply) -> u64
     ensures { result ≡ length (fetched_events reply.now) }
 {
     match reply {
-        QueryReply::Fetched(events) => events.len() as u64,
+        QueryReply::Fetched(events) => events.get().len() as u64,
         _ => 0,
     }
 }

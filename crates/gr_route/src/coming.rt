@@ -43,12 +43,12 @@ pub(crate) fn came(alloc: Global, deed: &Deed, ids: &Vector) -> Result<ChangeLis
         Deed::Call {
             made: Some(change),
             ..
-        } => one(alloc, change),
+        } => one(alloc, change.get()),
         Deed::Taken {
             change,
             verdict: Verdict::Applied | Verdict::Discarded,
-        } => one(alloc, change),
-        Deed::Imaged { image } => fresh_rows(alloc, image.rows.as_slice(), ids),
+        } => one(alloc, change.get()),
+        Deed::Imaged { image } => fresh_rows(alloc, image.rows.get().as_slice(), ids),
         _ => Ok(ChangeList::new(alloc)?),
     }
 }
@@ -63,7 +63,8 @@ pub(crate) fn note(ids: &mut Vector, deed: &Deed) -> Result<(), Memory>
             ..
         }
         | Deed::Taken { change, .. } => {
-            let _fresh = ids.note(change.stamp.member(), change.stamp.rv())?;
+            let stamp = &change.get().stamp;
+            let _fresh = ids.note(stamp.member(), stamp.rv())?;
             Ok(())
         }
         Deed::Imaged { image } => ids.unite(&image.vector),

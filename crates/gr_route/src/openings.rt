@@ -167,7 +167,8 @@ fn add(all: &mut OpeningList, opening: Option<Opening>) -> Result<(), Memory>
 pub fn events(alloc: Global, history: &History) -> Result<OpeningList, Memory>
     ensures { IfOk result (λ all. all ≡ openings history.now.deeds) }
 {
-    let deeds = history.as_slice();
+    let all_deeds = history.deeds(alloc)?;
+    let deeds = all_deeds.as_slice();
     let lists = turned_each(alloc, deeds)?;
     let mut all = OpeningList::new(alloc)?;
     for place in 0..deeds.len() {

@@ -145,7 +145,7 @@ fn named(alloc: Global, deed: &Deed) -> Result<BTreeSet<Key>, Memory>
     let mut set = BTreeSet::new(alloc);
     match deed {
         Deed::Swept { expired, .. } => add_keys(alloc, &mut set, expired.as_slice())?,
-        Deed::Imaged { image } => add_changed(alloc, &mut set, image.rows.as_slice())?,
+        Deed::Imaged { image } => add_changed(alloc, &mut set, image.rows.get().as_slice())?,
         _ => {}
     }
     Ok(set)

@@ -9,13 +9,13 @@ use Rattle.gr_vector.specs.Ids.{Id, has_id, is_same_id}
 use Rattle.gr_history.specs.declared.deed.Deed.{Deed}
 use Rattle.gr_history.specs.declared.deed.Deed.TheVariants.{Call, Asked, Taken, Gave, Imaged, Reported, Heard, Swept}
 use Rattle.gr_history.specs.Ids.{id_of, ids_at, ids}
+use Rattle.gr_history.specs.Deeds.{taken_in}
 use Rattle.gr_law.specs.Grids.{Among}
 use Rattle.gr_law.proofs.Images.{among_filter_map}
 use Rattle.gr_law.proofs.Lists.{among_reverse, has_left, has_right}
 use Rattle.gr_post.specs.declared.mail.Mail.{Mail}
 use Rattle.gr_post.specs.Plan.{Draw}
 use Rattle.gr_post.specs.Laws.{owed, times}
-use Rattle.gr_run_law.specs.Duties.{taken_in}
 use Rattle.gr_run_law.specs.Plans.{total_to}
 use Rattle.gr_run_law.proofs.Lists.{count_cons, none_isnt_some, same_in_some}
 

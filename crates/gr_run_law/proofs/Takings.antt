@@ -10,6 +10,7 @@ use Rattle.gr_stamp.specs.declared.change.Change.{Change}
 use Rattle.gr_vector.specs.declared.report.Report.{Report}
 use Rattle.gr_history.specs.declared.deed.Deed.{Deed}
 use Rattle.gr_history.specs.declared.deed.Deed.TheVariants.{Taken, Imaged, Reported, Heard, Swept}
+use Rattle.gr_history.specs.Deeds.{taken_in}
 use Rattle.gr_law.specs.Grids.{Among}
 use Rattle.gr_post.specs.declared.mail.Mail.{Mail}
 use Rattle.gr_post.specs.declared.mail.Mail.TheVariants as mail
@@ -22,7 +23,7 @@ use Rattle.gr_script.specs.declared.line.Line.{Line}
 use Rattle.gr_script.specs.Rules.{Heading, IsMember, IsScript}
 use Rattle.gr_world.specs.Grids.{Histories}
 use Rattle.gr_world.specs.Served.{Served}
-use Rattle.gr_run_law.specs.Duties.{taken_in, heard_in, given_to}
+use Rattle.gr_run_law.specs.Duties.{heard_in, given_to}
 use Rattle.gr_run_law.specs.Plans.{total_to, courier_of, draws_for, brings_change, brings_report, reports_posted, changes_posted}
 use Rattle.gr_run_law.specs.Runs.{TakesChanges, HearsReports}
 use Rattle.gr_run_law.specs.Threads.{AreLeftByThreads, Work, TookIn, HeardOf, ReportedAll, SweptAll, Merged, GotFrom, work_at, deed_if}

@@ -60,11 +60,6 @@ given_to joiner (_ ∷ past) = given_to joiner past
 
 -- ---- what came from others, and what they are told
 
--- the change that a deed took in
-abbrev pub taken_in : Deed → Option Change
-taken_in (Taken change verdict) = Some change
-taken_in _ = None
-
 -- the report that a deed heard
 abbrev pub heard_in : Deed → Option Report
 heard_in (Heard report) = Some report

@@ -7,6 +7,7 @@ use Rattle.gr_history.specs.declared.deed.Deed.{Deed}
 use Rattle.gr_history.specs.declared.record.ClientRecord.{ClientRecord}
 use Rattle.gr_history.specs.declared.record.Record.{Record}
 use Rattle.gr_history.specs.Recipients.{has_image}
+use Rattle.gr_history.specs.Deeds.{taken_in}
 use Rattle.gr_law.specs.Grids.{Older}
 use Rattle.gr_law.specs.Integrity.{IsWhole}
 use Rattle.gr_post.specs.Laws.{owed}
@@ -17,7 +18,7 @@ use Rattle.gr_world.specs.Grids.{Histories, grid_from}
 use Rattle.gr_world.specs.Numbered.{numbers_from}
 use Rattle.gr_world.specs.Records.{HasRegions}
 use Rattle.gr_world.specs.Served.{histories_in, Served, AreServed}
-use Rattle.gr_run_law.specs.Duties.{duty_in, duty_of, gift_in, gift_due, given_to, taken_in, heard_in, reported_in, is_step}
+use Rattle.gr_run_law.specs.Duties.{duty_in, duty_of, gift_in, gift_due, given_to, heard_in, reported_in, is_step}
 use Rattle.gr_run_law.specs.Plans.{changes_posted, reports_posted, total_to, courier_of, draws_for, brings_change, brings_report}
 
 -- ---- the five clauses

@@ -16,7 +16,7 @@ use gr_member::{Member, Pass, PeekEnd, Seen};
 use gr_post::{Courier, Mail};
 use gr_script::{Act, Step};
 use gr_stamp::Change;
-use gr_value::{Key, Memory};
+use gr_value::{Key, Memory, Shared};
 use std::alloc::Global;
 use std::sync::Wait;
 use std::thread;
@@ -73,7 +73,7 @@ fn post(
     alloc: Global,
     courier: &mut Courier,
     shards: u8,
-    made: Option<Change>,
+    made: Option<Shared<Change>>,
     to: u8,
 ) -> Result<(), Memory>
     requires shards { (1 ≤ shards) × (shards ≤ 32) }
@@ -85,7 +85,7 @@ fn post(
     let Some(change) = made else {
         return Ok(());
     };
-    let shard = change.key.shard(shards);
+    let shard = change.get().key.shard(shards);
     courier.post(alloc, &Mail::Change { shard, change }, to)?;
     Ok(())
 }

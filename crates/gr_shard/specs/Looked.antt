@@ -5,7 +5,9 @@ use Rattle.gr_stamp.specs.Winner.{is_removal}
 use Rattle.gr_vector.specs.Ids.{Id}
 use Rattle.gr_history.specs.declared.identity.Identity.{Identity}
 use Rattle.gr_history.specs.declared.deed.Deed.{Deed}
-use Rattle.gr_history.specs.declared.deed.Deed.TheVariants.{Call, Asked, Taken, Gave, Imaged, Reported, Heard, Swept}
+use Rattle.gr_history.specs.declared.deed_kind.DeedKind.{DeedKind}
+use Rattle.gr_history.specs.declared.deed_kind.DeedKind.TheVariants.{Call, Asked, Taken, Gave, Imaged, Reported, Heard, Swept}
+use Rattle.gr_history.specs.Deeds.{kind_of_deed}
 use Rattle.gr_history.specs.Clock.{clock, since}
 use Rattle.gr_history.specs.Stable.{is_stable}
 use Rattle.gr_history.specs.Standing.{standing}
@@ -24,12 +26,15 @@ pub record IsLooked (id : Identity) (looked : ℕ) (past : List Deed) : Type 0 w
 
 -- Such a moment once a deed was done, at this clock, where there was one before. What comes from others may make each removal
 -- stable, and behind a sweep none that has timed out is.
+abbrev pub looked_behind : DeedKind → ℕ → ℕ → ℕ
+looked_behind Call clock looked = looked
+looked_behind Asked clock looked = looked
+looked_behind Taken clock looked = 0
+looked_behind Gave clock looked = 0
+looked_behind Imaged clock looked = 0
+looked_behind Reported clock looked = looked
+looked_behind Heard clock looked = 0
+looked_behind Swept clock looked = max looked (clock - (timeout - 1))
+
 abbrev pub looked_after : Deed → ℕ → ℕ → ℕ
-looked_after (Call client to seq ask reply made) clock looked = looked
-looked_after (Asked client seq ask reply) clock looked = looked
-looked_after (Taken change verdict) clock looked = 0
-looked_after (Gave to what) clock looked = 0
-looked_after (Imaged image) clock looked = 0
-looked_after (Reported report) clock looked = looked
-looked_after (Heard report) clock looked = 0
-looked_after (Swept moment expired) clock looked = max looked (clock - (timeout - 1))
+looked_after deed clock looked = looked_behind (kind_of_deed deed) clock looked

@@ -12,10 +12,10 @@ use crate::committing::carry_out;
 use crate::effect::QueriesAfter;
 use crate::opening::rows_of;
 use gr_cq::{Coming, QueryEnd, Registry};
-use gr_history::{QueryAsk, QueryReply, SharedList};
+use gr_history::{QueryAsk, QueryReply};
 use gr_oql::Query;
 use gr_slots::Slots;
-use gr_value::{Copied, Key, Memory};
+use gr_value::{Copied, Key, Memory, Shared};
 use std::alloc::Global;
 
 /// A reply that is noted in the history, and told to the client.
@@ -30,24 +30,6 @@ pub struct Replies {
 pub struct Foretold {
     pub replies: Replies,
     pub after: QueriesAfter,
-}
-
-/// Does what a client asks of its query. Where memory is refused the queries are as before.
-pub fn answer(
-    alloc: Global,
-    queries: &mut Registry,
-    slots: &Slots,
-    client: u8,
-    ask: &QueryAsk,
-) -> Result<Replies, Memory>
-    ensures replies { IfOk result (λ replies. (past : List Deed) → Hold slots.now.entries past
-        → replies ≡ twice (reply_by ask.now (rows_of_ask ask.now past) (find client (name_of ask.now) queries.old.entries))) }
-    ensures ok { OnOk result (queries.new.entries ≡ served client ask.now queries.old.entries) }
-    ensures err { OnErr result (queries.new.entries ≡ queries.old.entries) }
-{
-    let Foretold { replies, after } = foretell(alloc, queries, slots, client, ask)?;
-    carry_out(queries, after);
-    Ok(replies)
 }
 
 /// Makes ready what a client asks of its query, and changes nothing yet.
@@ -100,7 +82,7 @@ fn enrol(
     match queries.foresee(alloc, &coming) {
         Err(end) => refused(end),
         Ok(foreseen) => {
-            let rows = SharedList::new(alloc, rows_of(alloc, query, slots)?)?;
+            let rows = Shared::new(alloc, rows_of(alloc, query, slots)?)?;
             let noted = QueryReply::Opened(rows.copy(alloc)?);
             Ok(Foretold {
                 replies: Replies {
@@ -189,7 +171,7 @@ fn fetch(alloc: Global, queries: &mut Registry, client: u8, name: &Key) -> Resul
     match queries.foresee(alloc, &Coming::Take { client, name }) {
         Err(end) => refused(end),
         Ok(foreseen) => {
-            let events = SharedList::new(alloc, queries.waiting(alloc, client, name)?)?;
+            let events = Shared::new(alloc, queries.waiting(alloc, client, name)?)?;
             let noted = QueryReply::Fetched(events.copy(alloc)?);
             Ok(Foretold {
                 replies: Replies {

@@ -8,10 +8,10 @@ ghost use Rattle.gr_history.specs.Gifts.{own_changes};
 ghost use Rattle.gr_history.specs.Made.{made_at};
 ghost use Rattle.gr_shard.specs.Entries.{change_of, changes_in};
 
-use gr_history::Deed;
+use gr_history::Entry;
 use gr_slots::{Slot, Slots};
 use gr_stamp::{Change, ChangeList};
-use gr_value::{Copied, Key, Memory};
+use gr_value::{Copied, ItemList, Key, Memory, Shared};
 use std::alloc::Global;
 
 // The change that stands at a key.
@@ -37,23 +37,13 @@ pub fn standing(alloc: Global, slots: &Slots) -> Result<ChangeList, Memory>
     Ok(changes)
 }
 
-// The change that a deed made, if it made one.
-fn made_of(deed: &Deed) -> Option<&Change>
-    ensures { option_to_list (option_copied result) ≡ made_at deed.now }
-{
-    match deed {
-        Deed::Call { made, .. } => made.as_ref(),
-        _ => None,
-    }
-}
-
 /// The changes that the calls of a history made, the oldest first.
-pub fn own_changes(alloc: Global, deeds: &[Deed]) -> Result<ChangeList, Memory>
+pub fn own_changes(alloc: Global, deeds: &[Entry]) -> Result<ItemList<Shared<Change>>, Memory>
     ensures { IfOk result (λ changes. changes ≡ own_changes (reverse deeds.now)) }
 {
-    let mut changes = ChangeList::new(alloc)?;
+    let mut changes = ItemList::new(alloc)?;
     for deed in deeds {
-        if let Some(change) = made_of(deed) {
+        if let Some(change) = deed.made() {
             changes.push(change.copy(alloc)?)?;
         }
     }

@@ -1,14 +1,12 @@
 ghost use Rattle.std.specs.Prelude.{◌≡◌, ◌≤◌, [], IfOk, option_copied};
 ghost use Rattle.gr_history.specs.Recipients.{is_recipient, recipients};
-ghost use Rattle.gr_history.specs.Calls.{nothing_made};
 ghost use Rattle.gr_shard.specs.Entries.{with_made};
 ghost use Rattle.gr_shard.specs.Gifts.{with_recipient};
-ghost use Rattle.gr_shard.specs.Calls.{call_with};
+ghost use Rattle.gr_shard.specs.Calls.{done_in};
 
-use crate::entering::copied;
-use gr_history::{Ask, Deed, Done, Identity, Reply};
+use gr_history::{Done, Entry, Identity};
 use gr_stamp::Change;
-use gr_value::{Copied, Memory};
+use gr_value::{Copied, Memory, Shared};
 use gr_vector::Vector;
 use std::alloc::Global;
 
@@ -57,38 +55,26 @@ pub fn note(vector: &mut Vector, made: Option<&Change>)
     }
 }
 
-/// A reply beside which nothing is made.
-pub fn nothing_made(reply: Reply) -> Done
-    ensures { result ≡ nothing_made reply }
-{
-    Done {
-        reply,
-        made: None,
-        to: 0,
-    }
-}
-
-/// A copy of what a call gives.
-pub fn done_copied(alloc: Global, done: &Done) -> Result<Done, Memory>
-    ensures { IfOk result (λ copy. copy ≡ done.now) }
+/// What a call gave, by its deed.
+pub fn done_of(alloc: Global, deed: &Entry) -> Result<Done, Memory>
+    ensures { IfOk result (λ done. done ≡ done_in deed.now) }
 {
     Ok(Done {
-        reply: done.reply.copy(alloc)?,
-        made: copied(alloc, done.made.as_ref())?,
-        to: done.to,
+        reply: deed.reply(alloc)?,
+        made: shared_again(alloc, deed.made())?,
+        to: deed.to(),
     })
 }
 
-/// The deed of a call that gave this.
-pub fn deed_of(client: u8, seq: u32, ask: Ask, done: Done) -> Deed
-    ensures { result ≡ call_with client seq ask done }
+// The same change, if there is one.
+fn shared_again(
+    alloc: Global,
+    made: Option<&Shared<Change>>,
+) -> Result<Option<Shared<Change>>, Memory>
+    ensures { IfOk result (λ copy. copy ≡ option_copied made.entry) }
 {
-    Deed::Call {
-        client,
-        seq,
-        ask,
-        reply: done.reply,
-        made: done.made,
-        to: done.to,
+    match made {
+        None => Ok(None),
+        Some(change) => Ok(Some(change.copy(alloc)?)),
     }
 }

@@ -103,7 +103,7 @@ pub fn merged(
     ensures merged { IfOk result (λ left. left.entries ≡ merged known.now.ids clock image.now slots.now.entries) }
     ensures ordered { OnOk result (IsStrictlySortedBy (slice_cmp nat_cmp) (keys_of slots.now.entries)) }
 {
-    let mut left = rows_over(alloc, image.rows.as_slice(), known, clock, slots)?;
+    let mut left = rows_over(alloc, image.rows.get().as_slice(), known, clock, slots)?;
     for (key, slot) in slots.rows(alloc)? {
         set_unknown(alloc, &mut left, &image.vector, key, slot)?;
     }

@@ -1,5 +1,6 @@
 use gr_history::{Ask, Done, Gift, Image, QueryAsk, QueryReply, Verdict, What};
 use gr_stamp::Change;
+use gr_value::Shared;
 use gr_vector::Report;
 
 /// What is to be done at a shard next, named as the call that does it.
@@ -16,7 +17,7 @@ pub enum Next<'a> {
         ask: &'a QueryAsk,
     },
     TakeIn {
-        change: &'a Change,
+        change: &'a Shared<Change>,
     },
     Give {
         to: u8,

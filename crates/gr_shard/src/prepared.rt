@@ -3,13 +3,13 @@ ghost use Rattle.std.specs.Prelude.{◌≡◌};
 use crate::Came;
 use crate::effect::Effect;
 use gr_cq::Turned;
-use gr_history::Deed;
+use gr_history::Entry;
 
 /// A deed with all that it takes memory for, which `Shard::commit` adds to the history that it was
 /// prepared for.
 #[derive(Drop)]
 pub struct Prepared {
-    pub(crate) deed: Deed,
+    pub(crate) deed: Entry,
     pub(crate) came: Came,
     pub(crate) turned: Vec<Turned>,
     pub(crate) effect: Effect,

@@ -30,7 +30,8 @@ mod expiring;
 mod halves;
 mod preparing;
 
-use crate::asking::{Replies, answer};
+use crate::asking::{Foretold, Replies, foretell};
+use crate::committing::carry_out;
 use crate::entering::{applied, is_there, value_of, verdict_at};
 use crate::giving::{own_changes, standing};
 use crate::making::{first_recipients, note, with_recipient};
@@ -40,14 +41,14 @@ use crate::sweeping::{drop_all, looked_after, risen};
 use crate::telling::{come_in, take_over};
 use gr_cq::Registry;
 use gr_history::{
-    Deed, Gift, History, Identity, Image, QueryAsk, QueryReply, ShardRecord, SharedList, Verdict,
+    Deed, Entry, Gift, History, Identity, Image, QueryAsk, QueryReply, ShardRecord, Verdict,
     What,
 };
 use gr_slots::{Slot, Slots};
 use gr_stable::Heard;
 use gr_stamp::Change;
-use gr_value::{Copied, Key, KeyList, Memory, Value};
-use gr_vector::{Report, SharedVector, Vector};
+use gr_value::{Copied, Key, KeyList, Memory, Shared, Value};
+use gr_vector::{Report, Vector};
 use std::alloc::Global;
 use std::marker::Model;
 
@@ -120,25 +121,26 @@ impl Shard {
 
     /// Takes in a change that another member made, in whatever order and however often it comes, and
     /// adds that to the history.
-    pub fn take_in(&mut self, alloc: Global, change: &Change) -> Result<Verdict, Memory>
+    pub fn take_in(
+        &mut self,
+        alloc: Global,
+        change: &Shared<Change>,
+    ) -> Result<Verdict, Memory>
         requires { shard_of change.now.key self.old.id.shards ≡ self.old.id.shard }
         ensures verdict { IfOk result (λ told. told ≡ verdict (reverse self.old.deeds) change.now) }
         ensures added { IfOk result (λ told. self.new ≡ after_deed self.old (deed.Taken change.now told)) }
         ensures err { OnErr result (self.new ≡ with_spare self.new.spare self.old) }
     {
-        let verdict = self.verdict(change);
+        let verdict = self.verdict(change.get());
         self.roomy = false;
         self.history.reserve(1)?;
         self.vector.reserve()?;
         let taken = change.copy(alloc)?;
-        let came = applied(verdict, change);
+        let came = applied(verdict, change.get());
         come_in(alloc, &mut self.slots, &mut self.queries, self.clock, came)?;
-        note(&mut self.vector, Some(change));
+        note(&mut self.vector, Some(change.get()));
         self.looked = 0;
-        let _ = self.history.push(Deed::Taken {
-            change: taken,
-            verdict,
-        });
+        let _ = self.history.push(Entry::taken_in(taken, verdict));
         Ok(verdict)
     }
 
@@ -160,13 +162,20 @@ impl Shard {
         let asked = ask.copy(alloc)?;
         self.roomy = false;
         self.history.reserve(1)?;
-        let Replies { noted, told } = answer(alloc, &mut self.queries, &self.slots, client, ask)?;
-        let _ = self.history.push(Deed::Asked {
-            client,
-            seq,
-            ask: asked,
-            reply: noted,
-        });
+        let Foretold { replies, after } =
+            foretell(alloc, &mut self.queries, &self.slots, client, ask)?;
+        let Replies { noted, told } = replies;
+        let deed = Entry::of(
+            alloc,
+            Deed::Asked {
+                client,
+                seq,
+                ask: asked,
+                reply: noted,
+            },
+        )?;
+        carry_out(&mut self.queries, after);
+        let _ = self.history.push(deed);
         Ok(told)
     }
 
@@ -179,9 +188,10 @@ impl Shard {
     {
         let report = self.reported(alloc)?;
         let noted = report.copy(alloc)?;
+        let deed = Entry::of(alloc, Deed::Reported { report: noted })?;
         self.roomy = false;
         self.history.reserve(1)?;
-        let _ = self.history.push(Deed::Reported { report: noted });
+        let _ = self.history.push(deed);
         Ok(report)
     }
 
@@ -193,9 +203,10 @@ impl Shard {
         self.roomy = false;
         self.history.reserve(1)?;
         let noted = report.copy(alloc)?;
+        let deed = Entry::of(alloc, Deed::Heard { report: noted })?;
         self.heard.hear(alloc, report)?;
         self.looked = 0;
-        let _ = self.history.push(Deed::Heard { report: noted });
+        let _ = self.history.push(deed);
         Ok(())
     }
 
@@ -211,11 +222,12 @@ impl Shard {
         ensures err { OnErr result (self.new ≡ with_spare self.new.spare self.old) }
     {
         let gift = self.gift(alloc, what)?;
+        let deed = Entry::of(alloc, Deed::Gave { to, what })?;
         self.roomy = false;
         self.history.reserve(1)?;
         self.to = with_recipient(self.id, to, self.to);
         self.looked = 0;
-        let _ = self.history.push(Deed::Gave { to, what });
+        let _ = self.history.push(deed);
         Ok(gift)
     }
 
@@ -230,13 +242,14 @@ impl Shard {
         self.roomy = false;
         self.history.reserve(1)?;
         let noted = image.copy(alloc)?;
+        let deed = Entry::of(alloc, Deed::Imaged { image: noted })?;
         let slots = merged(alloc, &self.slots, image, &self.vector, self.clock)?;
         let (old, ids) = (&mut self.slots, &mut self.vector);
         take_over(alloc, old, ids, &mut self.queries, slots, &image.vector)?;
         self.floor = image.floor.max(self.floor);
         self.joined = true;
         self.looked = 0;
-        let _ = self.history.push(Deed::Imaged { image: noted });
+        let _ = self.history.push(deed);
         Ok(())
     }
 
@@ -252,12 +265,17 @@ impl Shard {
         let clock = moment.max(self.clock);
         let timed_out = self.slots.timed_out(alloc, self.looked, clock)?;
         let expired = self.stable_among(alloc, timed_out.as_slice())?;
+        let named = expired.copy(alloc)?;
+        let count = expired.len() as u64;
+        let swept = Deed::Swept {
+            moment,
+            expired: named,
+        };
+        let deed = Entry::of(alloc, swept)?;
         self.history.reserve(1)?;
         self.floor = risen(&self.slots, self.floor, expired.as_slice());
         drop_all(&mut self.slots, expired.as_slice());
         self.clock = clock;
-        let count = expired.len() as u64;
-        let deed = Deed::Swept { moment, expired };
         self.looked = looked_after(&deed, clock, self.looked);
         let _ = self.history.push(deed);
         Ok(count)
@@ -349,7 +367,7 @@ impl Shard {
             at: self.history.len(),
             own: self.vector.top(self.id.member),
             to: self.to,
-            vector: SharedVector::new(alloc, self.vector.copy(alloc)?)?,
+            vector: Shared::new(alloc, self.vector.copy(alloc)?)?,
         })
     }
 
@@ -374,7 +392,7 @@ impl Shard {
         Ok(Image {
             from: self.id.member,
             at: self.history.len(),
-            rows: SharedList::new(alloc, standing(alloc, &self.slots)?)?,
+            rows: Shared::new(alloc, standing(alloc, &self.slots)?)?,
             vector: self.vector.copy(alloc)?,
             floor: self.floor,
         })

@@ -5,7 +5,7 @@ ghost use Rattle.gr_shard.specs.Sweeps.{risen, valueless, without_all};
 
 use crate::entering::ver_of;
 use gr_cq::Turned;
-use gr_history::Deed;
+use gr_history::{DeedKind, Entry};
 use gr_slots::{Slots, TIMEOUT};
 use gr_value::{Copied, Key, Memory};
 use std::alloc::Global;
@@ -51,12 +51,12 @@ pub fn valueless(alloc: Global, keys: &[Key]) -> Result<Vec<Turned>, Memory>
 
 /// The moment before which no removal is stable once this deed was done, where that was so of the one
 /// before, at this clock.
-pub fn looked_after(deed: &Deed, clock: u64, before: u64) -> u64
+pub fn looked_after(deed: &Entry, clock: u64, before: u64) -> u64
     ensures { result ≡ looked_after deed.now clock before }
 {
-    match deed {
-        Deed::Call { .. } | Deed::Asked { .. } | Deed::Reported { .. } => before,
-        Deed::Swept { .. } => before.max(clock.saturating_sub(TIMEOUT - 1)),
-        Deed::Taken { .. } | Deed::Gave { .. } | Deed::Imaged { .. } | Deed::Heard { .. } => 0,
+    match deed.kind() {
+        DeedKind::Call | DeedKind::Asked | DeedKind::Reported => before,
+        DeedKind::Swept => before.max(clock.saturating_sub(TIMEOUT - 1)),
+        DeedKind::Taken | DeedKind::Gave | DeedKind::Imaged | DeedKind::Heard => 0,
     }
 }

@@ -61,7 +61,7 @@ fn is_covered(member: u8, tombstone: &Stamp, report: Option<&Report>, vector: &V
         Some(report) => {
             report
                 .vector
-                .vector()
+                .get()
                 .holds(tombstone.member(), tombstone.rv())
                 && vector.covers(member, report.own)
         }

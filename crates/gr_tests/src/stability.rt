@@ -1,6 +1,7 @@
 use gr_stable::Heard;
 use gr_stamp::Stamp;
-use gr_vector::{Report, SharedVector, Vector};
+use gr_value::Shared;
+use gr_vector::{Report, Vector};
 use std::alloc::Global;
 use std::process::Abort;
 use std::test::Fail;
@@ -25,7 +26,7 @@ fn report(alloc: Global, member: u8, at: u64, own: u64, upto: [u64; 3]) -> Resul
         at,
         own,
         to: 0,
-        vector: SharedVector::new(alloc, known(alloc, upto)?)?,
+        vector: Shared::new(alloc, known(alloc, upto)?)?,
     })
 }
 

@@ -2,7 +2,8 @@ ghost use Rattle.std.specs.Prelude.{◌≡◌, ◌≤◌, ◌<◌, ◌^◌, IfSo
 ghost use Rattle.gr_post.specs.Passes.{sender_of, taker_of};
 
 use gr_post::{Courier, Inbox, InboxList, Mail, SendPass, SendPassList, TakePass};
-use gr_vector::{Report, SharedVector, Vector};
+use gr_value::Shared;
+use gr_vector::{Report, Vector};
 use std::alloc::Global;
 use std::sync::Wait;
 use std::test::Fail;
@@ -21,7 +22,7 @@ fn mail(alloc: Global, at: u64) -> Option<Mail> {
             at,
             own: 0,
             to: 0,
-            vector: SharedVector::new(alloc, vector).ok()?,
+            vector: Shared::new(alloc, vector).ok()?,
         },
     })
 }

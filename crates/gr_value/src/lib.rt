@@ -17,6 +17,7 @@ mod plain;
 mod printing;
 mod reading;
 mod scalar;
+mod shared;
 mod text;
 mod value;
 
@@ -29,5 +30,6 @@ pub use memory::Memory;
 pub use printing::values_print_on_one_line;
 pub use reading::values_read_back;
 pub use scalar::Scalar;
+pub use shared::Shared;
 pub use text::Text;
 pub use value::{Field, Value};

@@ -6,10 +6,8 @@ mod blocks;
 mod gap;
 mod numbers;
 mod report;
-mod shared;
 mod united;
 mod vector;
 
 pub use report::{Report, ReportList};
-pub use shared::SharedVector;
 pub use vector::Vector;

@@ -1,5 +1,5 @@
-use crate::SharedVector;
-use gr_value::{Copied, ItemList, Memory};
+use crate::Vector;
+use gr_value::{Copied, ItemList, Memory, Shared};
 use std::alloc::Global;
 
 /// What a member says of a shard: the length of its history, the greatest number of its own changes,
@@ -11,7 +11,7 @@ pub struct Report {
     pub at: u64,
     pub own: u64,
     pub to: u8,
-    pub vector: SharedVector,
+    pub vector: Shared<Vector>,
 }
 
 pub type ReportList = ItemList<Report>;

@@ -1,12 +1,13 @@
 use gr_history::Image;
 use gr_stamp::Change;
+use gr_value::Shared;
 use gr_vector::Report;
 
 /// What is done at a shard, beside a client's steps.
 #[derive(Clone, Copy)]
 pub enum Task<'a> {
     /// A change comes.
-    Take(&'a Change),
+    Take(&'a Shared<Change>),
     /// An image of this shard comes.
     Merge(&'a Image),
     /// A report is made.

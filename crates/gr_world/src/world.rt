@@ -24,11 +24,11 @@ use crate::stage::Stage;
 use crate::step::StepName;
 use crate::task::Task;
 use crate::tellings::Tellings;
-use gr_history::{Answer, Ask, Deed, History, Identity, Record};
+use gr_history::{Answer, Ask, History, Identity, Record};
 use gr_script::{Act, Line, Script};
 use gr_shard::Shard;
 use gr_stamp::Change;
-use gr_value::{Copied, Key, Memory};
+use gr_value::{Copied, Key, Memory, Shared};
 use std::alloc::Global;
 
 /// All members' shards, what each client was told, and where what each step made stands. What is done to
@@ -58,12 +58,19 @@ fn note(
 }
 
 // What the deed at a place made.
-fn made_at(alloc: Global, history: &History, at: u64) -> Result<Option<Change>, Memory>
+fn made_at(
+    alloc: Global,
+    history: &History,
+    at: u64,
+) -> Result<Option<Shared<Change>>, Memory>
     ensures { IfOk result (λ made. made ≡ option_and_then made_in (slice_get history.now.deeds at)) }
 {
-    match history.get(at) {
-        Some(Deed::Call { made, .. }) => made.copy(alloc),
-        _ => Ok(None),
+    let Some(deed) = history.get(at) else {
+        return Ok(None);
+    };
+    match deed.made() {
+        Some(change) => Ok(Some(change.copy(alloc)?)),
+        None => Ok(None),
     }
 }
 
@@ -170,7 +177,12 @@ impl World {
     }
 
     /// What a step made, if it made anything.
-    pub fn change_of(&self, stage: Stage, client: u8, seq: u32) -> Result<Option<Change>, Memory>
+    pub fn change_of(
+        &self,
+        stage: Stage,
+        client: u8,
+        seq: u32,
+    ) -> Result<Option<Shared<Change>>, Memory>
         requires work { IsAtWork (heading_at stage) self.now }
         requires many { 1 < stage.script.now.members }
         ensures { IfOk result (λ made. (events : List Event)
@@ -190,7 +202,7 @@ impl World {
         ensures { IfOk result (λ _. PlaysAt stage.entry (λ heading. after heading [] (line.Deliver to client seq)) self.old self.new) }
     {
         if let Some(change) = self.change_of(stage, client, seq)? {
-            let shard = change.key.shard(stage.script.shards);
+            let shard = change.get().key.shard(stage.script.shards);
             let site = Site { member: to, shard };
             self.does(stage, site, Task::Take(&change))?;
         }

@@ -5,6 +5,7 @@ use crate::words::Answer;
 use gr_history::{Ask, Done, Gift, Image, QueryAsk, Verdict, What};
 use gr_post::{Mail, Posting};
 use gr_stamp::Change;
+use gr_value::Shared;
 use gr_vector::Report;
 
 impl Member {
@@ -14,8 +15,8 @@ impl Member {
         let Some(change) = made else {
             return Err(Stop::Otherwise);
         };
-        self.parts.set(rt.alloc(), &change)?;
-        self.parts.note(&change.stamp)?;
+        self.parts.set(rt.alloc(), change.get())?;
+        self.parts.note(&change.get().stamp)?;
         self.end(rt, name, Answer::Reply(&reply))?;
         let mail = Mail::Change { shard: 0, change };
         Ok(Posting { mail, to })
@@ -39,8 +40,14 @@ impl Member {
         }
     }
 
-    fn deliver(&mut self, rt: &HostRuntime, name: &str, change: &Change) -> Result<(), Stop> {
+    fn deliver(
+        &mut self,
+        rt: &HostRuntime,
+        name: &str,
+        change: &Shared<Change>,
+    ) -> Result<(), Stop> {
         let verdict = self.taken_in(rt.alloc(), change)?;
+        let change = change.get();
         if let Verdict::Applied = verdict {
             self.parts.set(rt.alloc(), change)?;
         }

@@ -8,7 +8,7 @@ use crate::words::Answer;
 use gr_history::{Ask, Done, Gift, Identity, Image, QueryAsk, QueryReply, Verdict, What};
 use gr_shard::Shard;
 use gr_stamp::{Change, LIMIT};
-use gr_value::Key;
+use gr_value::{Key, Shared};
 use gr_vector::Report;
 use std::alloc::Global;
 
@@ -105,8 +105,12 @@ impl Member {
         Ok(twice!(self.seen(), self.shard.query(alloc, client, seq, ask))?)
     }
 
-    pub fn taken_in(&mut self, alloc: Global, change: &Change) -> Result<Verdict, Stop> {
-        if change.key.shard(1) != 0 {
+    pub fn taken_in(
+        &mut self,
+        alloc: Global,
+        change: &Shared<Change>,
+    ) -> Result<Verdict, Stop> {
+        if change.get().key.shard(1) != 0 {
             return Err(Stop::Otherwise);
         }
         Ok(twice!(self.seen(), self.shard.take_in(alloc, change))?)

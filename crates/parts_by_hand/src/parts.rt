@@ -5,12 +5,12 @@ use crate::making::{named, one_key};
 use crate::seen::{Beside, Seen};
 use crate::stop::Stop;
 use gr_cq::{Coming, Foreseen, QueryEnd, Registry, Turned};
-use gr_history::{History, Image, SharedList};
+use gr_history::{History, Image};
 use gr_slots::{Slot, Slots};
 use gr_stable::Heard;
 use gr_stamp::{Change, ChangeList, Kind, Stamp};
-use gr_value::{Copied, Key, Memory, Value};
-use gr_vector::{Report, SharedVector, Vector};
+use gr_value::{Copied, Key, Memory, Shared, Value};
+use gr_vector::{Report, Vector};
 use std::alloc::Global;
 
 /// The client whose queries are open.
@@ -220,7 +220,7 @@ impl Parts {
             at: self.history.len(),
             own: self.vector.top(self.me),
             to: self.to,
-            vector: SharedVector::new(alloc, self.vector.copy(alloc)?)?,
+            vector: Shared::new(alloc, self.vector.copy(alloc)?)?,
         })
     }
 
@@ -229,7 +229,7 @@ impl Parts {
         Ok(Image {
             from: self.me,
             at: self.history.len(),
-            rows: SharedList::new(alloc, ChangeList::new(alloc)?)?,
+            rows: Shared::new(alloc, ChangeList::new(alloc)?)?,
             vector: self.vector.copy(alloc)?,
             floor: self.floor,
         })

@@ -14,12 +14,12 @@ ghost use Rattle.gr_shard.specs.View.{after_deed, with_spare};
 
 use super::Shard;
 use crate::entering::{is_there, value_of, ver_of};
-use crate::making::{deed_of, note, nothing_made};
+use crate::making::{done_of, note};
 use crate::served::Served;
 use crate::telling::come_in;
-use crate::told::tells;
-use gr_history::{Ask, Done, Reply, Told};
-use gr_stamp::{Change, Kind, LIMIT, Stamp};
+use crate::told::{Answer, answers};
+use gr_history::{Ask, Done, Entry, Reply, lent};
+use gr_stamp::{LIMIT, Stamp};
 use gr_value::{Copied, Key, Memory};
 use std::alloc::Global;
 
@@ -54,108 +54,57 @@ impl Shard {
             (call_with client seq ask (call_gives self.old.id self.old.opening (reverse self.old.deeds) ask))) }
         ensures err { OnErr result (self.new ≡ with_spare self.new.spare self.old) }
     {
+        let deed = self.answered(alloc, client, seq, ask)?;
+        self.roomy = false;
+        self.history.reserve(1)?;
+        self.vector.reserve()?;
+        let reply = deed.reply(alloc)?;
+        let made = lent(deed.made());
+        come_in(alloc, &mut self.slots, &mut self.queries, self.clock, made)?;
+        note(&mut self.vector, made);
+        let changed = made.is_some();
+        let _ = self.history.push(deed);
+        Ok(Served {
+            reply,
+            made: changed,
+        })
+    }
+
+    // The deed of the call that would be done now.
+    #[inline(always)]
+    pub(super) fn answered(
+        &self,
+        alloc: Global,
+        client: u8,
+        seq: u32,
+        ask: Ask,
+    ) -> Result<Entry, Memory>
+        ensures { IfOk result (λ deed. deed
+            ≡ call_with client seq ask (call_gives self.now.id self.now.opening (reverse self.now.deeds) ask)) }
+    {
         if !self.ready() {
-            return self.add_reply(alloc, client, seq, ask, Reply::NotReady);
+            return Entry::answered(alloc, client, seq, ask, Reply::NotReady);
         }
         let held = self.find(ask.key());
         // The version may stand in another line of memory than the value: both are fetched at once.
         let ver = ver_of(held);
-        let Told { reply, change } = tells(alloc, &ask, is_there(held), value_of(held))?;
-        let Some(kind) = change else {
-            return self.add_reply(alloc, client, seq, ask, reply);
-        };
-        let Some(stamp) = self.next_stamp(ask.key(), ver) else {
-            return self.add_reply(alloc, client, seq, ask, Reply::Limit);
-        };
-        let key = ask.key().copy(alloc)?;
-        self.add_change(alloc, client, seq, ask, reply, Change { key, kind, stamp })
-    }
-
-    // Adds a call that gives this reply and nothing else now, and answers what the client is told. It
-    // stands apart from `add_change`, since a deed without a change takes far fewer moves.
-    #[inline(never)]
-    fn add_reply(
-        &mut self,
-        alloc: Global,
-        client: u8,
-        seq: u32,
-        ask: Ask,
-        reply: Reply,
-    ) -> Result<Served, Memory>
-        requires here { shard_of (key_of ask) self.old.id.shards ≡ self.old.id.shard }
-        requires gives { nothing_made reply ≡ call_gives self.old.id self.old.opening (reverse self.old.deeds) ask }
-        ensures told { IfOk result (λ told. told ≡ served (nothing_made reply)) }
-        ensures added { OnOk result
-            (self.new ≡ after_deed self.old (call_with client seq ask (nothing_made reply))) }
-        ensures err { OnErr result (self.new ≡ with_spare self.new.spare self.old) }
-    {
-        self.roomy = false;
-        self.history.reserve(1)?;
-        let told = reply.copy(alloc)?;
-        let done = nothing_made(reply);
-        let _ = self.history.push(deed_of(client, seq, ask, done));
-        Ok(Served {
-            reply: told,
-            made: false,
-        })
-    }
-
-    // Adds a call that gives this reply and makes this change now, and answers what the client is told.
-    #[inline(always)]
-    fn add_change(
-        &mut self,
-        alloc: Global,
-        client: u8,
-        seq: u32,
-        ask: Ask,
-        reply: Reply,
-        change: Change,
-    ) -> Result<Served, Memory>
-        requires here { shard_of (key_of ask) self.old.id.shards ≡ self.old.id.shard }
-        requires gives { given_with (recipients self.old.id (reverse self.old.deeds)) reply (Some change)
-            ≡ call_gives self.old.id self.old.opening (reverse self.old.deeds) ask }
-        ensures told { IfOk result (λ told. told ≡ served (given_with (recipients self.old.id (reverse self.old.deeds)) reply (Some change))) }
-        ensures added { OnOk result
-            (self.new ≡ after_deed self.old
-            (call_with client seq ask (given_with (recipients self.old.id (reverse self.old.deeds)) reply (Some change)))) }
-        ensures err { OnErr result (self.new ≡ with_spare self.new.spare self.old) }
-    {
-        self.roomy = false;
-        self.history.reserve(1)?;
-        self.vector.reserve()?;
-        let told = reply.copy(alloc)?;
-        let made = Some(&change);
-        come_in(alloc, &mut self.slots, &mut self.queries, self.clock, made)?;
-        note(&mut self.vector, made);
-        let done = Done {
-            reply,
-            made: Some(change),
-            to: self.to,
-        };
-        let _ = self.history.push(deed_of(client, seq, ask, done));
-        Ok(Served {
-            reply: told,
-            made: true,
-        })
+        let Answer { reply, changes } = answers(alloc, &ask, is_there(held), value_of(held))?;
+        if !changes {
+            return Entry::answered(alloc, client, seq, ask, reply);
+        }
+        match self.next_stamp(ask.key(), ver) {
+            Some(stamp) => Entry::changed(alloc, client, self.to, seq, ask, reply, stamp),
+            None => Entry::answered(alloc, client, seq, ask, Reply::Limit),
+        }
     }
 
     // What the call gives now.
-    pub(super) fn gives(&self, alloc: Global, ask: &Ask) -> Result<Done, Memory>
+    fn gives(&self, alloc: Global, ask: &Ask) -> Result<Done, Memory>
         ensures { IfOk result (λ done. done ≡ call_gives self.now.id self.now.opening (reverse self.now.deeds) ask.now) }
     {
-        if !self.ready() {
-            return Ok(nothing_made(Reply::NotReady));
-        }
-        let held = self.find(ask.key());
-        let Told { reply, change } = tells(alloc, ask, is_there(held), value_of(held))?;
-        let Some(kind) = change else {
-            return Ok(nothing_made(reply));
-        };
-        let Some(stamp) = self.next_stamp(ask.key(), ver_of(held)) else {
-            return Ok(nothing_made(Reply::Limit));
-        };
-        let key = ask.key().copy(alloc)?;
-        Ok(self.given_with(reply, Change { key, kind, stamp }))
+        let asked = ask.copy(alloc)?;
+        let deed = self.answered(alloc, 0, 0, asked)?;
+        done_of(alloc, &deed)
     }
 
     // The stamp of a change that is made where this version stands, if there are numbers for it.
@@ -169,16 +118,5 @@ impl Shard {
         let base = ver.max(self.floor);
         let last = self.vector.top(self.id.member);
         Stamp::new(base + 1, self.id.member, last + 1)
-    }
-
-    // What a call gives that makes this change.
-    fn given_with(&self, reply: Reply, change: Change) -> Done
-        ensures { result ≡ given_with (recipients self.now.id (reverse self.now.deeds)) reply (Some change) }
-    {
-        Done {
-            reply,
-            made: Some(change),
-            to: self.to,
-        }
     }
 }

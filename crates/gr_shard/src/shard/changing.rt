@@ -8,12 +8,12 @@ ghost use Rattle.gr_shard.specs.View.{with_spare};
 use super::Shard;
 use crate::effect::{Effect, IdsAfter};
 use crate::entering::{applied, arriving, copied, noting};
-use crate::making::{deed_of, done_copied};
+use crate::making::done_of;
 use crate::telling::turned_by;
 use crate::{Came, Prepared};
-use gr_history::{Ask, Deed};
+use gr_history::{Ask, Entry, lent};
 use gr_stamp::Change;
-use gr_value::{Copied, Memory};
+use gr_value::{Copied, Memory, Shared};
 use std::alloc::Global;
 
 impl Shard {
@@ -32,10 +32,10 @@ impl Shard {
         ensures prepared { IfOk result (IsPrepared self.old (next.Call client seq ask.entry)) }
         ensures made { IfOk result (IsPreparedFor self.new) }
     {
-        let done = self.gives(alloc, ask)?;
-        let told = done_copied(alloc, &done)?;
         let asked = ask.copy(alloc)?;
-        let made = done.made.as_ref();
+        let deed = self.answered(alloc, client, seq, asked)?;
+        let done = done_of(alloc, &deed)?;
+        let made = lent(deed.made());
         let turned = turned_by(alloc, &self.slots, made)?;
         let arrival = copied(alloc, made)?;
         let clock = self.clock;
@@ -43,8 +43,8 @@ impl Shard {
         let slots = arriving(clock, arrival);
         let ids = noting(made);
         Ok(Prepared {
-            deed: deed_of(client, seq, asked, done),
-            came: Came::Done(told),
+            deed,
+            came: Came::Done(done),
             turned,
             effect: Effect {
                 slots,
@@ -59,7 +59,7 @@ impl Shard {
     pub(super) fn prepare_taking(
         &mut self,
         alloc: Global,
-        change: &Change,
+        change: &Shared<Change>,
     ) -> Result<Prepared, Memory>
         requires { shard_of change.now.key self.old.id.shards ≡ self.old.id.shard }
         ensures same { self.new ≡ with_spare self.new.spare self.old }
@@ -68,24 +68,21 @@ impl Shard {
         ensures prepared { IfOk result (IsPrepared self.old (next.TakeIn change.entry)) }
         ensures made { IfOk result (IsPreparedFor self.new) }
     {
-        let verdict = self.verdict(change);
+        let verdict = self.verdict(change.get());
         let taken = change.copy(alloc)?;
-        let came = applied(verdict, change);
+        let came = applied(verdict, change.get());
         let turned = turned_by(alloc, &self.slots, came)?;
         let arrival = copied(alloc, came)?;
         let clock = self.clock;
         let queries = self.tell_ahead(alloc, turned.as_slice())?;
         let slots = arriving(clock, arrival);
         Ok(Prepared {
-            deed: Deed::Taken {
-                change: taken,
-                verdict,
-            },
+            deed: Entry::taken_in(taken, verdict),
             came: Came::Verdict(verdict),
             turned,
             effect: Effect {
                 slots,
-                ids: IdsAfter::With(change.stamp),
+                ids: IdsAfter::With(change.get().stamp),
                 queries,
                 ..Effect::none()
             },

@@ -12,7 +12,7 @@ use super::Shard;
 use crate::effect::{Effect, SlotsAfter};
 use crate::sweeping::{risen, valueless};
 use crate::{Came, Prepared};
-use gr_history::Deed;
+use gr_history::{Deed, Entry};
 use gr_value::{Copied, Key, KeyList, Memory};
 use std::alloc::Global;
 
@@ -58,12 +58,14 @@ impl Shard {
         let floor = self.floor_after(moment, expired.as_slice());
         let clock = self.clock_at(moment);
         let count = expired.len() as u64;
+        let swept = Deed::Swept {
+            moment,
+            expired: named,
+        };
+        let deed = Entry::of(alloc, swept)?;
         self.make_room()?;
         Ok(Prepared {
-            deed: Deed::Swept {
-                moment,
-                expired: named,
-            },
+            deed,
             came: Came::Swept(count),
             turned,
             effect: Effect {

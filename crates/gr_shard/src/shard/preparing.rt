@@ -11,7 +11,7 @@ use crate::merging::merged;
 use crate::telling::turned_between;
 use crate::{Came, Prepared};
 use gr_cq::Turned;
-use gr_history::{Deed, Image, QueryAsk, What};
+use gr_history::{Deed, Entry, Image, QueryAsk, What};
 use gr_value::{Copied, Memory};
 use gr_vector::Report;
 use std::alloc::Global;
@@ -41,13 +41,17 @@ impl Shard {
         let asked = ask.copy(alloc)?;
         let Foretold { replies, after } = self.ask_ahead(alloc, client, ask)?;
         let Replies { noted, told } = replies;
-        Ok(Prepared {
-            deed: Deed::Asked {
+        let deed = Entry::of(
+            alloc,
+            Deed::Asked {
                 client,
                 seq,
                 ask: asked,
                 reply: noted,
             },
+        )?;
+        Ok(Prepared {
+            deed,
             came: Came::Reply(told),
             turned: none_turned(alloc),
             effect: Effect {
@@ -67,9 +71,10 @@ impl Shard {
     {
         let report = self.reported(alloc)?;
         let noted = report.copy(alloc)?;
+        let deed = Entry::of(alloc, Deed::Reported { report: noted })?;
         self.make_room()?;
         Ok(Prepared {
-            deed: Deed::Reported { report: noted },
+            deed,
             came: Came::Told(report),
             turned: none_turned(alloc),
             effect: Effect::none(),
@@ -90,9 +95,10 @@ impl Shard {
     {
         let noted = report.copy(alloc)?;
         let heard = report.copy(alloc)?;
+        let deed = Entry::of(alloc, Deed::Heard { report: noted })?;
         self.make_room()?;
         Ok(Prepared {
-            deed: Deed::Heard { report: noted },
+            deed,
             came: Came::Heard,
             turned: none_turned(alloc),
             effect: Effect {
@@ -120,9 +126,10 @@ impl Shard {
         // So that what the shard keeps of the members is known to the proof.
         let _ = &self.id;
         let gift = self.gift(alloc, what)?;
+        let deed = Entry::of(alloc, Deed::Gave { to, what })?;
         self.make_room()?;
         Ok(Prepared {
-            deed: Deed::Gave { to, what },
+            deed,
             came: Came::Gift(gift),
             turned: none_turned(alloc),
             effect: Effect {
@@ -147,9 +154,10 @@ impl Shard {
         let slots = merged(alloc, &self.slots, image, &self.vector, self.clock)?;
         let turned = turned_between(alloc, &self.slots, &slots)?;
         let floor = image.floor.max(self.floor);
+        let deed = Entry::of(alloc, Deed::Imaged { image: kept })?;
         let queries = self.tell_ahead(alloc, turned.as_slice())?;
         Ok(Prepared {
-            deed: Deed::Imaged { image: kept },
+            deed,
             came: Came::Merged,
             turned,
             effect: Effect {

@@ -152,12 +152,15 @@ fn ended<R: Wait>(rt: &R, alloc: Global, member: Member, pass: Pass) -> Result<M
 }
 
 // Whether the history of each shard tells what a client was told.
-fn tells(left: &MemberRecord, client: u8, told: &[Told]) -> bool {
+fn tells(alloc: Global, left: &MemberRecord, client: u8, told: &[Told]) -> bool {
     for shard in 0..SHARDS {
         let Some(record) = left.shards.get(usize::from(shard)) else {
             return false;
         };
-        if !replay::tells(record.history.as_slice(), shard, client, told) {
+        let Ok(deeds) = record.history.deeds(alloc) else {
+            return false;
+        };
+        if !replay::tells(deeds.as_slice(), shard, client, told) {
             return false;
         }
     }
@@ -193,7 +196,7 @@ fn each_call_stands_once_and_each_peek_is_of_its_place(rt: HostRuntime) -> Resul
     assert_eq!(rt; all_told.len(), PASSES as usize);
     for at in 0..8u8 {
         let told = all_told.pop();
-        assert!(rt; told.is_some_and(|told| tells(&left, at, told.as_slice())));
+        assert!(rt; told.is_some_and(|told| tells(alloc, &left, at, told.as_slice())));
     }
     Ok(())
 }

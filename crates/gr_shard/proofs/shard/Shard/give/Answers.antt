@@ -15,7 +15,8 @@ invariant_of-self-2 c =
     let stated : c.args.to ≤ was.id.members = rw (← c.self.view_is) at c.requires.stated in
     let pushed : c.push.new.self.deeds ≡ was.history.deeds ++ Gave c.args.to c.args.what ∷ [] =
     on_ok c.push.result (c.push.ensures.room c.in_ok-reserve.ensures.room) c.push.ensures.ok
-    ∙ ap (λ deeds. deeds ++ Gave c.args.to c.args.what ∷ []) c.in_ok-reserve.ensures.deeds in
+    ∙ ap (λ deeds. deeds ++ c.in_ok-deed.deed ∷ []) c.in_ok-reserve.ensures.deeds
+    ∙ ap (λ deed. was.history.deeds ++ deed ∷ []) c.in_ok-deed.ensures in
     rw (pushed, reverse-append, c.with_recipient-self-inside.ensures) (
       kept_gave was.id was.opening (kept was.slots.entries was.vector.ids was.floor was.clock was.joined was.to was.heard
           was.queries.entries) past c.args.to

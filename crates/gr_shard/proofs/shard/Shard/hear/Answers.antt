@@ -14,7 +14,8 @@ invariant_of-self-2 c =
     let past = reverse was.history.deeds in
     let pushed : c.push.new.self.deeds ≡ was.history.deeds ++ Heard c.args.report.now ∷ [] =
     on_ok c.push.result (c.push.ensures.room c.in_ok-reserve.ensures.room) c.push.ensures.ok
-    ∙ ap (λ deeds. deeds ++ Heard c.in_ok-noted.noted ∷ []) c.in_ok-reserve.ensures.deeds
+    ∙ ap (λ deeds. deeds ++ c.in_ok-deed.deed ∷ []) c.in_ok-reserve.ensures.deeds
+    ∙ ap (λ deed. was.history.deeds ++ deed ∷ []) c.in_ok-deed.ensures
     ∙ ap (λ copy. was.history.deeds ++ Heard copy ∷ []) c.in_ok-noted.ensures in
     rw (pushed, reverse-append, c.in_ok-hear.ensures.ok) (
       kept_heard was.id was.opening (kept was.slots.entries was.vector.ids was.floor was.clock was.joined was.to was.heard

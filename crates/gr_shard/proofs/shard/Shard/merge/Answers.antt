@@ -19,7 +19,8 @@ invariant_of-self-2 c =
     let fits : IsImageFor was.id image = rw (← c.self.view_is) at c.requires in
     let pushed : c.push.new.self.deeds ≡ was.history.deeds ++ Imaged image ∷ [] =
     on_ok c.push.result (c.push.ensures.room c.in_ok-reserve.ensures.room) c.push.ensures.ok
-    ∙ ap (λ deeds. deeds ++ Imaged c.in_ok-noted.noted ∷ []) c.in_ok-reserve.ensures.deeds
+    ∙ ap (λ deeds. deeds ++ c.in_ok-deed.deed ∷ []) c.in_ok-reserve.ensures.deeds
+    ∙ ap (λ deed. was.history.deeds ++ deed ∷ []) c.in_ok-deed.ensures
     ∙ ap (λ copy. was.history.deeds ++ Imaged copy ∷ []) c.in_ok-noted.ensures in
     let left = merged was.vector.ids was.clock image was.slots.entries in
     let slots_are : c.take_over.new.slots.entries ≡ left = c.in_ok-take_over.ensures.slots ∙ c.in_ok-slots.ensures.merged in

@@ -26,7 +26,7 @@ returns-clause-prepared c =
     let fits : IsImageFor was.id image = rw (← c.self.view_is) at c.requires in
     let stands : Hold c.in_ok-slots.slots.entries (Imaged image ∷ past) = stands_built was.id was.opening now past image c.self.invariant.0
     c.in_ok-slots.ensures.ordered fits c.in_ok-slots.slots.entries c.in_ok-slots.ensures.merged in
-    rw (← c.self.view_is, c.in_ok-kept.ensures) record {
+    rw (← c.self.view_is, c.in_ok-deed.ensures, c.in_ok-kept.ensures) record {
       gives = (refl, refl);
       turned_are = c.in_ok-turned.ensures ∙ turned_built was.id was.opening now past image c.self.invariant.0 c.in_ok-slots.slots.entries stands;
     }
@@ -49,14 +49,14 @@ returns-clause-made c =
     let floor_is : c.max-floor.result ≡ floor_of was.opening (Imaged image ∷ past) =
     c.max-floor.ensures ∙ ap (max image.floor) c.self.invariant.0.floored in
     let low : c.max-floor.result ≤ LIMIT = omega (arith, c.max-floor.ensures, fits.low, c.self.invariant.0.low) in
-    subst (λ a. IsFit a (Imaged c.in_ok-kept.kept) (record c.none.result {
+    subst (λ a. IsFit a c.in_ok-deed.deed (record c.none.result {
       slots = slots_.New c.in_ok-slots.slots;
       ids = ids_.New c.unite.new.self;
       queries = c.in_ok-queries.queries;
       floor = Some c.max-floor.result;
       joined = true;
     })) (sym c.in_ok-queries.ensures.same)
-    (rw (← c.self.view_is, c.in_ok-kept.ensures, c.none.ensures)
+    (rw (← c.self.view_is, c.in_ok-deed.ensures, c.in_ok-kept.ensures, c.none.ensures)
     (fit_imaged (with_spare c.tell_ahead.new.self.spare account) image c.in_ok-slots.slots c.unite.new.self c.max-floor.result
     c.in_ok-queries.queries c.in_ok-queries.ensures.room fits stands
     (known_built was.id was.opening now past image c.self.invariant.0 c.unite.new.self

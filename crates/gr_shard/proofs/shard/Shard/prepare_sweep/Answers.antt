@@ -16,7 +16,7 @@ returns-clause-prepared c =
     let past = reverse account.deeds in
     let named = c.in_ok-named.named in
     let is = c.in_ok-expired.ensures.due in
-    record {
+    rw c.in_ok-deed.ensures record {
       gives = (ap came.Swept (c.len-count.ensures ∙ ap length is), ap (Swept c.args.moment) (c.in_ok-named.ensures ∙ is));
       turned_are = c.in_ok-turned.ensures ∙ ap (map valueless) (c.as_slice.ensures ∙ sym c.in_ok-named.ensures)
           ∙ sym (turned_swept account.id account.opening c.args.moment named past (c.in_ok-named.ensures ∙ is));
@@ -32,11 +32,11 @@ returns-clause-made c =
     subst (λ (a : Account). expired ≡ due a.id moment (reverse a.deeds)) (sym c.in_ok-expired.ensures.same) c.in_ok-expired.ensures.due in
     let floored : c.floor_after-floor.result ≡ floor_of account.opening (Swept moment expired ∷ past) =
     c.floor_after-floor.ensures.floor ∙ ap (λ keys. floor_of account.opening (Swept moment keys ∷ past)) c.as_slice-2.ensures in
-    subst (λ a. IsFit a (Swept moment c.in_ok-named.named) (record c.none.result {
+    subst (λ a. IsFit a c.in_ok-deed.deed (record c.none.result {
       slots = slots_.Without expired;
       floor = Some c.floor_after-floor.result;
       clock = Some c.clock_at-clock.result;
     })) (sym c.in_ok-make_room.ensures.same)
-    (rw (c.none.ensures, c.in_ok-named.ensures)
+    (rw (c.in_ok-deed.ensures, c.none.ensures, c.in_ok-named.ensures)
     (fit_swept (with_spare c.make_room.new.self.spare account) c.in_ok-make_room.ensures.room moment expired c.floor_after-floor.result
     c.clock_at-clock.result is floored c.floor_after-floor.ensures.low c.clock_at-clock.ensures))

@@ -17,7 +17,8 @@ invariant_of-self-2 c =
     let is : IsReportOf was.id past report = rw (← c.self.view_is) at c.in_ok-report.ensures.report in
     let pushed : c.push.new.self.deeds ≡ was.history.deeds ++ Reported report ∷ [] =
     on_ok c.push.result (c.push.ensures.room c.in_ok-reserve.ensures.room) c.push.ensures.ok
-    ∙ ap (λ deeds. deeds ++ Reported c.in_ok-noted.noted ∷ []) c.in_ok-reserve.ensures.deeds
+    ∙ ap (λ deeds. deeds ++ c.in_ok-deed.deed ∷ []) c.in_ok-reserve.ensures.deeds
+    ∙ ap (λ deed. was.history.deeds ++ deed ∷ []) c.in_ok-deed.ensures
     ∙ ap (λ copy. was.history.deeds ++ Reported copy ∷ []) c.in_ok-noted.ensures in
     let behind =
     kept_reported was.id was.opening (kept was.slots.entries was.vector.ids was.floor was.clock was.joined was.to was.heard

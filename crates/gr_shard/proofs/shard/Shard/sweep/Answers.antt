@@ -34,7 +34,9 @@ invariant_of-self-3 c =
     let low : risen was.slots.entries was.floor expired ≤ LIMIT = subst (λ n. n ≤ LIMIT) rises c.risen-self-inside.ensures.within in
     let pushed : c.push.new.self.deeds ≡ was.history.deeds ++ Swept c.args.moment expired ∷ [] =
     on_ok c.push.result (c.push.ensures.room c.in_ok-reserve.ensures.room) c.push.ensures.ok
-    ∙ ap (λ deeds. deeds ++ Swept c.args.moment expired ∷ []) c.in_ok-reserve.ensures.deeds in
+    ∙ ap (λ deeds. deeds ++ c.in_ok-deed.deed ∷ []) c.in_ok-reserve.ensures.deeds
+    ∙ ap (λ deed. was.history.deeds ++ deed ∷ []) c.in_ok-deed.ensures
+    ∙ ap (λ keys. was.history.deeds ++ Swept c.args.moment keys ∷ []) c.in_ok-named.ensures in
     let dropped : c.drop_all.new.slots.entries ≡ without_all expired was.slots.entries = c.drop_all.ensures
     ∙ ap (λ (s : HeldSlots). without_all c.as_slice-3.result.now s.entries) same
     ∙ ap (λ keys. without_all keys was.slots.entries) c.as_slice-3.ensures in
@@ -67,6 +69,7 @@ returns-clause-added c =
     c.in_ok-expired.ensures in
     let pushed : c.push.new.self.deeds ≡ was.history.deeds ++ Swept c.args.moment (due was.id c.args.moment past) ∷ [] =
     on_ok c.push.result (c.push.ensures.room c.in_ok-reserve.ensures.room) c.push.ensures.ok
-    ∙ ap (λ deeds. deeds ++ Swept c.args.moment c.in_ok-expired.expired ∷ []) c.in_ok-reserve.ensures.deeds
-    ∙ ap (λ keys. was.history.deeds ++ Swept c.args.moment keys ∷ []) is in
+    ∙ ap (λ deeds. deeds ++ c.in_ok-deed.deed ∷ []) c.in_ok-reserve.ensures.deeds
+    ∙ ap (λ deed. was.history.deeds ++ deed ∷ []) c.in_ok-deed.ensures
+    ∙ ap (λ keys. was.history.deeds ++ Swept c.args.moment keys ∷ []) (c.in_ok-named.ensures ∙ is) in
     rw (← c.self.view_is) (ap (λ deeds. record { id = was.id; opening = was.opening; deeds = deeds; spare = 0 }) pushed)

@@ -25,7 +25,8 @@ invariant_of-self-2 c =
     let here : shard_of change.key was.id.shards ≡ was.id.shard = rw (← c.self.view_is) at c.requires in
     let pushed : c.push.new.self.deeds ≡ was.history.deeds ++ Taken change told ∷ [] =
     on_ok c.push.result (c.push.ensures.room c.in_ok-reserve.ensures.room) c.push.ensures.ok
-    ∙ ap (λ deeds. deeds ++ Taken c.in_ok-taken.taken told ∷ []) c.in_ok-reserve.ensures.deeds
+    ∙ ap (λ deeds. deeds ++ c.taken_in.result ∷ []) c.in_ok-reserve.ensures.deeds
+    ∙ ap (λ deed. was.history.deeds ++ deed ∷ []) c.taken_in.ensures
     ∙ ap (λ copy. was.history.deeds ++ Taken copy told ∷ []) c.in_ok-taken.ensures in
     let noted : c.note.new.vector.ids ≡ with_id (id_of change) was.vector.ids =
     c.note.ensures ∙ ap (λ v. with_id (id_of change) v.ids) c.in_ok-reserve-2.ensures.room in
