@@ -41,8 +41,7 @@ use crate::sweeping::{drop_all, looked_after, risen};
 use crate::telling::{come_in, take_over};
 use gr_cq::Registry;
 use gr_history::{
-    Deed, Entry, Gift, History, Identity, Image, QueryAsk, QueryReply, ShardRecord, Verdict,
-    What,
+    Deed, Entry, Gift, History, Identity, Image, QueryAsk, QueryReply, ShardRecord, Verdict, What,
 };
 use gr_slots::{Slot, Slots};
 use gr_stable::Heard;
@@ -121,24 +120,21 @@ impl Shard {
 
     /// Takes in a change that another member made, in whatever order and however often it comes, and
     /// adds that to the history.
-    pub fn take_in(
-        &mut self,
-        alloc: Global,
-        change: &Shared<Change>,
-    ) -> Result<Verdict, Memory>
+    pub fn take_in(&mut self, alloc: Global, change: &Shared<Change>) -> Result<Verdict, Memory>
         requires { shard_of change.now.key self.old.id.shards ≡ self.old.id.shard }
         ensures verdict { IfOk result (λ told. told ≡ verdict (reverse self.old.deeds) change.now) }
         ensures added { IfOk result (λ told. self.new ≡ after_deed self.old (deed.Taken change.now told)) }
         ensures err { OnErr result (self.new ≡ with_spare self.new.spare self.old) }
     {
-        let verdict = self.verdict(change.get());
+        let coming = change.get();
+        let verdict = self.verdict(coming);
         self.roomy = false;
         self.history.reserve(1)?;
         self.vector.reserve()?;
         let taken = change.copy(alloc)?;
-        let came = applied(verdict, change.get());
+        let came = applied(verdict, coming);
         come_in(alloc, &mut self.slots, &mut self.queries, self.clock, came)?;
-        note(&mut self.vector, Some(change.get()));
+        note(&mut self.vector, Some(coming));
         self.looked = 0;
         let _ = self.history.push(Entry::taken_in(taken, verdict));
         Ok(verdict)
@@ -162,8 +158,13 @@ impl Shard {
         let asked = ask.copy(alloc)?;
         self.roomy = false;
         self.history.reserve(1)?;
-        let Foretold { replies, after } =
-            foretell(alloc, &mut self.queries, &self.slots, client, ask)?;
+        let Foretold { replies, after } = foretell(
+            alloc,
+            &mut self.queries,
+            &self.slots,
+            client,
+            ask,
+        )?;
         let Replies { noted, told } = replies;
         let deed = Entry::of(
             alloc,

@@ -1,4 +1,4 @@
-ghost use Rattle.std.specs.Prelude.{◌≡◌, IfOk, option_copied};
+ghost use Rattle.std.specs.Prelude.{◌≡◌, true, false, IfOk, option_copied};
 ghost use Rattle.gr_value.specs.Fields.{value_eq};
 ghost use Rattle.gr_history.specs.Asks.{at_key, reply_of, told};
 ghost use Rattle.gr_shard.specs.Calls.{told_by};

@@ -27,7 +27,12 @@ fn what_from(is_provider: bool) -> What
 
 impl World {
     // A member takes in changes of one shard, in their order.
-    fn take_all(&mut self, stage: Stage, site: Site, changes: &[Shared<Change>]) -> Result<(), Memory>
+    fn take_all(
+        &mut self,
+        stage: Stage,
+        site: Site,
+        changes: &[Shared<Change>],
+    ) -> Result<(), Memory>
         requires site { HasSite (heading_at stage) self.old site }
         requires here { AllByRecursion (λ change. shard_of change.key stage.script.now.shards ≡ site.shard) changes.now }
         ensures { IfOk result

@@ -58,11 +58,7 @@ fn note(
 }
 
 // What the deed at a place made.
-fn made_at(
-    alloc: Global,
-    history: &History,
-    at: u64,
-) -> Result<Option<Shared<Change>>, Memory>
+fn made_at(alloc: Global, history: &History, at: u64) -> Result<Option<Shared<Change>>, Memory>
     ensures { IfOk result (λ made. made ≡ option_and_then made_in (slice_get history.now.deeds at)) }
 {
     let Some(deed) = history.get(at) else {

@@ -105,11 +105,7 @@ impl Member {
         Ok(twice!(self.seen(), self.shard.query(alloc, client, seq, ask))?)
     }
 
-    pub fn taken_in(
-        &mut self,
-        alloc: Global,
-        change: &Shared<Change>,
-    ) -> Result<Verdict, Stop> {
+    pub fn taken_in(&mut self, alloc: Global, change: &Shared<Change>) -> Result<Verdict, Stop> {
         if change.get().key.shard(1) != 0 {
             return Err(Stop::Otherwise);
         }

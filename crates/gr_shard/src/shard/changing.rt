@@ -68,9 +68,10 @@ impl Shard {
         ensures prepared { IfOk result (IsPrepared self.old (next.TakeIn change.entry)) }
         ensures made { IfOk result (IsPreparedFor self.new) }
     {
-        let verdict = self.verdict(change.get());
+        let coming = change.get();
+        let verdict = self.verdict(coming);
         let taken = change.copy(alloc)?;
-        let came = applied(verdict, change.get());
+        let came = applied(verdict, coming);
         let turned = turned_by(alloc, &self.slots, came)?;
         let arrival = copied(alloc, came)?;
         let clock = self.clock;
@@ -82,7 +83,7 @@ impl Shard {
             turned,
             effect: Effect {
                 slots,
-                ids: IdsAfter::With(change.get().stamp),
+                ids: IdsAfter::With(coming.stamp),
                 queries,
                 ..Effect::none()
             },

@@ -25,11 +25,13 @@ returns-clause-prepared c =
     let past = reverse was.history.deeds in
     let change = c.args.change.now in
     let told = c.verdict-verdict.result in
-    let is : told ≡ verdict past change = rw (← c.self.view_is) at c.verdict-verdict.ensures in
+    let lent = c.get-coming.ensures in
+    let is : told ≡ verdict past change = (rw (← c.self.view_is) at c.verdict-verdict.ensures) ∙ ap (verdict past) lent in
+    let came_is = c.applied-came.ensures ∙ ap (applied told) lent in
     let turned_is : c.in_ok-turned.turned.items ≡ turned (Taken change told) past =
-    c.in_ok-turned.ensures ∙ ap (turned_by_change was.slots.entries) c.applied-came.ensures
+    c.in_ok-turned.ensures ∙ ap (turned_by_change was.slots.entries) came_is
     ∙ sym (turned_taken change told past was.slots.entries is c.self.invariant.0.stands) in
-    rw (← c.self.view_is, c.in_ok-taken.ensures) record {
+    rw (← c.self.view_is, c.taken_in.ensures, c.in_ok-taken.ensures) record {
       gives = (ap came.Verdict is, ap (Taken change) is);
       turned_are = turned_is;
     }
@@ -41,21 +43,23 @@ returns-clause-made c =
     let change = c.args.change.now in
     let told = c.verdict-verdict.result in
     let account = account_of was.id was.opening was.history.deeds was.roomy was.queries.spare in
-    let is : told ≡ verdict past change = rw (← c.self.view_is) at c.verdict-verdict.ensures in
+    let lent = c.get-coming.ensures in
+    let is : told ≡ verdict past change = (rw (← c.self.view_is) at c.verdict-verdict.ensures) ∙ ap (verdict past) lent in
+    let came_is = c.applied-came.ensures ∙ ap (applied told) lent in
     let here : shard_of change.key was.id.shards ≡ was.id.shard = rw (← c.self.view_is) at c.requires in
     let turned_is : c.as_slice.result.now ≡ turned_by_change was.slots.entries (applied told change) = c.as_slice.ensures.value
-    ∙ c.in_ok-turned.ensures ∙ ap (turned_by_change was.slots.entries) c.applied-came.ensures in
+    ∙ c.in_ok-turned.ensures ∙ ap (turned_by_change was.slots.entries) came_is in
     let after : queries_after c.in_ok-queries.queries (opened past) ≡ noted c.as_slice.result.now (opened past) =
     rw (← c.self.view_is) at c.in_ok-queries.ensures.after in
     let made : IsMadeAt (opened past) c.in_ok-queries.queries = rw (← c.self.view_is) at c.in_ok-queries.ensures.made in
     let tells = after ∙ ap (λ all. noted all (opened past)) turned_is
     ∙ opened_taken past was.slots.entries (opened past) change told c.self.invariant.0.stands refl is in
-    let slots_are = c.arriving-slots.ensures ∙ ap (λ (m : Option Change). arriving m was.clock) (c.in_ok-arrival.ensures ∙ c.applied-came.ensures) in
-    subst (λ a. IsFit a (Taken c.in_ok-taken.taken told) (record c.none.result {
+    let slots_are = c.arriving-slots.ensures ∙ ap (λ (m : Option Change). arriving m was.clock) (c.in_ok-arrival.ensures ∙ came_is) in
+    subst (λ a. IsFit a c.taken_in.result (record c.none.result {
       slots = c.arriving-slots.result;
-      ids = ids_.With change.stamp;
+      ids = ids_.With c.get-coming.result.now.stamp;
       queries = c.in_ok-queries.queries;
     })) (sym c.in_ok-queries.ensures.same)
-    (rw (← c.self.view_is, c.in_ok-taken.ensures, c.none.ensures, slots_are)
+    (rw (← c.self.view_is, c.taken_in.ensures, c.in_ok-taken.ensures, c.none.ensures, lent, slots_are)
     (fit_taken (with_spare c.tell_ahead.new.self.spare account) c.in_ok-queries.queries was.clock c.in_ok-queries.ensures.room
     c.self.invariant.0.clocked made change told here is tells))

@@ -33,7 +33,7 @@ invariant_of-self-2 c =
     ∙ ap (λ deeds. deeds ++ c.in_ok-deed.deed ∷ []) c.in_ok-reserve.ensures.deeds
     ∙ ap (λ last. was.history.deeds ++ last ∷ []) is in
     let noted : c.note.new.vector.ids ≡ with_made done.made was.vector.ids = c.note.ensures
-    ∙ ap (λ (m : Option Change). with_made m c.reserve-2.new.vector.ids) made_is
+    ∙ ap (λ (m : Option Change). with_made m c.reserve-2.new.self.ids) made_is
     ∙ ap (λ v. with_made done.made v.ids) c.in_ok-reserve-2.ensures.room in
     let entered : c.come_in.new.slots.entries ≡ with_change done.made was.clock was.slots.entries = c.in_ok-come_in.ensures.slots
     ∙ ap (λ (m : Option Change). with_change m was.clock was.slots.entries) made_is in

@@ -41,7 +41,7 @@ invariant_of-self-3 c =
     ∙ ap (λ (s : HeldSlots). without_all c.as_slice-3.result.now s.entries) same
     ∙ ap (λ keys. without_all keys was.slots.entries) c.as_slice-3.ensures in
     let behind = kept_swept was.id was.opening c.args.moment now past expired c.self.invariant.0 ordered is low in
-    rw (pushed, reverse-append, dropped, rises, c.looked_after-self-inside.ensures, c.max-clock.ensures) (
+    rw (pushed, reverse-append, dropped, rises, c.looked_after-self-inside.ensures, c.in_ok-deed.ensures, c.max-clock.ensures) (
       behind,
       unstocked _ _ _ _ _ _ c.self.invariant.1.open_are,
       looked_on was.id was.opening was.looked _ (Swept c.args.moment expired) past behind c.self.invariant.2,
