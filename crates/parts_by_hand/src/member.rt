@@ -121,7 +121,7 @@ impl Member {
 
     /// Merges an image without rows.
     pub fn merged(&mut self, alloc: Global, image: &Image) -> Result<(), Stop> {
-        if image.rows.len() != 0 || image.floor > LIMIT {
+        if image.rows.get().len() != 0 || image.floor > LIMIT {
             return Err(Stop::Otherwise);
         }
         Ok(twice!(self.seen(), self.shard.merge(alloc, image))?)

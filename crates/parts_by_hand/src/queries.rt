@@ -25,7 +25,7 @@ impl Outcome {
             QueryReply::Opened(_) => Outcome::Opened,
             QueryReply::Stopped => Outcome::Stopped,
             QueryReply::Closed => Outcome::Closed,
-            QueryReply::Fetched(events) => Outcome::Fetched(events.len()),
+            QueryReply::Fetched(events) => Outcome::Fetched(events.get().len()),
             QueryReply::Unknown => Outcome::Unknown,
             QueryReply::Taken => Outcome::Taken,
             QueryReply::NotRunning => Outcome::NotRunning,

@@ -72,15 +72,15 @@ impl fmt::Display for Answered<'_> {
     fn fmt<W: fmt::Write>(&self, f: &mut fmt::Formatter<W>) -> fmt::Result {
         match self.0 {
             QueryReply::Opened(rows) => {
-                write!(f, "opened {}", rows.len())?;
-                for row in rows.as_slice() {
+                write!(f, "opened {}", rows.get().len())?;
+                for row in rows.get().as_slice() {
                     write!(f, " a {}", shown(&row.value))?;
                 }
                 Ok(())
             }
             QueryReply::Fetched(events) => {
-                write!(f, "fetched {}", events.len())?;
-                for event in events.as_slice() {
+                write!(f, "fetched {}", events.get().len())?;
+                for event in events.get().as_slice() {
                     write!(f, "{}", Happened(event))?;
                 }
                 Ok(())
@@ -102,7 +102,7 @@ impl fmt::Display for Came<'_> {
     fn fmt<W: fmt::Write>(&self, f: &mut fmt::Formatter<W>) -> fmt::Result {
         match self.0 {
             Mail::Change { change, .. } => {
-                let stamp = &change.stamp;
+                let stamp = &change.get().stamp;
                 let (ver, member, rv) = (stamp.ver(), stamp.member(), stamp.rv());
                 write!(f, "change {ver}.{member}.{rv}")
             }
@@ -144,7 +144,7 @@ impl fmt::Display for Answer<'_> {
             Answer::Own(count) => write!(f, "own {count}"),
             Answer::Image(image) => {
                 let (from, at, floor) = (image.from, image.at, image.floor);
-                let rows = image.rows.len();
+                let rows = image.rows.get().len();
                 write!(f, "image from {from} at {at} rows {rows} floor {floor}")
             }
         }
