@@ -17,7 +17,8 @@ use Rattle.gr_member.specs.contracts.pass.ShardPass as ShardPass
 use Rattle.gr_member.specs.contracts.pass.ShardPass.TheInside as ShardPassInside
 use Rattle.gr_member.specs.contracts.replica.Replica as Replica
 use Rattle.gr_member.specs.contracts.replica.Replica.TheInside as ReplicaInside
-use Rattle.gr_member.proofs.ShardCrossing.{both, shard_send}
+use Rattle.gr_member.proofs.DeedCrossing.{both}
+use Rattle.gr_member.proofs.ShardCrossing.{shard_send}
 
 replica_inside_send : IsSend ReplicaInside.the_row
 replica_inside_send = declared_send ReplicaInside.the_type (search (both, sendable, shard_send, published.the_send) depth 20)

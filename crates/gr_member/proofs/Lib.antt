@@ -9,5 +9,6 @@ pub mod Handing
 pub mod Leaving
 pub mod Peeking
 pub mod QueryCrossing
+pub mod DeedCrossing
 pub mod ShardCrossing
 pub mod Crossing

@@ -17,7 +17,7 @@ use Rattle.gr_post.proofs.courier.Courier.TheSendSync as courier
 use Rattle.gr_post.proofs.passes.TakePass.TheSendSync as taking
 use Rattle.gr_member.proofs.plan.Plan.TheSendSync as plan
 use Rattle.gr_member.proofs.Crossing.{pass_send}
-use Rattle.gr_member.proofs.ShardCrossing.{both, query_ask_send}
+use Rattle.gr_member.proofs.DeedCrossing.{both, query_ask_send}
 use Rattle.gr_session.specs.contracts.client.Client as Client
 use Rattle.gr_session.specs.contracts.session.Session as Session
 use Rattle.gr_host.proofs.duties.Duty.TheSendSync as duty
