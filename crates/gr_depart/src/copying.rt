@@ -25,7 +25,6 @@ fn is_known(shard: &Shard, change: &Change) -> bool
 }
 
 // Puts a change of the member last, if the deed took one in.
-#[tactic(auto, using(crate::proofs::Taken::none_taken, crate::proofs::Taken::one_taken))]
 fn add_taken(
     alloc: Global,
     taken: &mut Vec<Shared<Change>>,
