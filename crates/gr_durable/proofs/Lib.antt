@@ -4,6 +4,7 @@ pub mod Fitting
 pub mod Keyed
 pub mod Numbered
 pub mod Openness
+pub mod Others
 pub mod Played
 pub mod Rows
 pub mod Shown

@@ -37,15 +37,20 @@ fn take_reply(alloc: Global, held: &mut Held, name: &Key, reply: &QueryReply) ->
     Ok(())
 }
 
-fn take_deed(alloc: Global, held: &mut Held, client: u8, deed: &Deed) -> Result<(), Memory>
+// Takes a deed in, which is made by value only where it is a step of the client.
+#[tactic(auto, using(crate::proofs::Others::no_step))]
+fn take_deed(alloc: Global, held: &mut Held, client: u8, deed: &Entry) -> Result<(), Memory>
     ensures { OnOk result (held.new ≡ with_deed client deed.now held.old) }
 {
+    if !deed.is_of(client) {
+        return Ok(());
+    }
     if let Deed::Asked {
         client: own,
         ask,
         reply,
         ..
-    } = deed
+    } = &deed.deed(alloc)?
     {
         if *own == client {
             take_reply(alloc, held, name_of(ask), reply)?;
@@ -60,7 +65,7 @@ fn held_after(alloc: Global, client: u8, deeds: &[Entry]) -> Result<Held, Memory
 {
     let mut held = Held::new(alloc);
     for deed in deeds {
-        take_deed(alloc, &mut held, client, &deed.deed(alloc)?)?;
+        take_deed(alloc, &mut held, client, deed)?;
     }
     Ok(held)
 }
