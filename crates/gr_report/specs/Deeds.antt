@@ -7,7 +7,6 @@ use Rattle.gr_stamp.specs.declared.change.Kind.{Kind}
 use Rattle.gr_stamp.specs.declared.change.Kind.TheVariants.{Put, Invalid, Remove}
 use Rattle.gr_vector.specs.declared.report.Report.{Report}
 use Rattle.gr_history.specs.declared.ask.Ask.{Ask}
-use Rattle.gr_history.specs.declared.ask.Ask.TheVariants as ask
 use Rattle.gr_history.specs.declared.deed.Deed.{Deed}
 use Rattle.gr_history.specs.declared.deed.Deed.TheVariants as deed
 use Rattle.gr_history.specs.declared.image.Image.{Image}
@@ -16,21 +15,11 @@ use Rattle.gr_history.specs.declared.image.What.TheVariants as what
 use Rattle.gr_history.specs.declared.reply.Reply.{Reply}
 use Rattle.gr_history.specs.declared.verdict.Verdict.{Verdict}
 use Rattle.gr_history.specs.declared.verdict.Verdict.TheVariants.{Applied, Discarded, Repeat}
+use Rattle.gr_script.specs.Printed.{ask_text}
 use Rattle.gr_report.specs.Answers.{reply_text}
 use Rattle.gr_report.specs.Queries.{query_step_text, shard_line}
 use Rattle.gr_report.specs.Regions.{stamp_text}
 use Rattle.gr_report.specs.Texts.{spaced}
-
--- what was asked, as a line of a script says it behind the client's number
-abbrev pub ask_text : Ask → List ℕ
-ask_text (ask.Get key) = codes "get" ++ spaced (key ∷ [])
-ask_text (ask.Put key value) = codes "put" ++ spaced (key ∷ value_text value ∷ [])
-ask_text (ask.PutIfAbsent key value) = codes "putIfAbsent" ++ spaced (key ∷ value_text value ∷ [])
-ask_text (ask.Replace key value) = codes "replace" ++ spaced (key ∷ value_text value ∷ [])
-ask_text (ask.ReplaceIf key old new) = codes "replaceIf" ++ spaced (key ∷ value_text old ∷ value_text new ∷ [])
-ask_text (ask.Destroy key) = codes "destroy" ++ spaced (key ∷ [])
-ask_text (ask.Remove key value) = codes "remove" ++ spaced (key ∷ value_text value ∷ [])
-ask_text (ask.Invalidate key) = codes "invalidate" ++ spaced (key ∷ [])
 
 abbrev pub has_bit : ℕ → ℕ → Bool
 has_bit to bit = to / bit % 2 == 1

@@ -9,19 +9,11 @@ use Rattle.gr_oql.specs.declared.event.Event.{Event}
 use Rattle.gr_oql.specs.declared.event.QueryOp.{QueryOp}
 use Rattle.gr_oql.specs.declared.event.QueryOp.TheVariants as op
 use Rattle.gr_history.specs.declared.query_ask.QueryAsk.{QueryAsk}
-use Rattle.gr_history.specs.declared.query_ask.QueryAsk.TheVariants.{Enrol, Stop, Close, Fetch}
 use Rattle.gr_history.specs.declared.query_reply.QueryReply.{QueryReply}
 use Rattle.gr_history.specs.declared.query_reply.QueryReply.TheVariants.{Opened, Stopped, Closed, Fetched, Unknown, Taken, NotRunning}
 use Rattle.gr_history.specs.declared.query_reply.Row.{Row}
+use Rattle.gr_script.specs.Printed.{query_ask_text}
 use Rattle.gr_report.specs.Rows.{by_key}
-use Rattle.gr_report.specs.Texts.{spaced}
-
--- what was asked, as a line of a script says it behind the client's number
-abbrev pub query_ask_text : QueryAsk → List ℕ
-query_ask_text (Enrol name question) = codes "open" ++ spaced (name ∷ question.text ∷ [])
-query_ask_text (Stop name) = codes "stop" ++ spaced (name ∷ [])
-query_ask_text (Close name) = codes "close" ++ spaced (name ∷ [])
-query_ask_text (Fetch name) = codes "fetch" ++ spaced (name ∷ [])
 
 -- which step of which client it was, and what was asked
 abbrev pub query_step_text : ℕ → ℕ → QueryAsk → List ℕ

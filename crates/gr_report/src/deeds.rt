@@ -1,60 +1,20 @@
 ghost use Rattle.std.specs.Prelude.{◌≡◌, ◌++◌, ◌∷◌, [], codes, OnOk, option_copied};
-ghost use Rattle.gr_report.specs.Texts.{spaced};
-ghost use Rattle.gr_report.specs.Deeds.{ask_text, made_text, kind_text, verdict_text, what_text};
+ghost use Rattle.gr_report.specs.Deeds.{made_text, kind_text, verdict_text, what_text};
 ghost use Rattle.gr_report.specs.Deeds.{asked_text, told_text, taken_text, image_text, report_text, heard_text, swept_text, deed_text};
 ghost use Rattle.gr_report.specs.Deeds.{deed_line};
-ghost use Rattle.gr_value.specs.ValueText.{value_text};
 
 use crate::answers::put_reply;
 use crate::lists::{put_keys, put_list};
-use crate::put::{put_counted, put_number, put_text, put_word};
+use crate::put::{put_counted, put_number, put_text};
 use crate::queries::{put_query_step, put_shard_line};
 use crate::regions::put_stamp;
 use crate::written::Written;
 use gr_history::{Ask, Deed, Entry, Image, Reply, Verdict, What, lent};
+use gr_script::put_ask;
 use gr_stamp::{Change, Kind};
 use gr_value::{Key, KeyList, Memory, Value};
 use gr_vector::Report;
 use std::alloc::Global;
-
-// A value with a space in front.
-fn put_value(alloc: Global, out: &mut Vec<u8>, value: &Value) -> Result<(), Memory>
-    ensures { OnOk result (out.new.items ≡ out.old.items ++ codes " " ++ value_text value.now) }
-{
-    put_text(out, " ")?;
-    value.print_to(alloc, out)
-}
-
-fn put_with_value(
-    alloc: Global,
-    out: &mut Vec<u8>,
-    word: &str,
-    key: &Key,
-    value: &Value,
-) -> Result<(), Memory>
-    ensures { OnOk result (out.new.items ≡ out.old.items ++ word.now ++ spaced (key.now ∷ value_text value.now ∷ [])) }
-{
-    put_word(out, word, key)?;
-    put_value(alloc, out, value)
-}
-
-fn put_ask(alloc: Global, out: &mut Vec<u8>, ask: &Ask) -> Result<(), Memory>
-    ensures { OnOk result (out.new.items ≡ out.old.items ++ ask_text ask.now) }
-{
-    match ask {
-        Ask::Get { key } => put_word(out, "get", key),
-        Ask::Put { key, value } => put_with_value(alloc, out, "put", key, value),
-        Ask::PutIfAbsent { key, value } => put_with_value(alloc, out, "putIfAbsent", key, value),
-        Ask::Replace { key, value } => put_with_value(alloc, out, "replace", key, value),
-        Ask::ReplaceIf { key, old, new } => {
-            put_with_value(alloc, out, "replaceIf", key, old)?;
-            put_value(alloc, out, new)
-        }
-        Ask::Destroy { key } => put_word(out, "destroy", key),
-        Ask::Remove { key, value } => put_with_value(alloc, out, "remove", key, value),
-        Ask::Invalidate { key } => put_word(out, "invalidate", key),
-    }
-}
 
 fn put_made(out: &mut Vec<u8>, made: Option<&Change>, to: u8) -> Result<(), Memory>
     ensures { OnOk result (out.new.items ≡ out.old.items ++ made_text (option_copied made.entry) to) }
@@ -114,7 +74,7 @@ fn put_asked(
     put_counted(out, "call ", u128::from(client))?;
     put_counted(out, ".", u128::from(seq))?;
     put_text(out, " ")?;
-    put_ask(alloc, out, ask)
+    put_ask(alloc, ask, out)
 }
 
 #[tactic(auto, unfolding(crate::specs::Deeds::taken_text))]

@@ -3,9 +3,7 @@ ghost use Rattle.gr_history.specs.declared.ask.Ask.{Ask};
 ghost use Rattle.gr_history.specs.declared.query_ask.QueryAsk.{QueryAsk};
 ghost use Rattle.gr_script.specs.declared.line.Act.TheVariants.{Call, Query};
 ghost use Rattle.gr_script.specs.declared.line.Line.TheVariants.{Step};
-ghost use Rattle.gr_script.specs.Printed.{line_text};
-ghost use Rattle.gr_report.specs.Deeds.{ask_text};
-ghost use Rattle.gr_report.specs.Queries.{query_ask_text};
+ghost use Rattle.gr_script.specs.Printed.{line_text, ask_text, query_ask_text};
 
 /// What a history says was asked is what the line of the script says behind the client's number.
 #[tactic(auto, using(crate::proofs::Asked::call_line, crate::proofs::Asked::query_line))]

@@ -1,9 +1,8 @@
 ghost use Rattle.std.specs.Prelude.{◌≡◌, ◌++◌, ◌∷◌, ◌<◌, ◌≤◌, [], decimal, OnOk};
 ghost use Rattle.gr_report.specs.Regions.{counted};
-ghost use Rattle.gr_report.specs.Texts.{spaced};
 
 use crate::decimals::{five_digits, four_digits, six_digits, three_digits, two_digits};
-use gr_value::{Key, Memory};
+use gr_value::Memory;
 use itoa::{Buffer, Integer};
 
 /// Puts a text last. One that is known where it is put is copied without a call.
@@ -74,14 +73,4 @@ pub fn put_counted(out: &mut Vec<u8>, word: &str, number: u128) -> Result<(), Me
 {
     put_text(out, word)?;
     put_number(out, number)
-}
-
-/// Puts a word and a key, or the name of a query, behind it last.
-pub fn put_word(out: &mut Vec<u8>, word: &str, key: &Key) -> Result<(), Memory>
-    ensures { OnOk result (out.new.items ≡ out.old.items ++ word.now ++ spaced (key.now ∷ [])) }
-{
-    put_text(out, word)?;
-    put_text(out, " ")?;
-    out.extend_from_slice(key.bytes())?;
-    Ok(())
 }

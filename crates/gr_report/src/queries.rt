@@ -1,17 +1,18 @@
 ghost use Rattle.std.specs.Prelude.{◌≡◌, ◌++◌, ◌+◌, ◌<◌, ◌≤◌, ◌^◌, [], ◌∷◌, length, flat_map, IfOk, OnOk, option_copied};
 ghost use Rattle.std.specs.List.{fold};
-ghost use Rattle.gr_report.specs.Queries.{query_ask_text, query_step_text, query_line, shard_line, opened_rows, fetched_events};
+ghost use Rattle.gr_report.specs.Queries.{query_step_text, query_line, shard_line, opened_rows, fetched_events};
 ghost use Rattle.gr_report.specs.Queries.{op_text, base_text, new_text, row_text, event_text, events_told, told_by_all, replies_text};
 ghost use Rattle.gr_report.specs.Queries.{all_rows};
 ghost use Rattle.gr_report.specs.Rows.{with_row, by_key};
 ghost use Rattle.gr_report.specs.Shown.{shown};
 
 use crate::counts::sum;
-use crate::put::{put_counted, put_text, put_word};
+use crate::put::{put_counted, put_text};
 use crate::rows::{Keyed, gather, put_gathered};
 use crate::written::{Written, put_all};
 use gr_history::{QueryAsk, QueryReply, Row};
 use gr_oql::{BaseOp, Event, QueryOp};
+use gr_script::put_query_ask;
 use gr_value::{Key, Memory, Value};
 use std::alloc::Global;
 use std::collections::BTreeMap;
@@ -24,21 +25,6 @@ fn put_named(out: &mut Vec<u8>, word: &str, name: &Key) -> Result<(), Memory>
     Ok(())
 }
 
-fn put_ask(out: &mut Vec<u8>, ask: &QueryAsk) -> Result<(), Memory>
-    ensures { OnOk result (out.new.items ≡ out.old.items ++ query_ask_text ask.now) }
-{
-    match ask {
-        QueryAsk::Enrol { name, query } => {
-            put_word(out, "open", name)?;
-            put_text(out, " ")?;
-            put_text(out, query.text())
-        }
-        QueryAsk::Stop { name } => put_word(out, "stop", name),
-        QueryAsk::Close { name } => put_word(out, "close", name),
-        QueryAsk::Fetch { name } => put_word(out, "fetch", name),
-    }
-}
-
 /// Puts a step of a client on a query last.
 pub fn put_query_step(out: &mut Vec<u8>, client: u8, seq: u32, ask: &QueryAsk) -> Result<(), Memory>
     ensures { OnOk result (out.new.items ≡ out.old.items ++ query_step_text client seq ask.now) }
@@ -46,7 +32,7 @@ pub fn put_query_step(out: &mut Vec<u8>, client: u8, seq: u32, ask: &QueryAsk) -
     put_counted(out, "ask ", u128::from(client))?;
     put_counted(out, ".", u128::from(seq))?;
     put_text(out, " ")?;
-    put_ask(out, ask)
+    put_query_ask(ask, out)
 }
 
 // The first line of what was told, of this many rows or events.

@@ -1,12 +1,11 @@
 -- A line behind the heading is of none of the heading's kinds.
-use Rattle.std.proofs.Common.{◌≡◌, ◌∙◌, ◌≤◌, ◌<◌, ◌+◌, ℕ, false, sym, ap, nat_lt, if◌then◌else◌, arith}
+use Rattle.std.proofs.Common.{◌≡◌, ◌≤◌, ◌<◌, ◌+◌, ℕ, false, sym, ap, nat_lt, if◌then◌else◌, arith}
 use Rattle.std.proofs.Math.Nat.{le_trans, min-le_left, min-eq_right}
 use Rattle.std.proofs.lemmas.Bool.{ne_eqb}
 use Rattle.gr_script.specs.declared.forms.LineKind.{LineKind}
 use Rattle.gr_script.specs.declared.forms.LineKind.TheVariants as kind
 use Rattle.gr_script.specs.Forms.{place, rank, is_kind}
 use Rattle.gr_script.specs.Past.{next_rank}
-use Rattle.gr_script.proofs.KindPlaces.{placed_alike}
 
 -- A line behind the heading states nothing of it.
 pub record StatesNone (one : LineKind) : Type 0 where
@@ -23,9 +22,7 @@ late_place : (one : LineKind) → 8 ≤ rank one → 8 ≤ place one
 late_place one late = le_trans late (min-le_left (place one) 8)
 
 other : (form one : LineKind) → place form < 8 → 8 ≤ place one → is_kind form one ≡ false
-other form one early late =
-    sym (placed_alike form one)
-    ∙ ne_eqb (place form) (place one) (λ same. absurd (omega arith))
+other form one early late = ne_eqb (place form) (place one) (λ same. absurd (omega arith))
 
 pub states_none : (one : LineKind) → 8 ≤ rank one → StatesNone one
 states_none one late =

@@ -6,7 +6,6 @@ use Rattle.std.proofs.lemmas.Bool.{or_from, le-ltb, lt-leb, cases_lt}
 use Rattle.std.proofs.lemmas.Slice.Eq.{bytes_eq-Decides}
 use Rattle.std.proofs.lemmas.Str.{is_utf8-from_IsUtf8}
 use Rattle.gr_history.specs.declared.ask.Ask.{Ask}
-use Rattle.gr_history.specs.declared.ask.Ask.TheVariants as ask
 use Rattle.gr_history.specs.declared.query_ask.QueryAsk.{QueryAsk}
 use Rattle.gr_history.specs.declared.query_ask.QueryAsk.TheVariants as query
 use Rattle.gr_oql.specs.Question.{Question}
@@ -20,10 +19,11 @@ use Rattle.gr_script.specs.declared.reason.Reason.TheVariants as reason
 use Rattle.gr_script.specs.declared.saying.Saying.{Saying}
 use Rattle.gr_script.specs.Absence.{asks}
 use Rattle.gr_script.specs.Forms.{fields, rank}
+use Rattle.gr_script.specs.Operations.{Wording, WithKey, WithValue, WithPair, wording}
 use Rattle.gr_script.specs.Past.{setting, region, members, founders, home, steps, reports, joins, gifts, hears, count_of, stage}
 use Rattle.gr_value.specs.KeyBytes.{IsKey}
 use Rattle.gr_script.specs.Plain.{IsPlain}
-use Rattle.gr_script.specs.Printed.{saying_in, act_saying, ask_saying, query_saying, IsLineKept, IsActKept, IsAskKept, IsQueryKept}
+use Rattle.gr_script.specs.Printed.{saying_in, act_saying, ask_saying, query_saying, wording_saying, IsLineKept, IsActKept, IsAskKept, IsQueryKept, IsWordingKept}
 use Rattle.gr_script.specs.Printing.{saying_text}
 use Rattle.gr_script.specs.Refusals.{asks as asks_here, delivery_tests, is_away, is_full, is_gone, is_no_join, last_moment, open_count, tests, refusal}
 use Rattle.gr_script.specs.Rules.{IsHeading, IsWithin, IsStated, QuerySuits, ActSuits, StandsAfter, Stays, NamesStaying, Attends}
@@ -72,23 +72,19 @@ module _ (past : List Saying) (whole : 4 ≤ stage past) where
   step_accepts saying is client tests_are suit stays =
       accept saying is suit (ap refusal tests_are ∙ two_tests _ _ reason.Gone reason.Away stays.0 stays.1)
 
+  wording_accepts : (client : ℕ) (w : Wording) → IsClient (setting past) client → IsHomeStaying client × IsThere client → IsWordingKept w
+      → Accepts past (wording_saying client w)
+  wording_accepts client (WithKey operation key) c s kept =
+      step_accepts (wording_saying client (WithKey operation key)) refl client refl (c, (tt, (kept, tt))) s
+  wording_accepts client (WithValue operation key value) c s kept =
+      step_accepts (wording_saying client (WithValue operation key value)) refl client refl (c, (tt, (kept.0, (kept.1, tt)))) s
+  wording_accepts client (WithPair operation key old new) c s kept =
+      step_accepts (wording_saying client (WithPair operation key old new)) refl client refl
+      (c, (tt, (kept.0, (kept.1, (kept.2, tt))))) s
+
   ask_accepts : (client : ℕ) (asked : Ask) → IsClient (setting past) client → IsHomeStaying client × IsThere client → IsAskKept asked
       → Accepts past (ask_saying client asked)
-  ask_accepts client (ask.Get key) c s kept = step_accepts (ask_saying client (ask.Get key)) refl client refl (c, (tt, (kept, tt))) s
-  ask_accepts client (ask.Put key value) c s kept =
-      step_accepts (ask_saying client (ask.Put key value)) refl client refl (c, (tt, (kept.0, (kept.1, tt)))) s
-  ask_accepts client (ask.PutIfAbsent key value) c s kept =
-      step_accepts (ask_saying client (ask.PutIfAbsent key value)) refl client refl (c, (tt, (kept.0, (kept.1, tt)))) s
-  ask_accepts client (ask.Replace key value) c s kept =
-      step_accepts (ask_saying client (ask.Replace key value)) refl client refl (c, (tt, (kept.0, (kept.1, tt)))) s
-  ask_accepts client (ask.ReplaceIf key old new) c s kept =
-      step_accepts (ask_saying client (ask.ReplaceIf key old new)) refl client refl (c, (tt, (kept.0, (kept.1, (kept.2, tt))))) s
-  ask_accepts client (ask.Destroy key) c s kept =
-      step_accepts (ask_saying client (ask.Destroy key)) refl client refl (c, (tt, (kept, tt))) s
-  ask_accepts client (ask.Remove key value) c s kept =
-      step_accepts (ask_saying client (ask.Remove key value)) refl client refl (c, (tt, (kept.0, (kept.1, tt)))) s
-  ask_accepts client (ask.Invalidate key) c s kept =
-      step_accepts (ask_saying client (ask.Invalidate key)) refl client refl (c, (tt, (kept, tt))) s
+  ask_accepts client asked c s kept = wording_accepts client (wording asked) c s kept
 
   peek_accepts : (client : ℕ) (key : List ℕ) → IsClient (setting past) client → IsHomeStaying client × IsThere client → IsKey key
       → Accepts past (act_saying client (Peek key))

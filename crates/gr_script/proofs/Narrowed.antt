@@ -7,6 +7,10 @@ use Rattle.gr_script.specs.declared.forms.LineKind.{LineKind}
 use Rattle.gr_script.specs.declared.forms.LineKind.TheVariants as kind
 use Rattle.gr_script.specs.declared.items.Item.{Item}
 use Rattle.gr_script.specs.declared.items.Setting.{Setting}
+use Rattle.gr_script.specs.declared.operation.Keyed.TheVariants.{Get}
+use Rattle.gr_script.specs.declared.operation.Operation.TheVariants.{OfKey, OfValue, OfPair}
+use Rattle.gr_script.specs.declared.operation.Paired.TheVariants.{ReplaceIf}
+use Rattle.gr_script.specs.declared.operation.Valued.TheVariants.{Put}
 use Rattle.gr_script.specs.declared.saying.Saying.{Saying}
 use Rattle.gr_script.specs.Forms.{fields, rank, is_clients, is_step, is_kind}
 use Rattle.gr_script.specs.Kept.{CanBeKept}
@@ -91,6 +95,11 @@ said_back past kind.Inbox c late = absurd (omega arith)
 said_back past kind.Trouble c late = absurd (omega arith)
 said_back past kind.Floor c late = absurd (omega arith)
 said_back past kind.Client c late = absurd (omega arith)
+said_back past (kind.Call (OfKey Get)) c late = refl
+said_back past (kind.Call (OfKey _)) c late = refl
+said_back past (kind.Call (OfValue Put)) c late = refl
+said_back past (kind.Call (OfValue _)) c late = refl
+said_back past (kind.Call (OfPair ReplaceIf)) c late = refl
 said_back past _ c late = refl
 
 pub can_be_kept : (past : List Saying) (saying : Saying) → AllFollow (saying ∷ past) → length past ≤ most_lines → CanBeKept past saying

@@ -1,14 +1,13 @@
 -- A step, and a delivery, whose line is spelled as it is printed.
 use Rattle.std.proofs.Common.{◌≡◌, ◌∙◌, ℕ, ◌+◌, ◌*◌, ◌-◌, ◌/◌, ◌%◌, ◌≤◌, ◌<◌, List, [], ◌∷◌, ◌++◌, Bool, true, false, ◌&&◌, eqb, Option, Some, None}
 use Rattle.std.proofs.Common.{refl, sym, ap, subst, arith, inl, inr, decimal, length, take, drop, slice_index_or, get_or, cond, leb, ◌^◌}
-use Rattle.std.specs.Prelude.{IfSome, bytes_eq, codes}
+use Rattle.std.specs.Prelude.{IfSome, codes}
 use Rattle.std.specs.Char.{is_ascii_digit}
 use Rattle.std.specs.List.{fold, list_all}
 use Rattle.std.proofs.lemmas.Bool.{cases_Bool, eqb-true, cond-true, and_from, and_parts, le-leb, leb-true}
 use Rattle.std.proofs.lemmas.Fmt.{decimal_digit, decimal-digits_value}
 use Rattle.std.proofs.lemmas.Str.Parse.{IsDigitsTest, IsNumeralModel, numerals_by_fold}
-use Rattle.std.proofs.lemmas.List.{append-nil, take-append-drop}
-use Rattle.std.proofs.lemmas.Slice.Eq.{bytes_eq-Decides}
+use Rattle.std.proofs.lemmas.List.{append-nil}
 use Rattle.itoa.proofs.Decimal.{decimal_two, pair}
 use Rattle.std.proofs.Math.Seq.{take-length}
 use Rattle.gr_value.specs.KeyBytes.{IsKey}
@@ -20,8 +19,16 @@ use Rattle.gr_script.specs.declared.forms.LineKind.{LineKind}
 use Rattle.gr_script.specs.declared.forms.LineKind.TheVariants as kind
 use Rattle.gr_script.specs.declared.line.Act.{Act}
 use Rattle.gr_script.specs.declared.line.Act.TheVariants.{Call, Query, Peek}
+use Rattle.gr_script.specs.declared.operation.Keyed.{Keyed}
+use Rattle.gr_script.specs.declared.operation.Keyed.TheVariants.{Get}
+use Rattle.gr_script.specs.declared.operation.Operation.TheVariants.{OfKey, OfValue, OfPair}
+use Rattle.gr_script.specs.declared.operation.Paired.{Paired}
+use Rattle.gr_script.specs.declared.operation.Paired.TheVariants.{ReplaceIf}
+use Rattle.gr_script.specs.declared.operation.Valued.{Valued}
+use Rattle.gr_script.specs.declared.operation.Valued.TheVariants.{Put}
 use Rattle.gr_script.specs.Forms.{word}
 use Rattle.gr_script.specs.Numerals.{begins_number, is_number, number_of, worth}
+use Rattle.gr_script.specs.Operations.{ask_of_key, ask_of_value, ask_of_pair, operation_word}
 use Rattle.gr_script.specs.Plain.{IsPrinted, IsSpelled, IsPlain, delivery_saying}
 use Rattle.gr_script.specs.Printed.{act_saying}
 use Rattle.gr_script.specs.Printing.{saying_text}
@@ -90,11 +97,6 @@ two_digits mark (a ∷ b ∷ c ∷ rest) tens ones long a_is b_is behind some fe
 
 -- ---- what stands in front
 
-pub front_joined : (text front rest : List ℕ) → bytes_eq (take (length front) text) front ≡ true → rest ≡ drop (length front) text
-    → text ≡ front ++ rest
-front_joined text front rest same is =
-    sym (take-append-drop (length front) text) ∙ (λ k. (bytes_eq-Decides (take (length front) text) front).0 same k ++ sym is k)
-
 pub space_joined : (text : List ℕ) (parts : List ℕ × List ℕ) → cut 0x20 text ≡ Some parts → text ≡ parts.0 ++ 0x20 ∷ parts.1
 space_joined text parts is =
     subst (λ (found : Option (List ℕ × List ℕ)). IfSome found (λ p. text ≡ p.0 ++ 0x20 ∷ p.1)) is (cut_joined 0x20 text)
@@ -106,14 +108,9 @@ module _ (key : List ℕ) (kept : IsKey key) where
       ≡ decimal client ++ 0x20 ∷ (word form ++ 0x20 ∷ key)
   alone form client = ap (λ (k : List ℕ). decimal client ++ 0x20 ∷ (word form ++ 0x20 ∷ k)) (append-nil key)
 
-  pub get_spelled : IsSpelled kind.Get key (Call (ask.Get key))
-  get_spelled = record { text = alone kind.Get; is = λ client. refl; kept = kept; plain = tt }
-
-  pub destroy_spelled : IsSpelled kind.Destroy key (Call (ask.Destroy key))
-  destroy_spelled = record { text = alone kind.Destroy; is = λ client. refl; kept = kept; plain = tt }
-
-  pub invalidate_spelled : IsSpelled kind.Invalidate key (Call (ask.Invalidate key))
-  invalidate_spelled = record { text = alone kind.Invalidate; is = λ client. refl; kept = kept; plain = tt }
+  pub keyed_spelled : (operation : Keyed) → IsSpelled (kind.Call (OfKey operation)) key (Call (ask_of_key operation key))
+  keyed_spelled Get = record { text = alone (kind.Call (OfKey Get)); is = λ client. refl; kept = kept; plain = tt }
+  keyed_spelled operation = record { text = alone (kind.Call (OfKey operation)); is = λ client. refl; kept = kept; plain = tt }
 
   pub peek_spelled : IsSpelled kind.Peek key (Peek key)
   peek_spelled = record { text = alone kind.Peek; is = λ client. refl; kept = kept; plain = tt }
@@ -125,23 +122,18 @@ module _ (key : List ℕ) (value : List Field) (is_key : IsKey key) (is_value : 
   behind form client =
       ap (λ (v : List ℕ). decimal client ++ 0x20 ∷ (word form ++ 0x20 ∷ (key ++ 0x20 ∷ v))) (append-nil (value_text value))
 
-  pub put_spelled : IsSpelled kind.Put (key ++ 0x20 ∷ value_text value) (Call (ask.Put key value))
-  put_spelled = record { text = behind kind.Put; is = λ client. refl; kept = (is_key, is_value); plain = tt }
+  pub valued_spelled : (operation : Valued)
+      → IsSpelled (kind.Call (OfValue operation)) (key ++ 0x20 ∷ value_text value) (Call (ask_of_value operation key value))
+  valued_spelled Put = record { text = behind (kind.Call (OfValue Put)); is = λ client. refl; kept = (is_key, is_value); plain = tt }
+  valued_spelled operation =
+      record { text = behind (kind.Call (OfValue operation)); is = λ client. refl; kept = (is_key, is_value); plain = tt }
 
-  pub absent_spelled : IsSpelled kind.PutIfAbsent (key ++ 0x20 ∷ value_text value) (Call (ask.PutIfAbsent key value))
-  absent_spelled = record { text = behind kind.PutIfAbsent; is = λ client. refl; kept = (is_key, is_value); plain = tt }
-
-  pub replace_spelled : IsSpelled kind.Replace (key ++ 0x20 ∷ value_text value) (Call (ask.Replace key value))
-  replace_spelled = record { text = behind kind.Replace; is = λ client. refl; kept = (is_key, is_value); plain = tt }
-
-  pub remove_spelled : IsSpelled kind.Remove (key ++ 0x20 ∷ value_text value) (Call (ask.Remove key value))
-  remove_spelled = record { text = behind kind.Remove; is = λ client. refl; kept = (is_key, is_value); plain = tt }
-
-pub swapped_spelled : (key : List ℕ) (old new : List Field) → IsKey key → IsValue old → IsValue new
-    → IsSpelled kind.ReplaceIf (key ++ 0x20 ∷ (value_text old ++ 0x20 ∷ value_text new)) (Call (ask.ReplaceIf key old new))
-swapped_spelled key old new is_key is_old is_new = record {
+pub paired_spelled : (operation : Paired) (key : List ℕ) (old new : List Field) → IsKey key → IsValue old → IsValue new
+    → IsSpelled (kind.Call (OfPair operation)) (key ++ 0x20 ∷ (value_text old ++ 0x20 ∷ value_text new))
+    (Call (ask_of_pair operation key old new))
+paired_spelled ReplaceIf key old new is_key is_old is_new = record {
   text = λ client.
-      ap (λ (v : List ℕ). decimal client ++ 0x20 ∷ (word kind.ReplaceIf ++ 0x20 ∷ (key ++ 0x20 ∷ (value_text old ++ 0x20 ∷ v))))
+      ap (λ (v : List ℕ). decimal client ++ 0x20 ∷ (operation_word (OfPair ReplaceIf) ++ 0x20 ∷ (key ++ 0x20 ∷ (value_text old ++ 0x20 ∷ v))))
       (append-nil (value_text new));
   is = λ client. refl;
   kept = (is_key, is_old, is_new);

@@ -27,12 +27,18 @@ use Rattle.gr_script.specs.declared.forms.LineKind.TheVariants as kind
 use Rattle.gr_script.specs.declared.items.Item.{Item}
 use Rattle.gr_script.specs.declared.items.Item.TheVariants.{Word, Number, Member, Client, Ordinal, Step, Key, Value, Query}
 use Rattle.gr_script.specs.declared.items.Setting.{Setting}
+use Rattle.gr_script.specs.declared.operation.Keyed.TheVariants.{Get}
+use Rattle.gr_script.specs.declared.operation.Operation.{Operation}
+use Rattle.gr_script.specs.declared.operation.Operation.TheVariants.{OfKey, OfValue, OfPair}
+use Rattle.gr_script.specs.declared.operation.Paired.TheVariants.{ReplaceIf}
+use Rattle.gr_script.specs.declared.operation.Valued.TheVariants.{Put}
 use Rattle.gr_script.specs.declared.reason.Reason.{Reason}
 use Rattle.gr_script.specs.declared.reason.Reason.TheVariants as reason
 use Rattle.gr_script.specs.Cuts.{is_space, ends_with, field_len}
 use Rattle.gr_script.specs.Fields.{len_of, is_filled}
 use Rattle.gr_script.specs.Forms.{word}
 use Rattle.gr_script.specs.Halts.{◌>>=◌, unless}
+use Rattle.gr_script.specs.Operations.{operation_word}
 use Rattle.gr_script.specs.Items.{number_at, within, number_in, stated_client, dotted_numbers, item_at}
 use Rattle.gr_oql.specs.Questions.{question_of}
 use Rattle.gr_script.specs.Items.{key_from, value_from, query_from, own_query, query_at}
@@ -83,36 +89,17 @@ key_some (first ∷ rest) is = omega arith
 key_plain : (key : List ℕ) → IsKey key → IsPlain key
 key_plain key is = record { some = key_some key is; each = key_bytes key is }
 
+operation_plain : (operation : Operation) → IsPlain (operation_word operation)
+operation_plain (OfKey Get) = record { some = omega arith; each = refl }
+operation_plain (OfKey _) = record { some = omega arith; each = refl }
+operation_plain (OfValue Put) = record { some = omega arith; each = refl }
+operation_plain (OfValue _) = record { some = omega arith; each = refl }
+operation_plain (OfPair ReplaceIf) = record { some = omega arith; each = refl }
+
 pub word_plain : (line : LineKind) → IsPlain (word line)
+word_plain (kind.Call operation) = operation_plain operation
 word_plain kind.Georep = record { some = omega arith; each = refl }
-word_plain kind.Region = record { some = omega arith; each = refl }
-word_plain kind.Members = record { some = omega arith; each = refl }
-word_plain kind.Shards = record { some = omega arith; each = refl }
-word_plain kind.Inbox = record { some = omega arith; each = refl }
-word_plain kind.Trouble = record { some = omega arith; each = refl }
-word_plain kind.Floor = record { some = omega arith; each = refl }
-word_plain kind.Client = record { some = omega arith; each = refl }
-word_plain kind.Get = record { some = omega arith; each = refl }
-word_plain kind.Put = record { some = omega arith; each = refl }
-word_plain kind.PutIfAbsent = record { some = omega arith; each = refl }
-word_plain kind.Replace = record { some = omega arith; each = refl }
-word_plain kind.ReplaceIf = record { some = omega arith; each = refl }
-word_plain kind.Destroy = record { some = omega arith; each = refl }
-word_plain kind.Remove = record { some = omega arith; each = refl }
-word_plain kind.Invalidate = record { some = omega arith; each = refl }
-word_plain kind.Peek = record { some = omega arith; each = refl }
-word_plain kind.Open = record { some = omega arith; each = refl }
-word_plain kind.Stop = record { some = omega arith; each = refl }
-word_plain kind.Close = record { some = omega arith; each = refl }
-word_plain kind.Fetch = record { some = omega arith; each = refl }
-word_plain kind.Deliver = record { some = omega arith; each = refl }
-word_plain kind.Report = record { some = omega arith; each = refl }
-word_plain kind.Hear = record { some = omega arith; each = refl }
-word_plain kind.Sweep = record { some = omega arith; each = refl }
-word_plain kind.Join = record { some = omega arith; each = refl }
-word_plain kind.Depart = record { some = omega arith; each = refl }
-word_plain kind.Leave = record { some = omega arith; each = refl }
-word_plain kind.Back = record { some = omega arith; each = refl }
+word_plain _ = record { some = omega arith; each = refl }
 
 -- ---- where such a field ends
 

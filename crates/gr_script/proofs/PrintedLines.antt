@@ -16,6 +16,7 @@ use Rattle.gr_script.specs.declared.forms.LineKind.TheVariants as kind
 use Rattle.gr_script.specs.declared.items.Item.{Item}
 use Rattle.gr_script.specs.declared.items.Item.TheVariants as item
 use Rattle.gr_script.specs.declared.items.Setting.{Setting}
+use Rattle.gr_script.specs.declared.operation.Operation.TheVariants.{OfKey, OfValue, OfPair}
 use Rattle.gr_script.specs.declared.reason.Reason.{Reason}
 use Rattle.gr_script.specs.declared.saying.Saying.{Saying}
 use Rattle.gr_script.specs.Cuts.{is_space, after_spaces, is_skipped}
@@ -129,14 +130,9 @@ last_alone kind.Inbox = (tt, tt)
 last_alone kind.Trouble = (tt, tt)
 last_alone kind.Floor = (tt, tt)
 last_alone kind.Client = (tt, (tt, (tt, tt)))
-last_alone kind.Get = (tt, (tt, tt))
-last_alone kind.Put = (tt, (tt, (tt, tt)))
-last_alone kind.PutIfAbsent = (tt, (tt, (tt, tt)))
-last_alone kind.Replace = (tt, (tt, (tt, tt)))
-last_alone kind.ReplaceIf = (tt, (tt, (tt, (tt, tt))))
-last_alone kind.Destroy = (tt, (tt, tt))
-last_alone kind.Remove = (tt, (tt, (tt, tt)))
-last_alone kind.Invalidate = (tt, (tt, tt))
+last_alone (kind.Call (OfKey operation)) = (tt, (tt, tt))
+last_alone (kind.Call (OfValue operation)) = (tt, (tt, (tt, tt)))
+last_alone (kind.Call (OfPair operation)) = (tt, (tt, (tt, (tt, tt))))
 last_alone kind.Peek = (tt, (tt, tt))
 last_alone kind.Open = (tt, (tt, (tt, tt)))
 last_alone kind.Stop = (tt, (tt, tt))
@@ -152,6 +148,9 @@ last_alone kind.Leave = (tt, (tt, tt))
 last_alone kind.Back = (tt, (tt, tt))
 
 some_fields : (line : LineKind) → 0 < length (fields line)
+some_fields (kind.Call (OfKey operation)) = omega arith
+some_fields (kind.Call (OfValue operation)) = omega arith
+some_fields (kind.Call (OfPair operation)) = omega arith
 some_fields kind.Georep = omega arith
 some_fields _ = omega arith
 

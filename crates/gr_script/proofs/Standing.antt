@@ -9,6 +9,7 @@ use Rattle.gr_script.specs.declared.forms.LineKind.{LineKind}
 use Rattle.gr_script.specs.declared.forms.LineKind.TheVariants as kind
 use Rattle.gr_script.specs.declared.items.Item.{Item}
 use Rattle.gr_script.specs.declared.line.Line.{Line}
+use Rattle.gr_script.specs.declared.operation.Operation.TheVariants.{OfKey, OfValue, OfPair}
 use Rattle.gr_script.specs.declared.reason.Reason.{Reason}
 use Rattle.gr_script.specs.declared.reason.Reason.TheVariants.{Away, Count, Gone}
 use Rattle.gr_script.specs.declared.saying.Saying.{Saying}
@@ -81,14 +82,9 @@ few_opens past all isnt = not_full 16 (count_of kind.Open past) _ isnt (tallied 
 line_stands : (past : List Saying) (form : LineKind) (c : Held past form) → refusal (tests past form (held_items past form c)) ≡ None
     → AreRests (held_items past form c) → AllFollow past
     → Stands (heading_said past) (lines_said past) (line_by past form (held_items past form c))
-line_stands past kind.Get c none rests all = (stated past c.0.0 c.0.1, numbered past c.0.0 all, tt)
-line_stands past kind.Put c none rests all = (stated past c.0.0 c.0.1, numbered past c.0.0 all, tt)
-line_stands past kind.PutIfAbsent c none rests all = (stated past c.0.0 c.0.1, numbered past c.0.0 all, tt)
-line_stands past kind.Replace c none rests all = (stated past c.0.0 c.0.1, numbered past c.0.0 all, tt)
-line_stands past kind.ReplaceIf c none rests all = (stated past c.0.0 c.0.1, numbered past c.0.0 all, tt)
-line_stands past kind.Destroy c none rests all = (stated past c.0.0 c.0.1, numbered past c.0.0 all, tt)
-line_stands past kind.Remove c none rests all = (stated past c.0.0 c.0.1, numbered past c.0.0 all, tt)
-line_stands past kind.Invalidate c none rests all = (stated past c.0.0 c.0.1, numbered past c.0.0 all, tt)
+line_stands past (kind.Call (OfKey operation)) c none rests all = (stated past c.0.0 c.0.1, numbered past c.0.0 all, tt)
+line_stands past (kind.Call (OfValue operation)) c none rests all = (stated past c.0.0 c.0.1, numbered past c.0.0 all, tt)
+line_stands past (kind.Call (OfPair operation)) c none rests all = (stated past c.0.0 c.0.1, numbered past c.0.0 all, tt)
 line_stands past kind.Peek c none rests all = (stated past c.0.0 c.0.1, numbered past c.0.0 all, tt)
 line_stands past kind.Open c none rests all =
     let pass = passed (tests past kind.Open (held_items past kind.Open c)) none in
@@ -182,14 +178,9 @@ step_stays past client more all none =
 
 line_names : (past : List Saying) (form : LineKind) (c : Held past form) → refusal (tests past form (held_items past form c)) ≡ None
     → AllFollow past → NameStaying (heading_said past) (lines_said past) (line_by past form (held_items past form c))
-line_names past kind.Get c none all = step_stays past c.0.0 ((is_away c.0.0 past, Away) ∷ []) all none
-line_names past kind.Put c none all = step_stays past c.0.0 ((is_away c.0.0 past, Away) ∷ []) all none
-line_names past kind.PutIfAbsent c none all = step_stays past c.0.0 ((is_away c.0.0 past, Away) ∷ []) all none
-line_names past kind.Replace c none all = step_stays past c.0.0 ((is_away c.0.0 past, Away) ∷ []) all none
-line_names past kind.ReplaceIf c none all = step_stays past c.0.0 ((is_away c.0.0 past, Away) ∷ []) all none
-line_names past kind.Destroy c none all = step_stays past c.0.0 ((is_away c.0.0 past, Away) ∷ []) all none
-line_names past kind.Remove c none all = step_stays past c.0.0 ((is_away c.0.0 past, Away) ∷ []) all none
-line_names past kind.Invalidate c none all = step_stays past c.0.0 ((is_away c.0.0 past, Away) ∷ []) all none
+line_names past (kind.Call (OfKey operation)) c none all = step_stays past c.0.0 ((is_away c.0.0 past, Away) ∷ []) all none
+line_names past (kind.Call (OfValue operation)) c none all = step_stays past c.0.0 ((is_away c.0.0 past, Away) ∷ []) all none
+line_names past (kind.Call (OfPair operation)) c none all = step_stays past c.0.0 ((is_away c.0.0 past, Away) ∷ []) all none
 line_names past kind.Peek c none all = step_stays past c.0.0 ((is_away c.0.0 past, Away) ∷ []) all none
 line_names past kind.Open c none all =
     step_stays past c.0.0
@@ -237,14 +228,9 @@ step_attends past client gone more none = (passed ((gone, Gone) ∷ (is_away cli
 
 line_attends : (past : List Saying) (form : LineKind) (c : Held past form) → refusal (tests past form (held_items past form c)) ≡ None
     → Attend (lines_said past) (line_by past form (held_items past form c))
-line_attends past kind.Get c none = step_attends past c.0.0 (is_gone (home c.0.0 past) past) [] none
-line_attends past kind.Put c none = step_attends past c.0.0 (is_gone (home c.0.0 past) past) [] none
-line_attends past kind.PutIfAbsent c none = step_attends past c.0.0 (is_gone (home c.0.0 past) past) [] none
-line_attends past kind.Replace c none = step_attends past c.0.0 (is_gone (home c.0.0 past) past) [] none
-line_attends past kind.ReplaceIf c none = step_attends past c.0.0 (is_gone (home c.0.0 past) past) [] none
-line_attends past kind.Destroy c none = step_attends past c.0.0 (is_gone (home c.0.0 past) past) [] none
-line_attends past kind.Remove c none = step_attends past c.0.0 (is_gone (home c.0.0 past) past) [] none
-line_attends past kind.Invalidate c none = step_attends past c.0.0 (is_gone (home c.0.0 past) past) [] none
+line_attends past (kind.Call (OfKey operation)) c none = step_attends past c.0.0 (is_gone (home c.0.0 past) past) [] none
+line_attends past (kind.Call (OfValue operation)) c none = step_attends past c.0.0 (is_gone (home c.0.0 past) past) [] none
+line_attends past (kind.Call (OfPair operation)) c none = step_attends past c.0.0 (is_gone (home c.0.0 past) past) [] none
 line_attends past kind.Peek c none = step_attends past c.0.0 (is_gone (home c.0.0 past) past) [] none
 line_attends past kind.Open c none = (passed (tests past kind.Open (held_items past kind.Open c)) none).1.0
 line_attends past kind.Stop c none = (passed (tests past kind.Stop (held_items past kind.Stop c)) none).1.0

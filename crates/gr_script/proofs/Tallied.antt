@@ -4,7 +4,6 @@ use Rattle.std.proofs.Common.{arith}
 use Rattle.std.specs.List.{cons_option, count_by}
 use Rattle.std.specs.Option.{is_some, option_map_or}
 use Rattle.std.proofs.lemmas.List.Sums.{sum_by-cons}
-use Rattle.gr_history.specs.declared.ask.Ask.TheVariants as ask
 use Rattle.gr_history.specs.declared.query_ask.QueryAsk.TheVariants as query
 use Rattle.gr_script.specs.declared.forms.LineKind.{LineKind}
 use Rattle.gr_script.specs.declared.forms.LineKind.TheVariants as kind
@@ -15,8 +14,10 @@ use Rattle.gr_script.specs.declared.line.Act.TheVariants.{Call, Query, Peek}
 use Rattle.gr_script.specs.declared.line.Line.{Line}
 use Rattle.gr_script.specs.declared.line.Line.TheVariants as line
 use Rattle.gr_script.specs.declared.line.Step.{Step}
+use Rattle.gr_script.specs.declared.operation.Operation.TheVariants.{OfKey, OfValue, OfPair}
 use Rattle.gr_script.specs.declared.saying.Saying.{Saying}
 use Rattle.gr_script.specs.Forms.{fields, is_step, is_kind}
+use Rattle.gr_script.specs.Operations.{ask_of_key, ask_of_value, ask_of_pair}
 use Rattle.gr_script.specs.Past.{number, setting, steps, is_query as is_query_kind}
 use Rattle.gr_script.specs.Said.{line_of, lines_said}
 use Rattle.gr_script.specs.Steps.{step_of, is_report, is_report_of, is_sweep, is_join_of, is_join_from, is_query, is_open, departs}
@@ -116,14 +117,10 @@ step_line n past client act =
 
 same_marks : (n : ℕ) (past : List Saying) (set : Setting) (form : LineKind) (c : Contents set (fields form))
     → said_marks n (line_by past form (items_of set (fields form) c)) ≡ form_marks n form (items_of set (fields form) c)
-same_marks n past set kind.Get c = step_line n past c.0.0 (Call (ask.Get c.1.1.0))
-same_marks n past set kind.Put c = step_line n past c.0.0 (Call (ask.Put c.1.1.0 c.1.1.1.0))
-same_marks n past set kind.PutIfAbsent c = step_line n past c.0.0 (Call (ask.PutIfAbsent c.1.1.0 c.1.1.1.0))
-same_marks n past set kind.Replace c = step_line n past c.0.0 (Call (ask.Replace c.1.1.0 c.1.1.1.0))
-same_marks n past set kind.ReplaceIf c = step_line n past c.0.0 (Call (ask.ReplaceIf c.1.1.0 c.1.1.1.0 c.1.1.1.1.0))
-same_marks n past set kind.Destroy c = step_line n past c.0.0 (Call (ask.Destroy c.1.1.0))
-same_marks n past set kind.Remove c = step_line n past c.0.0 (Call (ask.Remove c.1.1.0 c.1.1.1.0))
-same_marks n past set kind.Invalidate c = step_line n past c.0.0 (Call (ask.Invalidate c.1.1.0))
+same_marks n past set (kind.Call (OfKey operation)) c = step_line n past c.0.0 (Call (ask_of_key operation c.1.1.0))
+same_marks n past set (kind.Call (OfValue operation)) c = step_line n past c.0.0 (Call (ask_of_value operation c.1.1.0 c.1.1.1.0))
+same_marks n past set (kind.Call (OfPair operation)) c =
+    step_line n past c.0.0 (Call (ask_of_pair operation c.1.1.0 c.1.1.1.0 c.1.1.1.1.0))
 same_marks n past set kind.Peek c = step_line n past c.0.0 (Peek c.1.1.0)
 same_marks n past set kind.Open c = step_line n past c.0.0 (Query (query.Enrol c.1.1.0 c.1.1.1.0.0))
 same_marks n past set kind.Stop c = step_line n past c.0.0 (Query (query.Stop c.1.1.0))

@@ -1,13 +1,14 @@
 -- The forms of lines, as data: the word of each, its fields, and where it may stand.
-use Rattle.std.specs.Prelude.{ℕ, List, [], ◌∷◌, Bool, true, false, Option, codes, bytes_eq, min}
+use Rattle.std.specs.Prelude.{ℕ, List, [], ◌∷◌, ◌++◌, ◌==◌, map, Bool, true, false, Option, codes, bytes_eq, min}
 use Rattle.std.specs.List.{find}
 use Rattle.gr_script.specs.declared.forms.LineKind.{LineKind}
-use Rattle.gr_script.specs.declared.forms.LineKind.TheVariants.{Georep, Region, Members, Shards, Inbox, Trouble, Floor, Client, Get, Put}
-use Rattle.gr_script.specs.declared.forms.LineKind.TheVariants.{PutIfAbsent, Replace, ReplaceIf, Destroy, Remove, Invalidate, Peek}
+use Rattle.gr_script.specs.declared.forms.LineKind.TheVariants.{Georep, Region, Members, Shards, Inbox, Trouble, Floor, Client, Call, Peek}
 use Rattle.gr_script.specs.declared.forms.LineKind.TheVariants.{Open, Stop, Close, Fetch, Deliver, Report}
 use Rattle.gr_script.specs.declared.forms.LineKind.TheVariants.{Hear, Sweep, Join, Depart, Leave, Back}
 use Rattle.gr_script.specs.declared.forms.FieldKind.{FieldKind}
 use Rattle.gr_script.specs.declared.forms.FieldKind.TheVariants as field
+use Rattle.gr_script.specs.declared.operation.Operation.TheVariants.{OfKey, OfValue, OfPair}
+use Rattle.gr_script.specs.Operations.{operation_word, operations}
 use Rattle.gr_script.specs.Limits.{most_members, most_shards, most_inbox, most_trouble, most_clients, most_moment}
 use Rattle.gr_stamp.specs.declared.stamp.TheConstants.{LIMIT}
 
@@ -20,14 +21,7 @@ word Inbox = codes "inbox"
 word Trouble = codes "trouble"
 word Floor = codes "floor"
 word Client = codes "client"
-word Get = codes "get"
-word Put = codes "put"
-word PutIfAbsent = codes "putIfAbsent"
-word Replace = codes "replace"
-word ReplaceIf = codes "replaceIf"
-word Destroy = codes "destroy"
-word Remove = codes "remove"
-word Invalidate = codes "invalidate"
+word (Call operation) = operation_word operation
 word Peek = codes "peek"
 word Open = codes "open"
 word Stop = codes "stop"
@@ -52,14 +46,9 @@ fields Inbox = field.Word ∷ (field.Number 1 most_inbox) ∷ []
 fields Trouble = field.Word ∷ (field.Number 0 most_trouble) ∷ []
 fields Floor = field.Word ∷ (field.Number 0 LIMIT) ∷ []
 fields Client = field.Word ∷ (field.Number 1 most_clients) ∷ field.At ∷ field.Member ∷ []
-fields Get = field.Client ∷ field.Word ∷ field.Key ∷ []
-fields Put = field.Client ∷ field.Word ∷ field.Key ∷ field.Value ∷ []
-fields PutIfAbsent = field.Client ∷ field.Word ∷ field.Key ∷ field.Value ∷ []
-fields Replace = field.Client ∷ field.Word ∷ field.Key ∷ field.Value ∷ []
-fields ReplaceIf = field.Client ∷ field.Word ∷ field.Key ∷ field.Value ∷ field.Value ∷ []
-fields Destroy = field.Client ∷ field.Word ∷ field.Key ∷ []
-fields Remove = field.Client ∷ field.Word ∷ field.Key ∷ field.Value ∷ []
-fields Invalidate = field.Client ∷ field.Word ∷ field.Key ∷ []
+fields (Call (OfKey operation)) = field.Client ∷ field.Word ∷ field.Key ∷ []
+fields (Call (OfValue operation)) = field.Client ∷ field.Word ∷ field.Key ∷ field.Value ∷ []
+fields (Call (OfPair operation)) = field.Client ∷ field.Word ∷ field.Key ∷ field.Value ∷ field.Value ∷ []
 fields Peek = field.Client ∷ field.Word ∷ field.Key ∷ []
 fields Open = field.Client ∷ field.Word ∷ field.Key ∷ field.Query ∷ []
 fields Stop = field.Client ∷ field.Word ∷ field.Key ∷ []
@@ -74,7 +63,7 @@ fields Depart = field.Word ∷ field.Member ∷ []
 fields Leave = field.Client ∷ field.Word ∷ (field.Number 0 most_moment) ∷ []
 fields Back = field.Client ∷ field.Word ∷ (field.Number 0 most_moment) ∷ []
 
--- which of the kinds it is, counted from 0
+-- which of the kinds it is, counted from 0; all calls are of one
 abbrev pub place : LineKind → ℕ
 place Georep = 0
 place Region = 1
@@ -84,37 +73,32 @@ place Inbox = 4
 place Trouble = 5
 place Floor = 6
 place Client = 7
-place Get = 8
-place Put = 9
-place PutIfAbsent = 10
-place Replace = 11
-place ReplaceIf = 12
-place Destroy = 13
-place Remove = 14
-place Invalidate = 15
-place Peek = 16
-place Open = 17
-place Stop = 18
-place Close = 19
-place Fetch = 20
-place Deliver = 21
-place Report = 22
-place Hear = 23
-place Sweep = 24
-place Join = 25
-place Depart = 26
-place Leave = 27
-place Back = 28
+place (Call operation) = 8
+place Peek = 9
+place Open = 10
+place Stop = 11
+place Close = 12
+place Fetch = 13
+place Deliver = 14
+place Report = 15
+place Hear = 16
+place Sweep = 17
+place Join = 18
+place Depart = 19
+place Leave = 20
+place Back = 21
 
 -- A line of a greater rank stands behind one of a lesser.
 abbrev pub rank : LineKind → ℕ
 rank kind = min (place kind) 8
 
+-- the lines that begin with a client's number and are no calls
+abbrev pub more_kinds : List LineKind
+more_kinds = Peek ∷ Open ∷ Stop ∷ Close ∷ Fetch ∷ Leave ∷ Back ∷ []
+
 -- the lines that begin with a client's number
 abbrev pub client_kinds : List LineKind
-client_kinds =
-    Get ∷ Put ∷ Destroy ∷ PutIfAbsent ∷ Replace ∷ ReplaceIf
-    ∷ Remove ∷ Invalidate ∷ Peek ∷ Open ∷ Stop ∷ Close ∷ Fetch ∷ Leave ∷ Back ∷ []
+client_kinds = map Call operations ++ more_kinds
 
 abbrev pub other_kinds : List LineKind
 other_kinds =
@@ -127,14 +111,7 @@ kind_of kinds text = find (λ kind. bytes_eq text (word kind)) kinds
 
 -- Some lines are steps of a client.
 abbrev pub is_step : LineKind → Bool
-is_step Get = true
-is_step Put = true
-is_step PutIfAbsent = true
-is_step Replace = true
-is_step ReplaceIf = true
-is_step Destroy = true
-is_step Remove = true
-is_step Invalidate = true
+is_step (Call operation) = true
 is_step Peek = true
 is_step Open = true
 is_step Stop = true
@@ -148,6 +125,6 @@ is_clients Leave = true
 is_clients Back = true
 is_clients kind = is_step kind
 
--- whether lines of these kinds have the same word
+-- whether lines are of the same kind
 abbrev pub is_kind : LineKind → LineKind → Bool
-is_kind kind other = bytes_eq (word kind) (word other)
+is_kind kind other = place kind == place other

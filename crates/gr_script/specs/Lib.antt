@@ -13,6 +13,7 @@ pub mod Limits
 pub mod LinesSaid
 pub mod Narrow
 pub mod Numerals
+pub mod Operations
 pub mod Past
 pub mod Pieces
 pub mod Plain

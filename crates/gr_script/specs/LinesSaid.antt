@@ -2,7 +2,6 @@
 use Rattle.std.specs.Prelude.{ℕ, ◌+◌, List, [], ◌∷◌, Option, Some, None, option_map, if◌then◌else◌}
 use Rattle.std.specs.List.{cons_option}
 use Rattle.std.specs.Option.{option_and_then}
-use Rattle.gr_history.specs.declared.ask.Ask.TheVariants as ask
 use Rattle.gr_history.specs.declared.query_ask.QueryAsk.TheVariants as query
 use Rattle.gr_oql.specs.Question.{Question}
 use Rattle.gr_script.specs.declared.forms.LineKind.{LineKind}
@@ -16,6 +15,7 @@ use Rattle.gr_script.specs.declared.line.Line.TheVariants as line
 use Rattle.gr_script.specs.declared.parts.Parts.{Parts}
 use Rattle.gr_script.specs.declared.saying.Saying.{Saying}
 use Rattle.gr_script.specs.Forms.{is_step}
+use Rattle.gr_script.specs.Operations.{ask_with}
 use Rattle.gr_script.specs.Past.{number, steps}
 
 -- what the fields of a line say that are no numbers, put together from the right
@@ -42,15 +42,7 @@ query_with _ name found = None
 
 -- what a client does at a line of this kind, with this key or name
 abbrev pub act_with : LineKind → List ℕ → Parts → Option Act
-act_with kind.Get key parts = Some (Call (ask.Get key))
-act_with kind.Put key parts = option_map (λ value. Call (ask.Put key value)) parts.value
-act_with kind.PutIfAbsent key parts = option_map (λ value. Call (ask.PutIfAbsent key value)) parts.value
-act_with kind.Replace key parts = option_map (λ value. Call (ask.Replace key value)) parts.value
-act_with kind.ReplaceIf key parts =
-    option_and_then (λ old. option_map (λ new. Call (ask.ReplaceIf key old new)) parts.other) parts.value
-act_with kind.Destroy key parts = Some (Call (ask.Destroy key))
-act_with kind.Remove key parts = option_map (λ value. Call (ask.Remove key value)) parts.value
-act_with kind.Invalidate key parts = Some (Call (ask.Invalidate key))
+act_with (kind.Call operation) key parts = option_map Call (ask_with operation key parts.value parts.other)
 act_with kind.Peek key parts = Some (Peek key)
 act_with other key parts = query_with other key parts.query
 

@@ -1,11 +1,12 @@
 -- What the lines of a script say, and its text.
-use Rattle.std.specs.Prelude.{ℕ, ◌+◌, List, [], ◌∷◌, ◌++◌, map}
+use Rattle.std.specs.Prelude.{ℕ, ◌+◌, List, [], ◌∷◌, ◌++◌, map, Option, Some, None}
 use Rattle.std.specs.Str.{IsUtf8}
 use Rattle.gr_value.specs.KeyBytes.{IsKey}
+use Rattle.gr_value.specs.declared.value.Field.{Field}
 use Rattle.gr_value.specs.Values.{IsValue}
+use Rattle.gr_value.specs.ValueText.{value_text}
 use Rattle.gr_oql.specs.Grammar.{Spells}
 use Rattle.gr_history.specs.declared.ask.Ask.{Ask}
-use Rattle.gr_history.specs.declared.ask.Ask.TheVariants as ask
 use Rattle.gr_history.specs.declared.query_ask.QueryAsk.{QueryAsk}
 use Rattle.gr_history.specs.declared.query_ask.QueryAsk.TheVariants as query
 use Rattle.gr_script.specs.declared.forms.LineKind.{LineKind}
@@ -17,6 +18,9 @@ use Rattle.gr_script.specs.declared.line.Act.TheVariants.{Call, Query, Peek}
 use Rattle.gr_script.specs.declared.line.Line.{Line}
 use Rattle.gr_script.specs.declared.line.Line.TheVariants.{Step, Deliver, Report, Hear, Sweep, Join, Depart, Leave, Back}
 use Rattle.gr_script.specs.declared.saying.Saying.{Saying}
+use Rattle.gr_script.specs.declared.operation.Operation.TheVariants.{OfKey, OfValue, OfPair}
+use Rattle.gr_script.specs.Forms.{word}
+use Rattle.gr_script.specs.Operations.{Wording, WithKey, WithValue, WithPair, wording, operation_word}
 use Rattle.gr_script.specs.Printing.{saying_text, text_of_sayings}
 use Rattle.gr_script.specs.Rules.{Heading}
 use Rattle.gr_script.specs.Suiting.{IsShort}
@@ -35,15 +39,15 @@ moment_saying kind client moment = record { kind = kind; items = item.Client cli
 
 -- ---- the lines
 
+abbrev pub wording_saying : ℕ → Wording → Saying
+wording_saying client (WithKey operation key) = step_saying (kind.Call (OfKey operation)) client key []
+wording_saying client (WithValue operation key value) =
+    step_saying (kind.Call (OfValue operation)) client key (item.Value value ∷ [])
+wording_saying client (WithPair operation key old new) =
+    step_saying (kind.Call (OfPair operation)) client key (item.Value old ∷ item.Value new ∷ [])
+
 abbrev pub ask_saying : ℕ → Ask → Saying
-ask_saying client (ask.Get key) = step_saying kind.Get client key []
-ask_saying client (ask.Put key value) = step_saying kind.Put client key (item.Value value ∷ [])
-ask_saying client (ask.PutIfAbsent key value) = step_saying kind.PutIfAbsent client key (item.Value value ∷ [])
-ask_saying client (ask.Replace key value) = step_saying kind.Replace client key (item.Value value ∷ [])
-ask_saying client (ask.ReplaceIf key old new) = step_saying kind.ReplaceIf client key (item.Value old ∷ item.Value new ∷ [])
-ask_saying client (ask.Destroy key) = step_saying kind.Destroy client key []
-ask_saying client (ask.Remove key value) = step_saying kind.Remove client key (item.Value value ∷ [])
-ask_saying client (ask.Invalidate key) = step_saying kind.Invalidate client key []
+ask_saying client asked = wording_saying client (wording asked)
 
 abbrev pub query_saying : ℕ → QueryAsk → Saying
 query_saying client (query.Enrol name query) = step_saying kind.Open client name (item.Query query ∷ [])
@@ -70,6 +74,28 @@ saying_in (Back client moment) = moment_saying kind.Back client moment
 -- with the line feed that ends it
 unfoldable pub line_text : Line → List ℕ
 line_text line = saying_text (saying_in line) ++ 0x0A ∷ []
+
+-- ---- what is asked, behind the client's number
+
+abbrev pub wording_text : Wording → List ℕ
+wording_text (WithKey operation key) = operation_word (OfKey operation) ++ 0x20 ∷ key
+wording_text (WithValue operation key value) = operation_word (OfValue operation) ++ 0x20 ∷ (key ++ 0x20 ∷ value_text value)
+wording_text (WithPair operation key old new) =
+    operation_word (OfPair operation) ++ 0x20 ∷ (key ++ 0x20 ∷ (value_text old ++ 0x20 ∷ value_text new))
+
+-- a value that may be named
+abbrev pub named_text : Option (List Field) → List ℕ
+named_text None = []
+named_text (Some value) = 0x20 ∷ value_text value
+
+abbrev pub ask_text : Ask → List ℕ
+ask_text asked = wording_text (wording asked)
+
+abbrev pub query_ask_text : QueryAsk → List ℕ
+query_ask_text (query.Enrol name question) = word kind.Open ++ 0x20 ∷ (name ++ 0x20 ∷ question.text)
+query_ask_text (query.Stop name) = word kind.Stop ++ 0x20 ∷ name
+query_ask_text (query.Close name) = word kind.Close ++ 0x20 ∷ name
+query_ask_text (query.Fetch name) = word kind.Fetch ++ 0x20 ∷ name
 
 -- ---- the heading
 
@@ -104,15 +130,13 @@ script_text h lines = text_of_sayings (sayings_in h lines)
 
 -- ---- what the numbers, keys, values and queries of a line keep
 
+abbrev pub IsWordingKept : Wording → Type 0
+IsWordingKept (WithKey operation key) = IsKey key
+IsWordingKept (WithValue operation key value) = IsKey key × IsValue value
+IsWordingKept (WithPair operation key old new) = IsKey key × IsValue old × IsValue new
+
 abbrev pub IsAskKept : Ask → Type 0
-IsAskKept (ask.Get key) = IsKey key
-IsAskKept (ask.Put key value) = IsKey key × IsValue value
-IsAskKept (ask.PutIfAbsent key value) = IsKey key × IsValue value
-IsAskKept (ask.Replace key value) = IsKey key × IsValue value
-IsAskKept (ask.ReplaceIf key old new) = IsKey key × IsValue old × IsValue new
-IsAskKept (ask.Destroy key) = IsKey key
-IsAskKept (ask.Remove key value) = IsKey key × IsValue value
-IsAskKept (ask.Invalidate key) = IsKey key
+IsAskKept asked = IsWordingKept (wording asked)
 
 abbrev pub IsQueryKept : QueryAsk → Type 0
 IsQueryKept (query.Enrol name query) = IsKey name × Spells query.text query × IsUtf8 query.text

@@ -1,6 +1,8 @@
 ghost use Rattle.std.specs.Prelude.{◌≡◌, if◌then◌else◌};
 ghost use Rattle.gr_script.specs.Forms.{word, fields, place, rank, is_step, is_kind, client_kinds, other_kinds, kind_of};
 
+use crate::operation::Operation;
+
 /// What a line is, by its word.
 #[derive(Clone, Copy)]
 pub(crate) enum LineKind {
@@ -12,14 +14,7 @@ pub(crate) enum LineKind {
     Trouble,
     Floor,
     Client,
-    Get,
-    Put,
-    PutIfAbsent,
-    Replace,
-    ReplaceIf,
-    Destroy,
-    Remove,
-    Invalidate,
+    Call(Operation),
     Peek,
     Open,
     Stop,
@@ -62,16 +57,8 @@ pub(crate) enum FieldKind {
     Query,
 }
 
-/// The lines that begin with a client's number.
-const CLIENT_KINDS: [LineKind; 15] = [
-    LineKind::Get,
-    LineKind::Put,
-    LineKind::Destroy,
-    LineKind::PutIfAbsent,
-    LineKind::Replace,
-    LineKind::ReplaceIf,
-    LineKind::Remove,
-    LineKind::Invalidate,
+/// The lines that begin with a client's number and are no calls.
+const MORE_KINDS: [LineKind; 7] = [
     LineKind::Peek,
     LineKind::Open,
     LineKind::Stop,
@@ -112,14 +99,7 @@ impl LineKind {
             LineKind::Trouble => b"trouble",
             LineKind::Floor => b"floor",
             LineKind::Client => b"client",
-            LineKind::Get => b"get",
-            LineKind::Put => b"put",
-            LineKind::PutIfAbsent => b"putIfAbsent",
-            LineKind::Replace => b"replace",
-            LineKind::ReplaceIf => b"replaceIf",
-            LineKind::Destroy => b"destroy",
-            LineKind::Remove => b"remove",
-            LineKind::Invalidate => b"invalidate",
+            LineKind::Call(operation) => operation.word(),
             LineKind::Peek => b"peek",
             LineKind::Open => b"open",
             LineKind::Stop => b"stop",
@@ -176,40 +156,22 @@ impl LineKind {
                 FieldKind::At,
                 FieldKind::Member,
             ],
-            LineKind::Get => &[FieldKind::Client, FieldKind::Word, FieldKind::Key],
-            LineKind::Put => &[
+            LineKind::Call(Operation::OfKey(_)) => {
+                &[FieldKind::Client, FieldKind::Word, FieldKind::Key]
+            }
+            LineKind::Call(Operation::OfValue(_)) => &[
                 FieldKind::Client,
                 FieldKind::Word,
                 FieldKind::Key,
                 FieldKind::Value,
             ],
-            LineKind::PutIfAbsent => &[
-                FieldKind::Client,
-                FieldKind::Word,
-                FieldKind::Key,
-                FieldKind::Value,
-            ],
-            LineKind::Replace => &[
-                FieldKind::Client,
-                FieldKind::Word,
-                FieldKind::Key,
-                FieldKind::Value,
-            ],
-            LineKind::ReplaceIf => &[
+            LineKind::Call(Operation::OfPair(_)) => &[
                 FieldKind::Client,
                 FieldKind::Word,
                 FieldKind::Key,
                 FieldKind::Value,
                 FieldKind::Value,
             ],
-            LineKind::Destroy => &[FieldKind::Client, FieldKind::Word, FieldKind::Key],
-            LineKind::Remove => &[
-                FieldKind::Client,
-                FieldKind::Word,
-                FieldKind::Key,
-                FieldKind::Value,
-            ],
-            LineKind::Invalidate => &[FieldKind::Client, FieldKind::Word, FieldKind::Key],
             LineKind::Peek => &[FieldKind::Client, FieldKind::Word, FieldKind::Key],
             LineKind::Open => &[
                 FieldKind::Client,
@@ -256,12 +218,22 @@ fn kind_among(kinds: &[LineKind], text: &[u8]) -> Option<LineKind>
     kinds.iter().copied().find(|kind| text == kind.word())
 }
 
+#[tactic(auto, using(crate::proofs::Operations::client_call, crate::proofs::Operations::client_other))]
+fn client_kind(text: &[u8]) -> Option<LineKind>
+    ensures { result ≡ kind_of client_kinds text.now }
+{
+    match Operation::called(text) {
+        Some(operation) => Some(LineKind::Call(operation)),
+        None => kind_among(&MORE_KINDS, text),
+    }
+}
+
 /// The kind with this word, of those that begin with a client's number or of the others.
 pub(crate) fn kind_of(is_client: bool, text: &[u8]) -> Option<LineKind>
     ensures { result ≡ kind_of (if is_client then client_kinds else other_kinds) text.now }
 {
     if is_client {
-        kind_among(&CLIENT_KINDS, text)
+        client_kind(text)
     } else {
         kind_among(&OTHER_KINDS, text)
     }
@@ -273,14 +245,7 @@ pub(crate) fn is_step(kind: LineKind) -> bool
 {
     matches!(
         kind,
-        LineKind::Get
-            | LineKind::Put
-            | LineKind::PutIfAbsent
-            | LineKind::Replace
-            | LineKind::ReplaceIf
-            | LineKind::Destroy
-            | LineKind::Remove
-            | LineKind::Invalidate
+        LineKind::Call(_)
             | LineKind::Peek
             | LineKind::Open
             | LineKind::Stop
@@ -289,7 +254,7 @@ pub(crate) fn is_step(kind: LineKind) -> bool
     )
 }
 
-// Which of the kinds it is, counted from 0.
+// Which of the kinds it is, counted from 0; all calls are of one.
 fn place(kind: LineKind) -> u8
     ensures { result ≡ place kind }
 {
@@ -302,27 +267,20 @@ fn place(kind: LineKind) -> u8
         LineKind::Trouble => 5,
         LineKind::Floor => 6,
         LineKind::Client => 7,
-        LineKind::Get => 8,
-        LineKind::Put => 9,
-        LineKind::PutIfAbsent => 10,
-        LineKind::Replace => 11,
-        LineKind::ReplaceIf => 12,
-        LineKind::Destroy => 13,
-        LineKind::Remove => 14,
-        LineKind::Invalidate => 15,
-        LineKind::Peek => 16,
-        LineKind::Open => 17,
-        LineKind::Stop => 18,
-        LineKind::Close => 19,
-        LineKind::Fetch => 20,
-        LineKind::Deliver => 21,
-        LineKind::Report => 22,
-        LineKind::Hear => 23,
-        LineKind::Sweep => 24,
-        LineKind::Join => 25,
-        LineKind::Depart => 26,
-        LineKind::Leave => 27,
-        LineKind::Back => 28,
+        LineKind::Call(_) => 8,
+        LineKind::Peek => 9,
+        LineKind::Open => 10,
+        LineKind::Stop => 11,
+        LineKind::Close => 12,
+        LineKind::Fetch => 13,
+        LineKind::Deliver => 14,
+        LineKind::Report => 15,
+        LineKind::Hear => 16,
+        LineKind::Sweep => 17,
+        LineKind::Join => 18,
+        LineKind::Depart => 19,
+        LineKind::Leave => 20,
+        LineKind::Back => 21,
     }
 }
 
@@ -333,8 +291,7 @@ pub(crate) fn rank(kind: LineKind) -> u8
     place(kind).min(8)
 }
 
-/// Whether lines of these kinds have the same word.
-#[tactic(auto, using(crate::proofs::KindPlaces::placed_alike))]
+/// Whether lines are of the same kind.
 pub(crate) fn is_kind(kind: LineKind, other: LineKind) -> bool
     ensures { result ≡ is_kind kind other }
 {

@@ -1,12 +1,13 @@
 // Most lines are calls, peeks and deliveries that are spelled just as they are printed. Such a line is read in one
 // pass, without the list of its fields. That is right since what is printed is read as the step that it
 // is printed for; any other line is left to the reading of fields.
-ghost use Rattle.std.specs.Prelude.{◌≡◌, ◌<◌, ◌+◌, ◌∷◌, ◌++◌, [], IfOk, IfSome};
+ghost use Rattle.std.specs.Prelude.{◌≡◌, ◌<◌, ◌+◌, ◌∷◌, ◌++◌, [], IfOk, IfSome, codes};
 ghost use Rattle.std.specs.Fmt.{decimal};
 ghost use Rattle.gr_value.specs.KeyBytes.{IsKey};
 ghost use Rattle.gr_value.specs.Values.{IsValue};
 ghost use Rattle.gr_value.specs.ValueText.{value_text};
 ghost use Rattle.gr_script.specs.declared.forms.LineKind.TheVariants as kind;
+ghost use Rattle.gr_script.specs.declared.operation.Operation.TheVariants.{OfKey, OfValue, OfPair};
 ghost use Rattle.gr_script.specs.Forms.{word};
 ghost use Rattle.gr_script.specs.Plain.{IsPrinted, IsSpelled, delivery_saying};
 ghost use Rattle.gr_script.specs.Printing.{saying_text};
@@ -14,8 +15,8 @@ ghost use Rattle.gr_script.specs.Printing.{saying_text};
 use crate::Act;
 use crate::forms::LineKind;
 use crate::numeral::number_of;
-use crate::text::cut;
-use gr_history::Ask;
+use crate::operation::{Keyed, Operation, Paired, Valued, operation_in};
+use crate::text::spaced;
 use gr_value::{Key, KeyFault, Memory, Value};
 use std::alloc::Global;
 
@@ -78,62 +79,16 @@ fn number_before(mark: u8, text: &[u8]) -> Option<(u8, &[u8])>
     }
 }
 
-// What stands in front of the first space, and what stands behind it.
-fn spaced(text: &[u8]) -> Option<(&[u8], &[u8])>
-    ensures { IfSome result (λ parts. text.now ≡ parts.0.now ++ 0x20 ∷ parts.1.now) }
-{
-    let (front, rest) = cut(b' ', text)?;
-    Some((front, rest))
-}
-
-// What stands behind these bytes, where the text begins with them.
-fn behind_front<'a>(front: &[u8], text: &'a [u8]) -> Option<&'a [u8]>
-    ensures { IfSome result (λ rest. text.now ≡ front.now ++ rest.now) }
-{
-    let rest = text.strip_prefix(front)?;
-    Some(rest)
-}
-
-// The kind whose word, made of two, stands in front, and what stands behind the space that follows it.
-fn joined_kind_in(text: &[u8]) -> Option<(LineKind, &[u8])>
-    ensures { IfSome result (λ parts. text.now ≡ word parts.0 ++ 0x20 ∷ parts.1.now) }
-{
-    match behind_front(b"putIfAbsent ", text) {
-        Some(rest) => Some((LineKind::PutIfAbsent, rest)),
-        None => {
-            let rest = behind_front(b"replaceIf ", text)?;
-            Some((LineKind::ReplaceIf, rest))
-        }
-    }
-}
-
-// The kind whose word, a longer one, stands in front, and what stands behind the space that follows it.
-fn longer_kind_in(text: &[u8]) -> Option<(LineKind, &[u8])>
-    ensures { IfSome result (λ parts. text.now ≡ word parts.0 ++ 0x20 ∷ parts.1.now) }
-{
-    match behind_front(b"invalidate ", text) {
-        Some(rest) => Some((LineKind::Invalidate, rest)),
-        None => joined_kind_in(text),
-    }
-}
-
-// The kind whose word stands in front, and what stands behind the space that follows it. To look at
-// the bytes themselves costs less than to compare with each word.
+// The kind whose word stands in front, and what stands behind the space that follows it.
 fn kind_in(text: &[u8]) -> Option<(LineKind, &[u8])>
     ensures { IfSome result (λ parts. text.now ≡ word parts.0 ++ 0x20 ∷ parts.1.now) }
 {
     match text {
-        [b'g', b'e', b't', b' ', rest @ ..] => Some((LineKind::Get, rest)),
-        [b'p', b'u', b't', b' ', rest @ ..] => Some((LineKind::Put, rest)),
         [b'p', b'e', b'e', b'k', b' ', rest @ ..] => Some((LineKind::Peek, rest)),
-        [b'r', b'e', b'm', b'o', b'v', b'e', b' ', rest @ ..] => Some((LineKind::Remove, rest)),
-        [b'r', b'e', b'p', b'l', b'a', b'c', b'e', b' ', rest @ ..] => {
-            Some((LineKind::Replace, rest))
+        _ => {
+            let (operation, rest) = operation_in(text)?;
+            Some((LineKind::Call(operation), rest))
         }
-        [b'd', b'e', b's', b't', b'r', b'o', b'y', b' ', rest @ ..] => {
-            Some((LineKind::Destroy, rest))
-        }
-        _ => longer_kind_in(text),
     }
 }
 
@@ -173,51 +128,29 @@ fn values_of(alloc: Global, bytes: &[u8]) -> Result<Option<(Value, Value)>, Memo
     }
 }
 
-// What a client does at a line of this kind that has no more than a key.
-#[tactic(auto, using(crate::proofs::Plainly::get_spelled, crate::proofs::Plainly::destroy_spelled, crate::proofs::Plainly::invalidate_spelled, crate::proofs::Plainly::peek_spelled))]
-fn keyed(kind: LineKind, key: Key) -> Option<Act>
-    requires { IsKey key }
-    ensures { IfSome result (IsSpelled kind key) }
-{
-    match kind {
-        LineKind::Get => Some(Act::Call(Ask::Get { key })),
-        LineKind::Destroy => Some(Act::Call(Ask::Destroy { key })),
-        LineKind::Invalidate => Some(Act::Call(Ask::Invalidate { key })),
-        LineKind::Peek => Some(Act::Peek(key)),
-        _ => None,
-    }
-}
-
-// What a client does at a line of this kind that has a key and a value.
-#[inline(always)]
-#[tactic(auto, using(crate::proofs::Plainly::put_spelled, crate::proofs::Plainly::absent_spelled, crate::proofs::Plainly::replace_spelled, crate::proofs::Plainly::remove_spelled))]
-fn valued(kind: LineKind, key: Key, value: Value) -> Option<Act>
-    requires key { IsKey key }
-    requires value { IsValue value }
-    ensures { IfSome result (IsSpelled kind (key ++ 0x20 ∷ value_text value)) }
-{
-    match kind {
-        LineKind::Put => Some(Act::Call(Ask::Put { key, value })),
-        LineKind::PutIfAbsent => Some(Act::Call(Ask::PutIfAbsent { key, value })),
-        LineKind::Replace => Some(Act::Call(Ask::Replace { key, value })),
-        LineKind::Remove => Some(Act::Call(Ask::Remove { key, value })),
-        _ => None,
-    }
-}
-
-#[tactic(auto, using(crate::proofs::Plainly::spelled_as))]
-fn keyed_in(alloc: Global, kind: LineKind, rest: &[u8]) -> Result<Option<Act>, Memory>
-    ensures { IfOk result (λ found. IfSome found (IsSpelled kind rest.now)) }
+#[tactic(auto, using(crate::proofs::Plainly::spelled_as, crate::proofs::Plainly::peek_spelled))]
+fn peek_in(alloc: Global, rest: &[u8]) -> Result<Option<Act>, Memory>
+    ensures { IfOk result (λ found. IfSome found (IsSpelled kind.Peek rest.now)) }
 {
     match key_of(alloc, rest)? {
-        Some(key) => Ok(keyed(kind, key)),
+        Some(key) => Ok(Some(Act::Peek(key))),
         None => Ok(None),
     }
 }
 
-#[tactic(auto, using(crate::proofs::Plainly::spelled_as))]
-fn valued_in(alloc: Global, kind: LineKind, rest: &[u8]) -> Result<Option<Act>, Memory>
-    ensures { IfOk result (λ found. IfSome found (IsSpelled kind rest.now)) }
+#[tactic(auto, using(crate::proofs::Plainly::spelled_as, crate::proofs::Plainly::keyed_spelled))]
+fn keyed_in(alloc: Global, operation: Keyed, rest: &[u8]) -> Result<Option<Act>, Memory>
+    ensures { IfOk result (λ found. IfSome found (IsSpelled (kind.Call (OfKey operation)) rest.now)) }
+{
+    match key_of(alloc, rest)? {
+        Some(key) => Ok(Some(Act::Call(operation.ask(key)))),
+        None => Ok(None),
+    }
+}
+
+#[tactic(auto, using(crate::proofs::Plainly::spelled_as, crate::proofs::Plainly::valued_spelled))]
+fn valued_in(alloc: Global, operation: Valued, rest: &[u8]) -> Result<Option<Act>, Memory>
+    ensures { IfOk result (λ found. IfSome found (IsSpelled (kind.Call (OfValue operation)) rest.now)) }
 {
     let Some((key, rest)) = spaced(rest) else {
         return Ok(None);
@@ -226,13 +159,13 @@ fn valued_in(alloc: Global, kind: LineKind, rest: &[u8]) -> Result<Option<Act>, 
         return Ok(None);
     };
     match value_of(alloc, rest)? {
-        Some(value) => Ok(valued(kind, key, value)),
+        Some(value) => Ok(Some(Act::Call(operation.ask(key, value)))),
         None => Ok(None),
     }
 }
 
-fn swapped_in(alloc: Global, rest: &[u8]) -> Result<Option<Act>, Memory>
-    ensures { IfOk result (λ found. IfSome found (IsSpelled kind.ReplaceIf rest.now)) }
+fn paired_in(alloc: Global, operation: Paired, rest: &[u8]) -> Result<Option<Act>, Memory>
+    ensures { IfOk result (λ found. IfSome found (IsSpelled (kind.Call (OfPair operation)) rest.now)) }
 {
     let Some((key, rest)) = spaced(rest) else {
         return Ok(None);
@@ -241,7 +174,7 @@ fn swapped_in(alloc: Global, rest: &[u8]) -> Result<Option<Act>, Memory>
         return Ok(None);
     };
     match values_of(alloc, rest)? {
-        Some((old, new)) => Ok(Some(Act::Call(Ask::ReplaceIf { key, old, new }))),
+        Some((old, new)) => Ok(Some(Act::Call(operation.ask(key, old, new)))),
         None => Ok(None),
     }
 }
@@ -251,11 +184,11 @@ fn act_in(alloc: Global, kind: LineKind, rest: &[u8]) -> Result<Option<Act>, Mem
     ensures { IfOk result (λ found. IfSome found (IsSpelled kind rest.now)) }
 {
     match kind {
-        LineKind::Get | LineKind::Destroy | LineKind::Invalidate | LineKind::Peek => {
-            keyed_in(alloc, kind, rest)
-        }
-        LineKind::ReplaceIf => swapped_in(alloc, rest),
-        _ => valued_in(alloc, kind, rest),
+        LineKind::Call(Operation::OfKey(operation)) => keyed_in(alloc, operation, rest),
+        LineKind::Call(Operation::OfValue(operation)) => valued_in(alloc, operation, rest),
+        LineKind::Call(Operation::OfPair(operation)) => paired_in(alloc, operation, rest),
+        LineKind::Peek => peek_in(alloc, rest),
+        _ => Ok(None),
     }
 }
 
@@ -288,13 +221,22 @@ fn decimal_in(text: &[u8]) -> Option<u32>
     u32::try_from(number_of(text)?).ok()
 }
 
+// What stands behind the word of a delivery and its space. To look at the bytes costs less than to compare.
+fn behind_deliver(line: &[u8]) -> Option<&[u8]>
+    ensures { IfSome result (λ rest. line.now ≡ codes "deliver " ++ rest.now) }
+{
+    match line {
+        [b'd', b'e', b'l', b'i', b'v', b'e', b'r', b' ', rest @ ..] => Some(rest),
+        _ => None,
+    }
+}
+
 /// The delivery that the line is printed for. None of another line, and of one that is spelled otherwise.
 #[tactic(auto, using(crate::proofs::Plainly::delivery_printed))]
 pub(crate) fn delivery_in(line: &[u8]) -> Option<Delivery>
     ensures { IfSome result (λ delivery. line.now ≡ saying_text (delivery_saying delivery)) }
 {
-    let rest = behind_front(b"deliver ", line)?;
-    let (to, rest) = number_before(b' ', rest)?;
+    let (to, rest) = number_before(b' ', behind_deliver(line)?)?;
     let (client, rest) = number_before(b'.', rest)?;
     let seq = decimal_in(rest)?;
     Some(Delivery { to, client, seq })

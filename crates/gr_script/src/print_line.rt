@@ -1,4 +1,4 @@
-ghost use Rattle.std.specs.Prelude.{◌≡◌, ◌++◌, ◌∷◌, [], ℕ, List, Ok, OnOk, codes, flat_map, All};
+ghost use Rattle.std.specs.Prelude.{◌≡◌, ◌++◌, ◌∷◌, [], ℕ, List, Ok, OnOk, IfSome, option_copied, codes, flat_map, All};
 ghost use Rattle.std.specs.Fmt.{decimal};
 ghost use Rattle.gr_value.specs.KeyBytes.{IsKey};
 ghost use Rattle.gr_value.specs.ValueText.{value_text};
@@ -6,11 +6,12 @@ ghost use Rattle.gr_value.specs.Values.{IsValue};
 ghost use Rattle.std.specs.Str.{IsUtf8};
 ghost use Rattle.gr_oql.specs.Grammar.{Spells};
 ghost use Rattle.gr_script.specs.declared.items.Setting.{Setting as ASetting};
+ghost use Rattle.gr_script.specs.declared.line.Act.TheVariants.{Peek};
 ghost use Rattle.gr_script.specs.declared.saying.Saying.{Saying as ASaying};
 ghost use Rattle.gr_script.specs.Forms.{fields, word};
 ghost use Rattle.gr_script.specs.declared.forms.LineKind.TheVariants.{Deliver};
 ghost use Rattle.gr_script.specs.Items.{items_at};
-ghost use Rattle.gr_script.specs.Printed.{line_text, ask_saying, query_saying, act_saying, saying_in, IsAskKept, IsQueryKept, IsActKept};
+ghost use Rattle.gr_script.specs.Printed.{line_text, ask_text, query_ask_text, named_text, ask_saying, query_saying, act_saying, saying_in, IsAskKept, IsQueryKept, IsActKept};
 ghost use Rattle.gr_script.specs.Printed.{IsLineKept};
 ghost use Rattle.gr_script.specs.Printing.{saying_text};
 ghost use Rattle.gr_script.specs.ReadBack.{IsReadBack};
@@ -18,6 +19,7 @@ ghost use Rattle.gr_script.specs.Rests.{IsRest};
 ghost use Rattle.gr_script.specs.Suiting.{AllSuit, AreRests};
 
 use crate::forms::LineKind;
+use crate::operation::{first_value, operation_of, second_value};
 use crate::{Act, Line};
 use gr_history::{Ask, QueryAsk};
 use gr_oql::Query;
@@ -72,93 +74,56 @@ fn put_value_field(alloc: Global, value: &Value, out: &mut Vec<u8>) -> Result<()
     Ok(())
 }
 
-// A client's line up to its key or the name of its query.
-fn put_step(client: u8, kind: LineKind, key: &Key, out: &mut Vec<u8>) -> Result<(), Memory>
-    ensures printed { OnOk result (out.new.items
-        ≡ out.old.items ++ (decimal client ++ (codes " " ++ (word kind ++ (codes " " ++ key.now))))) }
+// The word of a line and its key, or the name of its query.
+#[inline(always)]
+fn put_word(word: &[u8], key: &Key, out: &mut Vec<u8>) -> Result<(), Memory>
+    ensures printed { OnOk result (out.new.items ≡ out.old.items ++ (word.now ++ (codes " " ++ key.now))) }
     ensures kept { IsKey key.now }
 {
     let name = key.bytes();
-    put_number(u64::from(client), out)?;
-    put_field(kind.word(), out)?;
+    out.extend_from_slice(word)?;
     put_field(name, out)?;
     Ok(())
 }
 
-// A client's line up to its first value.
-fn put_change(
-    alloc: Global,
-    client: u8,
-    kind: LineKind,
-    key: &Key,
-    value: &Value,
-    out: &mut Vec<u8>,
-) -> Result<(), Memory>
-    ensures printed { OnOk result (out.new.items ≡ out.old.items
-        ++ (decimal client ++ (codes " " ++ (word kind ++ (codes " " ++ (key.now ++ (codes " " ++ value_text value.now))))))) }
-    ensures kept { OnOk result (IsKey key.now × IsValue value.now) }
+#[inline(always)]
+fn put_client_field(client: u8, out: &mut Vec<u8>) -> Result<(), Memory>
+    ensures { OnOk result (out.new.items ≡ out.old.items ++ (decimal client ++ codes " ")) }
 {
-    put_step(client, kind, key, out)?;
-    put_value_field(alloc, value, out)?;
+    put_number(u64::from(client), out)?;
+    out.push(b' ')?;
     Ok(())
 }
 
-// A client's line with two values.
-fn put_exchange(
-    alloc: Global,
-    client: u8,
-    kind: LineKind,
-    key: &Key,
-    before: &Value,
-    after: &Value,
-    out: &mut Vec<u8>,
-) -> Result<(), Memory>
-    ensures printed { OnOk result (out.new.items ≡ out.old.items
-        ++ (decimal client ++ (codes " " ++ (word kind ++ (codes " " ++ (key.now ++ (codes " " ++ (value_text before.now
-        ++ (codes " " ++ value_text after.now))))))))) }
-    ensures kept { OnOk result (IsKey key.now × IsValue before.now × IsValue after.now) }
+// A value that a call may name.
+#[inline(always)]
+fn put_named(alloc: Global, value: Option<&Value>, out: &mut Vec<u8>) -> Result<(), Memory>
+    ensures printed { OnOk result (out.new.items ≡ out.old.items ++ named_text (option_copied value.entry)) }
+    ensures kept { OnOk result (IfSome (option_copied value.entry) IsValue) }
 {
-    put_change(alloc, client, kind, key, before, out)?;
-    put_value_field(alloc, after, out)?;
+    if let Some(value) = value {
+        put_value_field(alloc, value, out)?;
+    }
     Ok(())
 }
 
-fn put_ask(alloc: Global, client: u8, ask: &Ask, out: &mut Vec<u8>) -> Result<(), Memory>
+/// What is asked, as a line has it behind the client's number.
+pub fn put_ask(alloc: Global, ask: &Ask, out: &mut Vec<u8>) -> Result<(), Memory>
+    ensures printed { OnOk result (out.new.items ≡ out.old.items ++ ask_text ask.now) }
+    ensures kept { OnOk result (IsAskKept ask.now) }
+{
+    put_word(operation_of(ask).word(), ask.key(), out)?;
+    put_named(alloc, first_value(ask), out)?;
+    put_named(alloc, second_value(ask), out)?;
+    Ok(())
+}
+
+fn put_call(alloc: Global, client: u8, ask: &Ask, out: &mut Vec<u8>) -> Result<(), Memory>
     ensures printed { OnOk result (out.new.items ≡ out.old.items ++ saying_text (ask_saying client ask.now)) }
     ensures kept { OnOk result (IsAskKept ask.now) }
 {
-    match ask {
-        Ask::Get { key } => put_step(client, LineKind::Get, key, out)?,
-        Ask::Put { key, value } => put_change(alloc, client, LineKind::Put, key, value, out)?,
-        Ask::PutIfAbsent { key, value } => put_change(
-            alloc,
-            client,
-            LineKind::PutIfAbsent,
-            key,
-            value,
-            out,
-        )?,
-        Ask::Replace { key, value } => put_change(
-            alloc,
-            client,
-            LineKind::Replace,
-            key,
-            value,
-            out,
-        )?,
-        Ask::ReplaceIf { key, old, new } => put_exchange(
-            alloc,
-            client,
-            LineKind::ReplaceIf,
-            key,
-            old,
-            new,
-            out,
-        )?,
-        Ask::Destroy { key } => put_step(client, LineKind::Destroy, key, out)?,
-        Ask::Remove { key, value } => put_change(alloc, client, LineKind::Remove, key, value, out)?,
-        Ask::Invalidate { key } => put_step(client, LineKind::Invalidate, key, out)?,
-    }
+    put_client_field(client, out)?;
+    put_ask(alloc, ask, out)?;
     Ok(())
 }
 
@@ -171,19 +136,38 @@ fn put_query_field(query: &Query, out: &mut Vec<u8>) -> Result<(), Memory>
     Ok(())
 }
 
-fn put_query(client: u8, ask: &QueryAsk, out: &mut Vec<u8>) -> Result<(), Memory>
-    ensures printed { OnOk result (out.new.items ≡ out.old.items ++ saying_text (query_saying client ask.now)) }
+/// What is asked of a query, as a line has it behind the client's number.
+pub fn put_query_ask(ask: &QueryAsk, out: &mut Vec<u8>) -> Result<(), Memory>
+    ensures printed { OnOk result (out.new.items ≡ out.old.items ++ query_ask_text ask.now) }
     ensures kept { OnOk result (IsQueryKept ask.now) }
 {
     match ask {
         QueryAsk::Enrol { name, query } => {
-            put_step(client, LineKind::Open, name, out)?;
+            put_word(LineKind::Open.word(), name, out)?;
             put_query_field(query, out)?;
         }
-        QueryAsk::Stop { name } => put_step(client, LineKind::Stop, name, out)?,
-        QueryAsk::Close { name } => put_step(client, LineKind::Close, name, out)?,
-        QueryAsk::Fetch { name } => put_step(client, LineKind::Fetch, name, out)?,
+        QueryAsk::Stop { name } => put_word(LineKind::Stop.word(), name, out)?,
+        QueryAsk::Close { name } => put_word(LineKind::Close.word(), name, out)?,
+        QueryAsk::Fetch { name } => put_word(LineKind::Fetch.word(), name, out)?,
     }
+    Ok(())
+}
+
+fn put_query(client: u8, ask: &QueryAsk, out: &mut Vec<u8>) -> Result<(), Memory>
+    ensures printed { OnOk result (out.new.items ≡ out.old.items ++ saying_text (query_saying client ask.now)) }
+    ensures kept { OnOk result (IsQueryKept ask.now) }
+{
+    put_client_field(client, out)?;
+    put_query_ask(ask, out)?;
+    Ok(())
+}
+
+fn put_peek(client: u8, key: &Key, out: &mut Vec<u8>) -> Result<(), Memory>
+    ensures printed { OnOk result (out.new.items ≡ out.old.items ++ saying_text (act_saying client (Peek key.now))) }
+    ensures kept { OnOk result (IsKey key.now) }
+{
+    put_client_field(client, out)?;
+    put_word(LineKind::Peek.word(), key, out)?;
     Ok(())
 }
 
@@ -192,9 +176,9 @@ fn put_act(alloc: Global, client: u8, act: &Act, out: &mut Vec<u8>) -> Result<()
     ensures kept { OnOk result (IsActKept act.now) }
 {
     match act {
-        Act::Call(ask) => put_ask(alloc, client, ask, out)?,
+        Act::Call(ask) => put_call(alloc, client, ask, out)?,
         Act::Query(ask) => put_query(client, ask, out)?,
-        Act::Peek(key) => put_step(client, LineKind::Peek, key, out)?,
+        Act::Peek(key) => put_peek(client, key, out)?,
     }
     Ok(())
 }

@@ -10,7 +10,7 @@ use crate::items::Item;
 use crate::parts::{Parts, parts_of};
 use crate::saying::{Saying, number};
 use crate::{Act, Line};
-use gr_history::{Ask, QueryAsk};
+use gr_history::QueryAsk;
 use gr_oql::Query;
 use gr_value::{ItemList, Key};
 
@@ -36,30 +36,9 @@ fn act_said(kind: LineKind, parts: Parts) -> Option<Act>
 {
     let key = parts.key?;
     match kind {
-        LineKind::Get => Some(Act::Call(Ask::Get { key })),
-        LineKind::Put => Some(Act::Call(Ask::Put {
-            key,
-            value: parts.value?,
-        })),
-        LineKind::PutIfAbsent => Some(Act::Call(Ask::PutIfAbsent {
-            key,
-            value: parts.value?,
-        })),
-        LineKind::Replace => Some(Act::Call(Ask::Replace {
-            key,
-            value: parts.value?,
-        })),
-        LineKind::ReplaceIf => Some(Act::Call(Ask::ReplaceIf {
-            key,
-            old: parts.value?,
-            new: parts.other?,
-        })),
-        LineKind::Destroy => Some(Act::Call(Ask::Destroy { key })),
-        LineKind::Remove => Some(Act::Call(Ask::Remove {
-            key,
-            value: parts.value?,
-        })),
-        LineKind::Invalidate => Some(Act::Call(Ask::Invalidate { key })),
+        LineKind::Call(operation) => {
+            Some(Act::Call(operation.ask(key, parts.value, parts.other)?))
+        }
         LineKind::Peek => Some(Act::Peek(key)),
         _ => query_said(kind, key, parts.query),
     }

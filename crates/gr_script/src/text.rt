@@ -1,4 +1,4 @@
-ghost use Rattle.std.specs.Prelude.{◌≡◌, ◌==◌, ◌<◌, ◌∷◌, [], length, position, option_map, IfSome, MatchOption};
+ghost use Rattle.std.specs.Prelude.{◌≡◌, ◌==◌, ◌<◌, ◌∷◌, ◌++◌, [], length, position, option_map, IfSome, MatchOption};
 ghost use Rattle.gr_script.specs.Texts.{cut, lines_of, is_ended};
 
 use memchr::memchr;
@@ -17,6 +17,14 @@ pub(crate) fn cut(mark: u8, bytes: &[u8]) -> Option<(&[u8], &[u8])>
 {
     let place = place_of(mark, bytes)?;
     Some((&bytes[..place], &bytes[place + 1..]))
+}
+
+/// What stands in front of the first space, and what stands behind it.
+pub(crate) fn spaced(text: &[u8]) -> Option<(&[u8], &[u8])>
+    ensures { IfSome result (λ parts. text.now ≡ parts.0.now ++ 0x20 ∷ parts.1.now) }
+{
+    let (front, rest) = cut(b' ', text)?;
+    Some((front, rest))
 }
 
 /// The first line, and what follows it.
