@@ -11,13 +11,13 @@ use Rattle.std.specs.FinMap as finite
 use Rattle.std.specs.FinMap.Entries.{below_all}
 use Rattle.std.proofs.lemmas.Cmp.{nat_list_cmp_total}
 use Rattle.std.proofs.lemmas.List.Kept.{IsStrictlySortedBy-filter}
-use Rattle.std.proofs.lemmas.Map.Text.{is_eq-slice_cmp}
 use Rattle.std.proofs.lemmas.Slice.Eq.{bytes_eq-Decides}
 use Rattle.gr_value.specs.declared.value.Field.{Field}
 use Rattle.gr_history.specs.declared.query_reply.Row.{Row}
 use Rattle.gr_history.specs.Queries.{row_of}
 use Rattle.gr_law.specs.Queries.{found}
 use Rattle.gr_law.specs.QueryMaps.{Rows, entry_of, map_of}
+use Rattle.gr_law.proofs.AsMaps.{get_rows}
 use Rattle.gr_by_key.proofs.Ordered.{entries_in_order}
 use Rattle.gr_durable.specs.Tables.{in_order, list_of}
 
@@ -33,24 +33,8 @@ AreSorted rows = IsStrictlySortedBy (slice_cmp nat_cmp) (row_keys rows)
 
 -- ---- a list of rows and its map
 
-flipped : (one two : List ℕ) → bytes_eq one two ≡ bytes_eq two one
-flipped one two = at_test (bytes_eq one two) (bytes_eq two one) refl refl
-  where
-    at_test : (b c : Bool) → bytes_eq one two ≡ b → bytes_eq two one ≡ c → b ≡ c
-    at_test true true e f = refl
-    at_test false false e f = refl
-    at_test true false e f = sym ((bytes_eq-Decides two one).1 (sym ((bytes_eq-Decides one two).0 e))) ∙ f
-    at_test false true e f = sym e ∙ (bytes_eq-Decides one two).1 (sym ((bytes_eq-Decides two one).0 f))
-
-find_rows : (rows : List Row) (key : List ℕ) → finite.find (slice_cmp nat_cmp) key (map entry_of rows) ≡ found rows key
-find_rows [] key = refl
-find_rows (row ∷ rows) key =
-    ap (λ b. if b then Some row.value else finite.find (slice_cmp nat_cmp) key (map entry_of rows))
-    (is_eq-slice_cmp key row.key ∙ flipped key row.key)
-    ∙ ap (λ o. if bytes_eq row.key key then Some row.value else o) (find_rows rows key)
-
 pub get_map : (rows : List Row) (key : List ℕ) → finite.get (map_of rows) key ≡ found rows key
-get_map rows key = finite.get-from_entries nat_list_cmp_total (map entry_of rows) key ∙ find_rows rows key
+get_map rows key = finite.get-from_entries nat_list_cmp_total (map entry_of rows) key ∙ get_rows rows key
 
 entries_back : (es : List (List ℕ × List Field)) → map entry_of (map (λ entry. row_of entry.0 entry.1) es) ≡ es
 entries_back [] = refl
@@ -63,7 +47,7 @@ rows_back (row ∷ rows) = ap (λ rest. row ∷ rest) (rows_back rows)
 -- what a map has at a key is found in its list
 pub found_list : (rows : Rows) (key : List ℕ) → found (list_of rows) key ≡ finite.get rows key
 found_list rows key =
-    sym (find_rows (list_of rows) key)
+    sym (get_rows (list_of rows) key)
     ∙ ap (finite.find (slice_cmp nat_cmp) key) (entries_back (finite.entries rows))
     ∙ sym (finite.get-entries rows key)
 

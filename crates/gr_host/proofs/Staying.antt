@@ -3,22 +3,12 @@ use Rattle.std.proofs.Common.{◌≡◌, ◌≢◌, ℕ, suc, ◌-◌, ◌<◌, 
 use Rattle.std.proofs.lemmas.List.{get_or-set_same, get_or-set_other, get_or_read, length-set}
 use mathlib.Core.Logic.{dite}
 use native.Mathlib.Decide.{ℕ_discrete}
-use Rattle.gr_member.specs.Seats.{Place, Stays}
+use Rattle.gr_member.specs.Seats.{Place}
 use Rattle.gr_member.specs.Passes.{House, IsPassOf, StaysAll}
 use Rattle.gr_member.proofs.Passing.{pass_stays, stays_same}
-use Rattle.gr_member.proofs.Watching.{follows_trans}
+use Rattle.gr_session.proofs.Seeing.{stays_trans}
 use Rattle.gr_member.specs.declared.plan.Plan.{Plan}
 use Rattle.gr_host.specs.Houses.{AreMembers, ArePassesOf, StayAt, of_member}
-
-stays_trans : (s t u : Place) → Stays s t → Stays t u → Stays s u
-stays_trans s t u a b = record {
-  its = b.its ∙ a.its;
-  based = b.based ∙ a.based;
-  counted = b.counted ∙ a.counted;
-  began = b.began ∙ a.began;
-  numbers = b.numbers ∙ a.numbers;
-  watches = follows_trans s.eye t.eye u.eye a.watches b.watches;
-}
 
 pub all_same : (p : List Place) → StaysAll p p
 all_same p = record { many = refl; each = λ k s less. stays_same (get_or p k s) }

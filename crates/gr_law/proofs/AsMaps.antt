@@ -28,7 +28,7 @@ flipped one two = at_test (bytes_eq one two) (bytes_eq two one) refl refl
     at_test true false e f = sym ((bytes_eq-Decides two one).1 (sym ((bytes_eq-Decides one two).0 e))) ∙ f
     at_test false true e f = sym e ∙ (bytes_eq-Decides one two).1 (sym ((bytes_eq-Decides two one).0 f))
 
-get_rows : (rows : List Row) (key : List ℕ) → finite.find (slice_cmp nat_cmp) key (map entry_of rows) ≡ found rows key
+pub get_rows : (rows : List Row) (key : List ℕ) → finite.find (slice_cmp nat_cmp) key (map entry_of rows) ≡ found rows key
 get_rows [] key = refl
 get_rows (row ∷ rows) key =
     ap (λ b. if b then Some row.value else finite.find (slice_cmp nat_cmp) key (map entry_of rows)) (is_eq-slice_cmp key row.key ∙

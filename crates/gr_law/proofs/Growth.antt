@@ -22,7 +22,7 @@ use Rattle.gr_law.proofs.Lists.{among_right}
 abbrev pub pushed : Grid → ℕ → Deed → Grid
 pushed grid m deed = record grid { history = λ i. if i == m then deed ∷ grid.history i else grid.history i }
 
-still_made : (grid : Grid) (m : ℕ) (deed : Deed) (change : Change) → IsMade grid change → IsMade (pushed grid m deed) change
+pub still_made : (grid : Grid) (m : ℕ) (deed : Deed) (change : Change) → IsMade grid change → IsMade (pushed grid m deed) change
 still_made grid m deed change h = at_test (change.stamp.member == m)
   where
     at_test : (b : Bool) → Among change (made (if b then deed ∷ grid.history change.stamp.member else grid.history change.stamp.member))
@@ -44,7 +44,7 @@ still_heard grid m deed (Heard report) h = at_test (report.member == m)
     at_test false = h
 still_heard grid m deed (Swept moment named) h = tt
 
-older_length : (q h : List Deed) → Older q h → length q ≤ length h
+pub older_length : (q h : List Deed) → Older q h → length q ≤ length h
 older_length q [] o = rw o (omega arith)
 older_length q (first ∷ past) (inl is) = rw is (omega arith)
 older_length q (first ∷ past) (inr o) = let e = older_length q past o in omega (arith, e)
@@ -87,7 +87,7 @@ still_gift grid m me deed image gift = record {
     at_test true = inr gift.gave
     at_test false = gift.gave
 
-still_genuine_deed : (grid : Grid) (m me : ℕ) (deed one : Deed) → IsGenuineDeed grid me one → IsGenuineDeed (pushed grid m deed) me one
+pub still_genuine_deed : (grid : Grid) (m me : ℕ) (deed one : Deed) → IsGenuineDeed grid me one → IsGenuineDeed (pushed grid m deed) me one
 still_genuine_deed grid m me deed (Call client to seq ask reply own) h = tt
 still_genuine_deed grid m me deed (Asked client seq ask reply) h = tt
 still_genuine_deed grid m me deed (Taken change how) h = still_made grid m deed change h
@@ -97,7 +97,7 @@ still_genuine_deed grid m me deed (Reported report) h = tt
 still_genuine_deed grid m me deed (Heard report) h = tt
 still_genuine_deed grid m me deed (Swept moment named) h = tt
 
-still_genuine : (grid : Grid) (m me : ℕ) (deed : Deed) (past : List Deed) → IsGenuine grid me past → IsGenuine (pushed grid m deed) me
+pub still_genuine : (grid : Grid) (m me : ℕ) (deed : Deed) (past : List Deed) → IsGenuine grid me past → IsGenuine (pushed grid m deed) me
     past
 still_genuine grid m me deed [] h = tt
 still_genuine grid m me deed (first ∷ past) h = (still_genuine_deed grid m me deed first h.0, still_genuine grid m me deed past h.1)
@@ -107,7 +107,7 @@ all_heard grid m deed [] h = tt
 all_heard grid m deed (first ∷ past) h = (still_heard grid m deed first h.0, all_heard grid m deed past h.1)
 
 -- a fact of each history, with the one deed more
-at_each : (grid : Grid) (m : ℕ) (deed : Deed) (P : ℕ → List Deed → Type 0) → P m (deed ∷ grid.history m) → ((i : ℕ) → P i (grid.history
+pub at_each : (grid : Grid) (m : ℕ) (deed : Deed) (P : ℕ → List Deed → Type 0) → P m (deed ∷ grid.history m) → ((i : ℕ) → P i (grid.history
     i))
     → (i : ℕ) → P i ((pushed grid m deed).history i)
 at_each grid m deed P new old i = at_test (i == m) refl
@@ -119,7 +119,7 @@ at_each grid m deed P new old i = at_test (i == m) refl
     at_test true e = subst (λ k. P k (deed ∷ grid.history k)) (same e) new
     at_test false e = old i
 
-once_more : (deed : Deed) (past : List Deed) → IsFirstImage deed past → IsImagedOnce past → IsImagedOnce (deed ∷ past)
+pub once_more : (deed : Deed) (past : List Deed) → IsFirstImage deed past → IsImagedOnce past → IsImagedOnce (deed ∷ past)
 once_more (Call client to seq ask reply own) past first h = h
 once_more (Asked client seq ask reply) past first h = h
 once_more (Taken change how) past first h = h

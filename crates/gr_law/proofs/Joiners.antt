@@ -59,7 +59,7 @@ image_in (Reported report ∷ past) h = let s = image_in past h in (s.0, s.1, in
 image_in (Heard report ∷ past) h = let s = image_in past h in (s.0, s.1, inr s.2)
 image_in (Swept moment named ∷ past) h = let s = image_in past h in (s.0, s.1, inr s.2)
 
-older_among : (deed : Deed) (q h : List Deed) → Older (deed ∷ q) h → Among deed h
+pub older_among : (deed : Deed) (q h : List Deed) → Older (deed ∷ q) h → Among deed h
 older_among deed q [] o = no o
   where
     no : deed ∷ q ≡ [] → ⊥

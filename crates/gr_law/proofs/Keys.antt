@@ -54,7 +54,7 @@ behind_with_key low key (first ∷ keys) less behind = at_order (order key first
     at_order Equal next = behind
     at_order Greater next = (behind.0, next)
 
-in_order_with_key : (key : List ℕ) (keys : List (List ℕ)) → IsInOrder keys → IsInOrder (with_key key keys)
+pub in_order_with_key : (key : List ℕ) (keys : List (List ℕ)) → IsInOrder keys → IsInOrder (with_key key keys)
 unfolding IsStrictlySortedBy
 in_order_with_key key [] h = (tt, tt)
 in_order_with_key key (first ∷ keys) h = at_order (order key first) refl (in_order_with_key key keys h.1)

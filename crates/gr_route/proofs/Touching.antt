@@ -1,12 +1,10 @@
 -- The keys that a deed turns are among those that it can turn.
 use Rattle.std.proofs.Common.{◌≡◌, ◌⊎◌, ℕ, List, [], ◌∷◌, Bool, true, false, ◌||◌, not, refl, sym, ap, ◌∙◌, subst, inl, inr, cond, bytes_eq, map}
-use Rattle.std.proofs.Common.{Ordering, Less, Equal, Greater}
 use Rattle.std.specs.Prelude.{Option, Some, None, if◌then◌else◌}
 use Rattle.std.specs.List.Sorted.{IsStrictlySortedBy}
-use Rattle.std.specs.Ordering.{nat_cmp, eq_by_cmp, match_ordering, ordering_reverse}
+use Rattle.std.specs.Ordering.{nat_cmp, eq_by_cmp}
 use Rattle.std.specs.Cmp.Lexicographic.{slice_cmp}
 use Rattle.std.specs.FinMap as finite
-use Rattle.std.proofs.lemmas.Cmp.{nat_list_cmp_total}
 use Rattle.std.proofs.lemmas.Map.Text.{is_eq-slice_cmp}
 use Rattle.std.proofs.lemmas.Slice.Eq.{bytes_eq-Decides}
 use Rattle.gr_stamp.specs.declared.change.Change.{Change}
@@ -18,7 +16,7 @@ use Rattle.gr_history.specs.Standing.{came, drops, has_key, is_known, names, sta
 use Rattle.gr_history.specs.Turned.{turns}
 use Rattle.gr_law.specs.Grids.{Among}
 use Rattle.gr_law.proofs.Images.{key_added, key_kept}
-use Rattle.gr_law.proofs.Keys.{IsInOrder, AreBehind}
+use Rattle.gr_law.proofs.Keys.{IsInOrder, in_order_with_key}
 use Rattle.gr_law.proofs.Lists.{and_right}
 use Rattle.gr_law.proofs.Turning.{same_unturned}
 use Rattle.gr_by_key.specs.Maps.{names_in}
@@ -27,35 +25,9 @@ use Rattle.gr_route.proofs.Leaving.{left_stands, none_came, won_over}
 
 -- ---- keys in order
 
-behind_all : (key first : List ℕ) (keys : List (List ℕ)) → slice_cmp nat_cmp key first ≡ Less → AreBehind first keys → AreBehind key keys
-behind_all key first [] less behind = tt
-behind_all key first (next ∷ keys) less behind =
-    (nat_list_cmp_total.trans key first next less behind.0, behind_all key first keys less behind.1)
-
-behind_with_key : (low key : List ℕ) (keys : List (List ℕ)) → slice_cmp nat_cmp low key ≡ Less → AreBehind low keys → AreBehind low (with_key key keys)
-behind_with_key low key [] less behind = (less, tt)
-behind_with_key low key (first ∷ keys) less behind = at_order (slice_cmp nat_cmp key first) (behind_with_key low key keys less behind.1)
-  where
-    at_order : (o : Ordering) → AreBehind low (with_key key keys)
-        → AreBehind low (match_ordering o (key ∷ first ∷ keys) (first ∷ keys) (first ∷ with_key key keys))
-    at_order Less next = (less, behind)
-    at_order Equal next = behind
-    at_order Greater next = (behind.0, next)
-
-with_key_in_order : (key : List ℕ) (keys : List (List ℕ)) → IsInOrder keys → IsInOrder (with_key key keys)
-unfolding IsStrictlySortedBy
-with_key_in_order key [] h = (tt, tt)
-with_key_in_order key (first ∷ keys) h = at_order (slice_cmp nat_cmp key first) refl (with_key_in_order key keys h.1)
-  where
-    at_order : (o : Ordering) → slice_cmp nat_cmp key first ≡ o → IsInOrder (with_key key keys)
-        → IsInOrder (match_ordering o (key ∷ first ∷ keys) (first ∷ keys) (first ∷ with_key key keys))
-    at_order Less e next = ((e, behind_all key first keys e h.0), h)
-    at_order Equal e next = h
-    at_order Greater e next = (behind_with_key first key keys (nat_list_cmp_total.antisymm first key ∙ ap ordering_reverse e) h.0, next)
-
 with_in_order : (more keys : List (List ℕ)) → IsInOrder keys → IsInOrder (with_keys keys more)
 with_in_order [] keys is = is
-with_in_order (key ∷ more) keys is = with_in_order more (with_key key keys) (with_key_in_order key keys is)
+with_in_order (key ∷ more) keys is = with_in_order more (with_key key keys) (in_order_with_key key keys is)
 
 none_in_order : IsInOrder []
 unfolding IsStrictlySortedBy

@@ -46,6 +46,7 @@ use Rattle.gr_script.specs.Rules.{Heading, IsMember, IsStated, IsScript, home_of
 use Rattle.gr_script.specs.Steps.{joins_of, is_join_of}
 use Rattle.gr_world.specs.Grids.{Histories, grid_from}
 use Rattle.gr_world.specs.Served.{Served, Called, Queried, Looked, deeds_of}
+use Rattle.gr_law.proofs.Joiners.{older_among}
 use Rattle.gr_run_law.specs.Duties.{Reports, Sweeps, Joins, duty_in, duty_of, gift_in, gift_due, given_to, own_where}
 use Rattle.gr_run_law.specs.Plans.{total_to, draws_for, brings_change, changes_posted, posted_by}
 use Rattle.gr_run_law.specs.Runs.{IsRun}
@@ -165,14 +166,6 @@ made_call change (Imaged image ∷ past) a = longer_by change (Imaged image) pas
 made_call change (Reported report ∷ past) a = longer_by change (Reported report) past (made_call change past a)
 made_call change (Heard report ∷ past) a = longer_by change (Heard report) past (made_call change past a)
 made_call change (Swept moment expired ∷ past) a = longer_by change (Swept moment expired) past (made_call change past a)
-
-older_among : (deed : Deed) (past h : List Deed) → Older (deed ∷ past) h → Among deed h
-older_among deed past [] o = absurd (no_item deed past o)
-older_among deed past (first ∷ rest) (inl is) = inl (heads deed first past rest is)
-  where
-    heads : (a b : Deed) (xs ys : List Deed) → a ∷ xs ≡ b ∷ ys → a ≡ b
-    heads a b xs ys e = cc
-older_among deed past (first ∷ rest) (inr o) = inr (older_among deed past rest o)
 
 gift_is : (joiner : ℕ) (d : Deed) (w : What) → gift_in joiner d ≡ Some w → d ≡ Gave joiner w
 gift_is joiner (Call client to number ask reply own) w e = absurd (none_isnt_some w e)

@@ -1,5 +1,5 @@
 -- A pass that was left at a member stands for the one that its thread was dealt.
-use Rattle.std.proofs.Common.{◌≡◌, ◌⊎◌, ℕ, ◌-◌, ◌<◌, ◌==◌, Bool, true, false, List, [], ◌∷◌, length, Option, Some, None}
+use Rattle.std.proofs.Common.{◌≡◌, ℕ, ◌-◌, ◌<◌, ◌==◌, Bool, true, false, List, [], ◌∷◌, length, Option, Some, None}
 use Rattle.std.proofs.Common.{refl, sym, ap, ◌∙◌, subst, arith, inl, inr, get_or, if◌then◌else◌, eqb-true, ⊎_elim}
 use Rattle.std.specs.Prelude.{slice_get}
 use Rattle.std.specs.Option.{option_to_list}
@@ -33,38 +33,30 @@ pub record Stands (m : ℕ) (left : Left) (p : List Place) : Type 0 where
   pub among : Among q (left_at (m - 1) left)
   pub parts : (j : ℕ) (x : Place) → j < length p → (get_or q j x).view.parts ≡ (get_or p j x).view.parts
 
-pub stands_for : (m home : ℕ) (left : Left) (p : List Place) (w : Option Worker) → LeavesOf home w (Some left)
-    → Among p (worker_at (m - 1) home w) → Stands m left p
-stands_for m home left p None leaves among = absurd leaves
-stands_for m home left p (Some (worker.Client client)) leaves among = at_test (home == m - 1) refl among
+own_stands : (m home : ℕ) (left : Left) (p own : List Place) → left.home ≡ home → StaysAll own left.pass
+    → Among p (if home == m - 1 then own ∷ [] else []) → Stands m left p
+own_stands m home left p own there stays among = at_test (home == m - 1) refl among
   where
-    at_test : (b : Bool) → (home == m - 1) ≡ b → Among p (if b then client.session.pass ∷ [] else []) → Stands m left p
+    at_test : (b : Bool) → (home == m - 1) ≡ b → Among p (if b then own ∷ [] else []) → Stands m left p
     at_test false e a = absurd a
     at_test true e (inr a) = absurd a
     at_test true e (inl is) = record {
       q = left.pass;
-      among = own_among (m - 1) left (leaves.there ∙ eqb-true home (m - 1) e);
+      among = own_among (m - 1) left (there ∙ eqb-true home (m - 1) e);
       parts = λ j x l.
           let same = ap length is in
-          (leaves.stays.each j x (omega (arith, l, same))).numbers ∙ ap (λ (y : List Place). (get_or y j x).view.parts) (sym is);
+          (stays.each j x (omega (arith, l, same))).numbers ∙ ap (λ (y : List Place). (get_or y j x).view.parts) (sym is);
     }
-stands_for m home left p (Some (worker.Member host)) leaves among = ⊎_elim at_visit at_home
+
+pub stands_for : (m home : ℕ) (left : Left) (p : List Place) (w : Option Worker) → LeavesOf home w (Some left)
+    → Among p (worker_at (m - 1) home w) → Stands m left p
+stands_for m home left p None leaves among = absurd leaves
+stands_for m home left p (Some (worker.Client client)) leaves among =
+    own_stands m home left p client.session.pass leaves.there leaves.stays among
+stands_for m home left p (Some (worker.Member host)) leaves among =
+    ⊎_elim at_visit (own_stands m home left p host.pass leaves.there leaves.stays)
     (among_either p (option_to_list (slice_get host.visits.items (m - 1))) (if home == m - 1 then host.pass ∷ [] else []) among)
   where
-    at_home : Among p (if home == m - 1 then host.pass ∷ [] else []) → Stands m left p
-    at_home a = at_test (home == m - 1) refl a
-      where
-        at_test : (b : Bool) → (home == m - 1) ≡ b → Among p (if b then host.pass ∷ [] else []) → Stands m left p
-        at_test false e b = absurd b
-        at_test true e (inr b) = absurd b
-        at_test true e (inl is) = record {
-          q = left.pass;
-          among = own_among (m - 1) left (leaves.there ∙ eqb-true home (m - 1) e);
-          parts = λ j x l.
-              let same = ap length is in
-              (leaves.stays.each j x (omega (arith, l, same))).numbers ∙ ap (λ (y : List Place). (get_or y j x).view.parts) (sym is);
-        }
-
     at_visit : Among p (option_to_list (slice_get host.visits.items (m - 1))) → Stands m left p
     at_visit a =
         let e = some_is (slice_get host.visits.items (m - 1)) refl a in

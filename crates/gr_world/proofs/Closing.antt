@@ -27,7 +27,7 @@ use Rattle.gr_world.specs.Causes.{grid_at}
 use Rattle.gr_world.specs.Shut.{IsStaying, IsShut}
 use Rattle.gr_world.proofs.Events.{equal_numbers, more_among, other_shard}
 use Rattle.gr_world.proofs.Causes.{reports_made, numbered_among, among_bare, reported_by}
-use Rattle.gr_world.proofs.SoundGrowth.{older_length}
+use Rattle.gr_law.proofs.Growth.{older_length}
 use Rattle.gr_world.proofs.Growing.{isnt_true, AreAll, all_did}
 use Rattle.gr_world.proofs.Walks.{Keeps}
 use Rattle.gr_world.proofs.Lines.{AreFit, fit_rest, fit_tail, gone_later, MayDo, IsKeptByDeeds, kept_by, line_keeps}

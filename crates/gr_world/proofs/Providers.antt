@@ -8,7 +8,7 @@ use Rattle.gr_history.specs.declared.image.Image.{Image}
 use Rattle.gr_history.specs.declared.image.What.TheVariants as what
 use Rattle.gr_history.specs.declared.deed.Deed.{Deed}
 use Rattle.gr_history.specs.declared.deed.Deed.TheVariants.{Call, Asked, Taken, Gave, Imaged, Reported, Heard, Swept}
-use Rattle.gr_law.specs.Grids.{Among, Older}
+use Rattle.gr_law.specs.Grids.{Older}
 use Rattle.gr_law.specs.Integrity.{IsGift, IsSound, giver_of}
 use Rattle.gr_law.proofs.Made.{older_genuine}
 use Rattle.gr_script.specs.declared.line.Line.{Line}
@@ -16,6 +16,7 @@ use Rattle.gr_script.specs.declared.line.Line.TheVariants.{Step, Deliver, Hear, 
 use Rattle.gr_script.specs.declared.line.Line.TheVariants as line
 use Rattle.gr_script.specs.Rules.{Heading, NamesStaying, StandsAfter}
 use Rattle.gr_script.specs.Steps.{departed, is_gone, is_join_from, joins_from}
+use Rattle.gr_law.proofs.Joiners.{older_among}
 use Rattle.gr_world.specs.Events.{Event, history}
 use Rattle.gr_world.specs.Departures.{closing_report}
 use Rattle.gr_world.specs.Doings.{Doing, Calls, Takes, Gives, Merges, Reports, Hears, Sweeps, Asks}
@@ -153,14 +154,6 @@ providers_stay heading (one ∷ past) fit i p = ⊎_elim
     (λ before. stays_behind one past heading i fit.stand.0 before
     (providers_stay heading past (fit_rest heading one past fit) i before))
     (provided_either one past i p)
-
-older_among : (deed : Deed) (q h : List Deed) → Older (deed ∷ q) h → Among deed h
-older_among deed q [] o = no o
-  where
-    no : deed ∷ q ≡ [] → ⊥
-    no e = cc
-older_among deed q (first ∷ past) (inl is) = let e : deed ≡ first = cc in inl e
-older_among deed q (first ∷ past) (inr o) = inr (older_among deed q past o)
 
 -- who gave an image by now
 image_provided : (heading : Heading) (past : List Line) (shard : ℕ) → AreFit heading past
