@@ -24,7 +24,6 @@ use Rattle.gr_member.specs.Fresh.{IsFresh}
 use Rattle.gr_member.specs.Passes.{House, IsPassOf}
 use Rattle.gr_member.specs.Plans.{IsPlan}
 use Rattle.gr_member.specs.Seats.{Place}
-use Rattle.gr_session.specs.declared.client.Client.{Client}
 use Rattle.gr_session.specs.Waiting.{HasMadeNothing}
 use Rattle.gr_session.proofs.Growing.{served_none}
 use Rattle.gr_host.specs.declared.duties.Duty.{Duty as Chore}

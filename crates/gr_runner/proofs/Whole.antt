@@ -18,7 +18,7 @@ use Rattle.gr_script.specs.declared.line.Line.{Line}
 use Rattle.gr_script.specs.Rules.{Heading, IsScript, home_of}
 use Rattle.gr_script.specs.Steps.{joins_of}
 use Rattle.gr_run_law.specs.Plans.{courier_of}
-use Rattle.gr_run_law.specs.Shares.{Client, Stands}
+use Rattle.gr_run_law.specs.Shares.{Stands}
 use Rattle.gr_run_law.specs.Threads.{client_place, member_place, round_of}
 use Rattle.gr_run_law.proofs.Clients.{home_is_member}
 use Rattle.gr_run_law.proofs.Delivering.{map_among}

@@ -4,7 +4,7 @@ ghost use Rattle.gr_history.specs.declared.deed.Deed.TheVariants as deed;
 ghost use Rattle.gr_history.specs.declared.reply.Reply.{Reply};
 ghost use Rattle.gr_stamp.specs.declared.change.Kind.{Kind};
 ghost use Rattle.gr_history.specs.Asks.{key_of};
-ghost use Rattle.gr_history.specs.Calls.{call_gives, given, nothing_made, ver_of};
+ghost use Rattle.gr_history.specs.Calls.{call_gives, given, ver_of};
 ghost use Rattle.gr_history.specs.Recipients.{recipients};
 ghost use Rattle.std.specs.List.{AllByRecursion};
 ghost use Rattle.std.specs.Option.{option_to_list};

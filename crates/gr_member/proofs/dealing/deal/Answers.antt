@@ -5,12 +5,10 @@ use Rattle.gr_member.proofs.dealing.deal.Goals as goal
 
 pub invariant_of-push_reserved : goal.invariant_of-push_reserved
 invariant_of-push_reserved c =
-    let ok = c.args.passes.now.ok in
-    let many = c.requires.many.0 in
-    let left = c.loop-k.invariant.left in
     let long : length c.loop-k.rest ≡ length c.pop.new.self + 1 =
     ap length c.in-Some.ensures.seat ∙ length-append c.pop.new.self (c.in-Some.seat ∷ []) in
-    let below : length c.pop.new.self < length c.args.seats = omega arith in (
+    let below : length c.pop.new.self < length c.args.seats =
+    omega (arith, c.args.passes.now.ok, c.requires.many.0, c.loop-k.invariant.left) in (
       refl,
       handed_pair c.args.passes.now.items c.loop-k.passes.items c.args.seats c.loop-k.rest c.pop.new.self c.args.watches.items
           c.loop-k.watches.items c.pop-in-loop-k.new.self.items c.in-Some.seat c.in-Some-pop.watch c.loop-k.invariant.handed
@@ -34,8 +32,4 @@ loop-k-preserved c =
 
 pub destroy_empty-requires : goal.destroy_empty-requires
 destroy_empty-requires c =
-    let ok = c.args.passes.now.ok in
-    let left = c.loop-k.invariant.left in
-    let end = c.len-k-end.ensures in
-    let test = c.loop-k-test.false in
-    empty_of c.loop-k.rest (omega arith)
+    empty_of c.loop-k.rest (omega (arith, c.args.passes.now.ok, c.loop-k.invariant.left, c.len-k-end.ensures, c.loop-k-test.false))

@@ -6,10 +6,8 @@ use Rattle.gr_member.proofs.ending.end_each.Goals as goal
 
 pub returns : goal.returns
 returns g c =
-    let none = c.in_default-pop.ensures.cases.0 in
-    let ok = c.loop-lock.locks.ok in
-    let many = c.loop-lock.invariant.theirs.many in
-    let empty : length c.loop-lock.shards.items ≡ 0 = omega arith in
+    let empty : length c.loop-lock.shards.items ≡ 0 =
+    omega (arith, c.in_default-pop.ensures.cases.0, c.loop-lock.locks.ok, c.loop-lock.invariant.theirs.many) in
     subst (AreEndsOf c.args.shards.items) (sym c.reverse.ensures)
     (ended_all c.args.shards.items c.loop-lock.shards.items c.loop-lock.records c.loop-lock.invariant.ended
     (empty_of c.loop-lock.shards.items empty))

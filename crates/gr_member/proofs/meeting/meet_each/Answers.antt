@@ -22,7 +22,5 @@ loop-k-preserved c =
 
 pub returns : goal.returns
 returns c =
-    let ok = c.loop-k.rest.ok in
-    let left = c.loop-k.invariant.left in
-    let test = c.loop-k-test.false in
-    met_all c.args.into.now.items c.args.from.items c.loop-k.into.items c.loop-k.rest.items c.loop-k.invariant.met (omega arith)
+    met_all c.args.into.now.items c.args.from.items c.loop-k.into.items c.loop-k.rest.items c.loop-k.invariant.met
+    (omega (arith, c.loop-k.rest.ok, c.loop-k.invariant.left, c.loop-k-test.false))

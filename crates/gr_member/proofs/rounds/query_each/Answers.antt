@@ -22,20 +22,16 @@ loop-k-preserved g c =
 
 pub returns-in_err-came-clause-stays : goal.returns-in_err-came-clause-stays
 returns-in_err-came-clause-stays g c =
-    let ok = c.args.shards.now.ok in
-    let end = c.len-k-end.ensures in
-    let test = c.loop-k-test.true in
-    let below : c.loop-k.k < length c.args.shards.now.items = omega arith in
+    let below : c.loop-k.k < length c.args.shards.now.items =
+    omega (arith, c.args.shards.now.ok, c.len-k-end.ensures, c.loop-k-test.true) in
     turned_refused (Asked c.args.client c.args.seq c.args.ask.now) c.args.shards.now.items c.loop-k.shards.items
     c.loop-k.replies.items c.loop-k.k c.index_mut.result.now c.act.new.self below c.loop-k.invariant.turned
     c.index_mut.ensures.value c.act.ensures.stays
 
 pub returns-in_err-came-clause-refused : goal.returns-in_err-came-clause-refused
 returns-in_err-came-clause-refused g c =
-    let ok = c.args.shards.now.ok in
-    let end = c.len-k-end.ensures in
-    let test = c.loop-k-test.true in
-    let below : c.loop-k.k < length c.args.shards.now.items = omega arith in
+    let below : c.loop-k.k < length c.args.shards.now.items =
+    omega (arith, c.args.shards.now.ok, c.len-k-end.ensures, c.loop-k-test.true) in
     on_err c.from_residual-in_err-came.result _ (turned_until (Asked c.args.client c.args.seq c.args.ask.now) c.args.shards.now.items
     c.loop-k.shards.items c.loop-k.replies.items c.loop-k.k c.index_mut.result.now c.act.new.self below c.loop-k.invariant.turned
     c.index_mut.ensures.value c.in_err-came.ensures.refused)
@@ -46,22 +42,18 @@ returns-clause-stays g c = turned_stays (Asked c.args.client c.args.seq c.args.a
 
 pub returns-clause-done : goal.returns-clause-done
 returns-clause-done g c =
-    let ok = c.args.shards.now.ok in
-    let end = c.len-k-end.ensures in
-    let test = c.loop-k-test.false in
-    let upto = c.loop-k.auto.k-end in
     subst (λ (told : List _). TurnsAll (Asked c.args.client c.args.seq c.args.ask.now) c.args.shards.now.items told
     c.loop-k.shards.items) (sym c.from_vec.ensures)
     (turned_all (Asked c.args.client c.args.seq c.args.ask.now) c.args.shards.now.items c.loop-k.shards.items c.loop-k.replies.items
-    c.loop-k.k c.loop-k.invariant.turned (omega arith))
+    c.loop-k.k c.loop-k.invariant.turned
+    (omega (arith, c.args.shards.now.ok, c.len-k-end.ensures, c.loop-k-test.false, c.loop-k.auto.k-end)))
 
 pub returns-in_err-replies-clause-refused : goal.returns-in_err-replies-clause-refused
 returns-in_err-replies-clause-refused g c =
-    let ok = c.args.shards.now.ok in
-    let some = c.requires.some in
     on_err c.from_residual.result _
     (turned_some (Asked c.args.client c.args.seq c.args.ask.now) c.args.shards.now.items c.args.shards.now.items [] 0
-    (turned_none (Asked c.args.client c.args.seq c.args.ask.now) c.args.shards.now.items [] refl) (omega arith))
+    (turned_none (Asked c.args.client c.args.seq c.args.ask.now) c.args.shards.now.items [] refl)
+    (omega (arith, c.args.shards.now.ok, c.requires.some)))
 
 pub loop-k-init : goal.loop-k-init
 loop-k-init g c = record {
@@ -71,13 +63,7 @@ loop-k-init g c = record {
 
 pub push_reserved-requires : goal.push_reserved-requires
 push_reserved-requires g c =
-    let ok = c.args.shards.now.ok in
-    let mine = c.loop-k.replies.ok in
-    let end = c.len-k-end.ensures in
-    let test = c.loop-k-test.true in
-    let room = c.loop-k.invariant.held in
-    let many = c.loop-k.invariant.turned.told_so_far in
-    omega arith
+    omega (arith, c.args.shards.now.ok, c.loop-k.replies.ok, c.len-k-end.ensures, c.loop-k-test.true, c.loop-k.invariant.held, c.loop-k.invariant.turned.told_so_far)
 
 pub reply_in-requires : goal.reply_in-requires
 reply_in-requires g c = (_, c.in_ok-came.ensures.done.gives.0)

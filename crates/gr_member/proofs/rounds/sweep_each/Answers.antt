@@ -12,10 +12,8 @@ count_in-requires g c = (_, c.in_ok-came.ensures.done.gives.0)
 
 pub loop-k-preserved : goal.loop-k-preserved
 loop-k-preserved g c =
-    let ok = c.args.shards.now.ok in
-    let end = c.len-k-end.ensures in
-    let test = c.loop-k-test.true in
-    let below : c.loop-k.k < length c.args.shards.now.items = omega arith in
+    let below : c.loop-k.k < length c.args.shards.now.items =
+    omega (arith, c.args.shards.now.ok, c.len-k-end.ensures, c.loop-k-test.true) in
     swept_more c.args.moment c.loop-k.count c.saturating_add-count.result c.count_in.result c.args.shards.now.items
     c.loop-k.shards.items c.loop-k.k c.index_mut.result.now c.act.new.self below c.loop-k.invariant c.index_mut.ensures.value
     (acts_swept c.index_mut.result.now c.act.new.self c.args.moment c.in_ok-came.came c.count_in.result c.in_ok-came.ensures.done
@@ -24,19 +22,15 @@ loop-k-preserved g c =
 
 pub returns-in_err-came-clause-stays : goal.returns-in_err-came-clause-stays
 returns-in_err-came-clause-stays g c =
-    let ok = c.args.shards.now.ok in
-    let end = c.len-k-end.ensures in
-    let test = c.loop-k-test.true in
-    let below : c.loop-k.k < length c.args.shards.now.items = omega arith in
+    let below : c.loop-k.k < length c.args.shards.now.items =
+    omega (arith, c.args.shards.now.ok, c.len-k-end.ensures, c.loop-k-test.true) in
     turned_refused (Swept c.args.moment) c.args.shards.now.items c.loop-k.shards.items c.loop-k.invariant.expired c.loop-k.k
     c.index_mut.result.now c.act.new.self below c.loop-k.invariant.turned c.index_mut.ensures.value c.act.ensures.stays
 
 pub returns-in_err-came-clause-refused : goal.returns-in_err-came-clause-refused
 returns-in_err-came-clause-refused g c =
-    let ok = c.args.shards.now.ok in
-    let end = c.len-k-end.ensures in
-    let test = c.loop-k-test.true in
-    let below : c.loop-k.k < length c.args.shards.now.items = omega arith in
+    let below : c.loop-k.k < length c.args.shards.now.items =
+    omega (arith, c.args.shards.now.ok, c.len-k-end.ensures, c.loop-k-test.true) in
     on_err c.from_residual.result _ (turned_until (Swept c.args.moment) c.args.shards.now.items c.loop-k.shards.items
     c.loop-k.invariant.expired c.loop-k.k c.index_mut.result.now
     c.act.new.self below c.loop-k.invariant.turned c.index_mut.ensures.value c.in_err-came.ensures.refused)
@@ -48,8 +42,5 @@ returns-clause-stays g c =
 
 pub returns-clause-done : goal.returns-clause-done
 returns-clause-done g c =
-    let ok = c.args.shards.now.ok in
-    let end = c.len-k-end.ensures in
-    let test = c.loop-k-test.false in
-    let upto = c.loop-k.auto.k-end in
-    swept_all c.args.moment c.loop-k.count c.args.shards.now.items c.loop-k.shards.items c.loop-k.k c.loop-k.invariant (omega arith)
+    swept_all c.args.moment c.loop-k.count c.args.shards.now.items c.loop-k.shards.items c.loop-k.k c.loop-k.invariant
+    (omega (arith, c.args.shards.now.ok, c.len-k-end.ensures, c.loop-k-test.false, c.loop-k.auto.k-end))

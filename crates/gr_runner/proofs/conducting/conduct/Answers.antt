@@ -28,10 +28,7 @@ gather_all-desks-requires-clause-room g c =
     let r = c.requires.ready in
     let many = lefts_many r.0 r.1 c.args.members.now c.args.inboxes.now c.args.dealt r.2 c.play_all-slots.result.items
     c.play_all-slots.ensures.many c.play_all-slots.ensures.each c.lefts_of-lefts.result.items c.lefts_of-lefts.ensures in
-    let ok = c.lefts_of-lefts.result.ok in
-    let slots = c.args.dealt.slots.ok in
-    let room = c.requires.room in
-    omega arith
+    omega (arith, c.lefts_of-lefts.result.ok, c.args.dealt.slots.ok, c.requires.room)
 
 pub account_if-told-requires-clause-takes : goal.account_if-told-requires-clause-takes
 account_if-told-requires-clause-takes g c = λ well.

@@ -7,9 +7,7 @@ use Rattle.gr_runner.proofs.meeting.meet_each.Goals as goal
 pub loop-pass-preserved : goal.loop-pass-preserved
 loop-pass-preserved c =
     let less = c.pop.new.self.items in
-    let len = c.len-at.ensures in
-    let ok = c.pop.new.self.ok in
-    let at : c.len-at.result ≡ length less = omega arith in
+    let at : c.len-at.result ≡ length less = omega (arith, c.len-at.ensures, c.pop.new.self.ok) in
     let met = subst (λ (i : ℕ). MeetsAt i c.loop-pass.desks c.in-Some.pass c.meet_at.new.desks) at c.meet_at.ensures.met in
     record {
       desks = c.meet_at.ensures.its;

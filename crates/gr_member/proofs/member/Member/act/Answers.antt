@@ -27,13 +27,11 @@ pub returns-clause-stays : goal.returns-clause-stays
 returns-clause-stays g c =
     let long = ap (λ (h : House). length h.locks) c.self.view_is in
     let shards = ap (λ (h : House). h.plan.shards) c.self.view_is in
-    let ok = c.self.inside.locks.ok in
-    let many = c.self.invariant.0 in
-    let seats = c.requires.pass.many in
     let same = ap (λ (l : List Place). length l) c.pass.view_is in
     let at = c.from-at.ensures in
     let there = c.requires.shard in
-    let below : c.from-at.result < length c.pass.inside.shards.items = omega arith in
+    let below : c.from-at.result < length c.pass.inside.shards.items =
+    omega (arith, c.self.inside.locks.ok, c.self.invariant.0, c.requires.pass.many) in
     at_stays Stays (λ s t h. h) c.from-at.result c.args.pass.now _
     (at_turn Stays c.from-at.result c.from-at.result c.args.pass.now c.pass.inside.shards.items c.index_mut.result.now c.act.new.self below
     c.pass.view_is refl c.index_mut.ensures.value c.act.ensures.stays)
@@ -42,13 +40,11 @@ pub returns-clause-done : goal.returns-clause-done
 returns-clause-done g c =
     let long = ap (λ (h : House). length h.locks) c.self.view_is in
     let shards = ap (λ (h : House). h.plan.shards) c.self.view_is in
-    let ok = c.self.inside.locks.ok in
-    let many = c.self.invariant.0 in
-    let seats = c.requires.pass.many in
     let same = ap (λ (l : List Place). length l) c.pass.view_is in
     let at = c.from-at.ensures in
     let there = c.requires.shard in
-    let below : c.from-at.result < length c.pass.inside.shards.items = omega arith in
+    let below : c.from-at.result < length c.pass.inside.shards.items =
+    omega (arith, c.self.inside.locks.ok, c.self.invariant.0, c.requires.pass.many) in
     IfOk-weaker c.act.result _ _ (λ came a. at_turn (λ s t. Acts s c.args.next.now came t) c.from-at.result c.args.shard c.args.pass.now
     c.pass.inside.shards.items c.index_mut.result.now c.act.new.self below c.pass.view_is at c.index_mut.ensures.value a)
     c.act.ensures.done
@@ -57,13 +53,11 @@ pub returns-clause-refused : goal.returns-clause-refused
 returns-clause-refused g c =
     let long = ap (λ (h : House). length h.locks) c.self.view_is in
     let shards = ap (λ (h : House). h.plan.shards) c.self.view_is in
-    let ok = c.self.inside.locks.ok in
-    let many = c.self.invariant.0 in
-    let seats = c.requires.pass.many in
     let same = ap (λ (l : List Place). length l) c.pass.view_is in
     let at = c.from-at.ensures in
     let there = c.requires.shard in
-    let below : c.from-at.result < length c.pass.inside.shards.items = omega arith in
+    let below : c.from-at.result < length c.pass.inside.shards.items =
+    omega (arith, c.self.inside.locks.ok, c.self.invariant.0, c.requires.pass.many) in
     err_weaker c.act.result _ _ (λ a. at_turn Looks c.from-at.result c.args.shard c.args.pass.now
     c.pass.inside.shards.items c.index_mut.result.now c.act.new.self below c.pass.view_is at c.index_mut.ensures.value a)
     c.act.ensures.refused

@@ -4,10 +4,7 @@ use Rattle.gr_runner.proofs.mailing.Mailing.last_sender.Goals as goal
 
 pub returns-clause-own : goal.returns-clause-own
 returns-clause-own c =
-    let done = c.loop-k-test.false in
-    let upto = c.loop-k.auto.k-end in
-    let len = c.len-k-end.ensures in
-    let ok = c.args.self.now.sends.ok in
-    let all : c.loop-k.k ≡ length c.args.self.now.sends.items = omega arith in
+    let all : c.loop-k.k ≡ length c.args.self.now.sends.items =
+    omega (arith, c.loop-k-test.false, c.loop-k.auto.k-end, c.len-k-end.ensures, c.args.self.now.sends.ok) in
     λ rings left h.
     popped_all rings left c.args.self.now.sends.items c.loop-k.self.sends.items c.loop-k.own c.loop-k.k c.loop-k.invariant.popped all h
