@@ -1,7 +1,7 @@
 -- A member may be shared by threads, and a pass may go to another one.
 use denote.Param.Send.{IsSend, IsSync, sendable, view_send, view_sync}
 use denote.Param.SendFields.{as_row_send, as_row_sync, declared_send, declared_sync}
-use Rattle.std.proofs.Crossing.{Vec-send, Vec-sync}
+use Rattle.std.proofs.Crossing.{Box-send, Vec-send, Vec-sync}
 use Rattle.gr_turn.proofs.lock.Seat.TheSendSync as seat
 use Rattle.gr_turn.proofs.lock.TurnLock.TheSendSync as lock
 use Rattle.gr_peek.proofs.published.Published.TheSendSync as published
@@ -21,7 +21,8 @@ use Rattle.gr_member.proofs.DeedCrossing.{both}
 use Rattle.gr_member.proofs.ShardCrossing.{shard_send}
 
 replica_inside_send : IsSend ReplicaInside.the_row
-replica_inside_send = declared_send ReplicaInside.the_type (search (both, sendable, shard_send, published.the_send) depth 20)
+replica_inside_send =
+    declared_send ReplicaInside.the_type (search (both, sendable, as_row_send, Box-send, shard_send, published.the_send) depth 20)
 
 replica_send : IsSend Replica.the_row
 replica_send = search (view_send, replica_inside_send)

@@ -20,9 +20,9 @@ use std::marker::Model;
 use std::sync::Wait;
 
 /// What a turn keeps: a shard, and the copy in which the turned keys of its deeds are published. It is
-/// never dropped: `end` takes it apart.
+/// never dropped: `end` takes it apart. The shard stands in a box, since each turn moves what it keeps.
 pub struct Replica {
-    shard: Shard,
+    shard: Box<Shard>,
     published: Published,
 }
 
@@ -35,7 +35,7 @@ pub struct Origin {
 }
 
 impl Model for Replica {
-    ghost use Rattle.std.specs.Prelude.{◌≡◌, reverse};
+    ghost use Rattle.std.specs.Prelude.{◌≡◌, box_value, reverse};
     ghost use Rattle.std.specs.Coded.{codes};
     ghost use Rattle.gr_oql.specs.Question.{question_code};
     ghost use Rattle.gr_peek_law.specs.Turns.{turned_each};
@@ -45,9 +45,9 @@ impl Model for Replica {
 
     ghost coded = { Prim.hlevel (codes, question_code) };
 
-    ghost view = { λ replica. replicated replica.shard replica.published.copy };
+    ghost view = { λ replica. replicated (box_value replica.shard) replica.published.copy };
 
-    ghost invariant = { λ replica. replica.published.publications ≡ turned_each (reverse replica.shard.deeds) };
+    ghost invariant = { λ replica. replica.published.publications ≡ turned_each (reverse (box_value replica.shard).deeds) };
 }
 
 impl Kept for Replica {
@@ -80,7 +80,7 @@ impl Replica {
         ensures count { IfOk result (λ made. length made.1 ≡ eyes) }
         ensures each { IfOk result (λ made. All (λ eye. eye ≡ new_eye made.0.origin.copy) made.1) }
     {
-        let shard = Shard::new(alloc, id, floor)?;
+        let shard = Box::new(alloc, Shard::new(alloc, id, floor)?)?;
         let (published, eyes) = Published::new(rt, alloc, eyes)?;
         Ok((Replica { shard, published }, eyes))
     }
@@ -140,6 +140,6 @@ impl Replica {
         published.end(rt);
         // So that what the shard's type says of its history is known to the proof.
         let _ = shard.history();
-        shard.into_record(alloc)
+        Box::into_inner(shard).into_record(alloc)
     }
 }

@@ -5,5 +5,5 @@ use Rattle.gr_member.proofs.replica.Replica.act.Goals as goal
 
 pub publish-requires : goal.publish-requires
 publish-requires g c =
-    next_place c.self.inside.published.publications c.self.inside.shard.deeds (c.len-at.result + 1) c.self.invariant
+    next_place c.self.inside.published.publications c.self.inside.shard.value.deeds (c.len-at.result + 1) c.self.invariant
     (ap (λ (n : ℕ). n + 1) (c.len-at.ensures.is ∙ ap (λ (r : Replicated). length r.deeds) (sym c.self.view_is)))
