@@ -5,8 +5,9 @@ use mathlib.Core.List.{IsPrefix}
 use Rattle.gr_oql.specs.declared.event.Turned.{Turned}
 use Rattle.gr_peek.specs.declared.eye.PeekEnd.{PeekEnd}
 use Rattle.gr_peek.specs.declared.eye.PeekEnd.TheVariants as end
-use Rattle.gr_peek.specs.Entering.{Follows, HasEntered, IsDenied, IsEntered}
+use Rattle.gr_peek.specs.Entering.{Follows, IsDenied, IsEntered}
 use Rattle.gr_peek.specs.Views.{Watching}
+use Rattle.gr_peek.proofs.Entered.{follows_entered}
 use Rattle.gr_peek.proofs.Prefixes.{prefix_self, prefix_trans}
 
 pub follows_same : (w : Watching) → Follows w w
@@ -35,15 +36,6 @@ follows_learnt old new told e p = record {
   never_falls = subst (λ (w : Watching). old.denied ≤ w.denied) (sym e) (omega arith);
 }
 
--- an eye after a peek
-entered : (old new : Watching) → HasEntered old new → Follows old new
-entered old new h = record {
-  copy_is = h.copy_is;
-  knew = h.knew;
-  learnt = subst (IsPrefix old.told) (sym h.told_is) h.learnt;
-  never_falls = let e = h.denied_is in omega arith;
-}
-
 denied : (old new : Watching) → IsDenied old new → Follows old new
 denied old new h = record {
   copy_is = ap (λ (w : Watching). w.copy) h.rest;
@@ -53,8 +45,8 @@ denied old new h = record {
 }
 
 pub follows_peek : {T : Type 0} (r : Result T PeekEnd) (old new : Watching) → IsEntered r old new → Follows old new
-follows_peek (Ok x) old new h = entered old new h
-follows_peek (Err end.Memory) old new h = entered old new h
+follows_peek (Ok x) old new h = follows_entered old new h
+follows_peek (Err end.Memory) old new h = follows_entered old new h
 follows_peek (Err end.Denied) old new h = denied old new h
 
 -- what is noted is still learnt after a peek

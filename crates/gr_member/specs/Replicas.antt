@@ -4,10 +4,11 @@ use Rattle.logbook.specs.Pages.{Book}
 use Rattle.gr_history.specs.declared.deed.Deed.{Deed}
 use Rattle.gr_history.specs.declared.identity.Identity.{Identity}
 use Rattle.gr_history.specs.Recipients.{NamesMembers}
+use Rattle.gr_history.specs.Turned.{turned}
 use Rattle.gr_oql.specs.declared.event.Turned.{Turned}
 use Rattle.gr_peek.specs.Views.{Watching}
 use Rattle.gr_peek_law.specs.Turns.{turned_each}
-use Rattle.gr_shard.specs.View.{Account}
+use Rattle.gr_shard.specs.View.{Account, after_deed}
 use Rattle.gr_shard.specs.Prepared.{Gives}
 use Rattle.gr_shard.specs.declared.next.Came.{Came}
 use Rattle.gr_shard.specs.declared.next.Next.{Next}
@@ -21,6 +22,17 @@ pub record Replicated : Type 0 where
 
 abbrev pub replicated : Account → Book → Replicated
 replicated account copy = record { origin = record { id = account.id; opening = account.opening; copy = copy }; deeds = account.deeds }
+
+-- the keys that the newest of these deeds turned
+abbrev pub newest_turned : List Deed → List Turned
+newest_turned [] = []
+newest_turned (deed ∷ past) = turned deed past
+
+-- The shard added the deed that it adds where this is done and so answered.
+pub record Serves (old : Account) (to_do : Next) (came : Came) (new : Account) : Type 0 where
+  pub deed : Deed
+  pub added : new ≡ after_deed old deed
+  pub gives : Gives old.id old.opening (reverse old.deeds) to_do came deed
 
 -- One deed was added: the one that a shard adds where this is done and so answered.
 pub record Does (old : Replicated) (to_do : Next) (came : Came) (new : Replicated) : Type 0 where

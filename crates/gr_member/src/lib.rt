@@ -13,6 +13,7 @@ mod pass;
 mod plan;
 mod replica;
 mod rounds;
+mod serving;
 mod turns;
 mod watch;
 

@@ -20,12 +20,14 @@ use std::alloc::Global;
 use std::sync::Wait;
 
 impl Member {
-    /// A member with no deeds, and so many passes, of which the pass k has the number k.
+    /// A member with no deeds, and so many passes, of which the pass k has the number k. Where its copies
+    /// aren't shown it publishes nothing, which takes a third less time, and each peek is denied.
     pub fn new<R: Wait>(
         rt: &R,
         alloc: Global,
         plan: Plan,
         passes: u32,
+        shown: bool,
     ) -> Result<(Member, PassList), Memory>
         requires plan { IsPlan plan }
         requires some { 1 ≤ passes }
@@ -41,7 +43,7 @@ impl Member {
             return Err(Memory);
         };
         for shard in 0..plan.shards {
-            let Ok(opened) = open(rt, alloc, plan, shard, passes) else {
+            let Ok(opened) = open(rt, alloc, plan, shard, passes, shown) else {
                 undo(rt, locks, dealt);
                 return Err(Memory);
             };
@@ -70,6 +72,7 @@ fn open<R: Wait>(
     plan: Plan,
     shard: u8,
     passes: u32,
+    shown: bool,
 ) -> Result<Opened, Memory>
     requires plan { IsPlan plan }
     requires shard { shard < plan.shards }
@@ -85,7 +88,7 @@ fn open<R: Wait>(
         shard,
         shards: plan.shards,
     };
-    let (replica, eyes) = Replica::new(rt, alloc, id, plan.floor, passes)?;
+    let (replica, eyes) = Replica::new(rt, alloc, id, plan.floor, passes, shown)?;
     let name = replica.tell();
     let Ok(watches) = watches_of(alloc, &replica, eyes) else {
         replica.end(rt);

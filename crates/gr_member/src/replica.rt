@@ -10,6 +10,7 @@ ghost use Rattle.gr_shard.specs.Prepared.{Belongs};
 ghost use Rattle.gr_history.specs.Regions.{IsRegionOf};
 ghost use Rattle.gr_member.specs.Replicas.{Does};
 
+use crate::serving::{Newest, serve};
 use gr_history::{Deed, Identity, ShardRecord};
 use gr_peek::{CopyName, EyeList, Published, Told};
 use gr_shard::{Came, Next, Shard};
@@ -20,10 +21,10 @@ use std::marker::Model;
 use std::sync::Wait;
 
 /// What a turn keeps: a shard, and the copy in which the turned keys of its deeds are published. It is
-/// never dropped: `end` takes it apart. The shard stands in a box, since each turn moves what it keeps.
+/// never dropped: `end` takes it apart. Both stand in boxes, since each turn moves what it keeps.
 pub struct Replica {
     shard: Box<Shard>,
-    published: Published,
+    published: Box<Published>,
 }
 
 /// What stays of a replica: whose shard it is, the floor that it began with, and which copy stands beside
@@ -45,9 +46,9 @@ impl Model for Replica {
 
     ghost coded = { Prim.hlevel (codes, question_code) };
 
-    ghost view = { λ replica. replicated (box_value replica.shard) replica.published.copy };
+    ghost view = { λ replica. replicated (box_value replica.shard) (box_value replica.published).copy };
 
-    ghost invariant = { λ replica. replica.published.publications ≡ turned_each (reverse (box_value replica.shard).deeds) };
+    ghost invariant = { λ replica. (box_value replica.published).publications ≡ turned_each (reverse (box_value replica.shard).deeds) };
 }
 
 impl Kept for Replica {
@@ -65,13 +66,14 @@ impl Kept for Replica {
 }
 
 impl Replica {
-    // A shard with no deeds, and so many eyes of its copy.
+    // A shard with no deeds, and so many eyes of its copy, which is shown to them or isn't.
     pub(crate) fn new<R: Wait>(
         rt: &R,
         alloc: Global,
         id: Identity,
         floor: u64,
         eyes: u32,
+        shown: bool,
     ) -> Result<(Replica, EyeList), Memory>
         requires { IsPlace id floor }
         ensures id { IfOk result (λ made. made.0.origin.id ≡ id) }
@@ -81,8 +83,14 @@ impl Replica {
         ensures each { IfOk result (λ made. All (λ eye. eye ≡ new_eye made.0.origin.copy) made.1) }
     {
         let shard = Box::new(alloc, Shard::new(alloc, id, floor)?)?;
-        let (published, eyes) = Published::new(rt, alloc, eyes)?;
-        Ok((Replica { shard, published }, eyes))
+        let (published, eyes) = Published::new(rt, alloc, eyes, shown)?;
+        match Box::new(alloc, published) {
+            Ok(published) => Ok((Replica { shard, published }, eyes)),
+            Err(refused) => {
+                refused.value.end(rt);
+                Err(Memory)
+            }
+        }
     }
 
     // Adds one deed and publishes what it turns, or does neither where memory is refused.
@@ -99,10 +107,17 @@ impl Replica {
         ensures err { OnErr result (self.new.deeds ≡ self.old.deeds) }
     {
         let at = self.len() + 1;
-        let prepared = self.shard.prepare(alloc, next)?;
-        self.published.publish(rt, alloc, prepared.turned(), at)?;
-        let came = self.shard.commit(prepared);
-        // So that what the shard's type says of the new deed is known to the proof.
+        if self.published.is_shown() {
+            let prepared = self.shard.prepare(alloc, next)?;
+            self.published.publish(rt, alloc, prepared.turned(), at)?;
+            let came = self.shard.commit(prepared);
+            // So that what the shard's type says of the new deed is known to the proof.
+            let _ = self.shard.history();
+            return Ok(came);
+        }
+        let came = serve(&mut self.shard, alloc, next)?;
+        self.published
+            .count::<R, Shard, Newest>(rt, &self.shard, at);
         let _ = self.shard.history();
         Ok(came)
     }
@@ -125,7 +140,7 @@ impl Replica {
             shard: _,
             published,
         } = self;
-        published.end(rt);
+        Box::into_inner(published).end(rt);
     }
 
     // What the shard leaves.
@@ -137,7 +152,7 @@ impl Replica {
         ensures named { OnOk result (AllByRecursion (NamesMembers self.origin.id) (reverse self.deeds)) }
     {
         let Replica { shard, published } = self;
-        published.end(rt);
+        Box::into_inner(published).end(rt);
         // So that what the shard's type says of its history is known to the proof.
         let _ = shard.history();
         Box::into_inner(shard).into_record(alloc)

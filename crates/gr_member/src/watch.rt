@@ -72,15 +72,14 @@ impl Watch {
         peek(alloc, &mut self.eye, key)
     }
 
-    // Keeps the note of a turn that is out, and goes to where it ends.
+    // Keeps the note of a turn that is out, and knows what it tells.
     pub(crate) fn reach<R: Wait>(&mut self, rt: &R, note: Told)
         requires { note.copy ≡ self.old.eye.copy }
         ensures noted { self.new.noted ≡ note.publications }
         ensures known { self.new.eye.known ≡ note.publications }
         ensures follows { Follows self.old.eye self.new.eye }
     {
-        let at = note.at();
-        self.keep(note);
-        self.eye.reach(rt, at);
+        self.eye.reach(rt, &note);
+        self.note = note;
     }
 }

@@ -8,9 +8,11 @@ pub record Note : Type 0 where
   pub copy : Book
   pub publications : List (List Turned)
 
--- A published copy: which it is, what was published, and whether memory was refused. Nothing is published after that.
+-- A published copy: which it is, whether it is shown to eyes, what was published, and whether memory was refused. Nothing is published
+-- after that.
 pub record Publishing : Type 0 where
   pub copy : Book
+  pub shown : Bool
   pub publications : List (List Turned)
   pub halted : Bool
 

@@ -1,4 +1,4 @@
-ghost use Rattle.std.specs.Prelude.{◌≡◌, [], false, length, Some, All, IfOk, drop};
+ghost use Rattle.std.specs.Prelude.{◌≡◌, [], true, false, length, Some, All, IfOk, drop};
 ghost use Rattle.left_right.specs.Sides.{view};
 ghost use Rattle.gr_peek.specs.Entering.{new_eye};
 
@@ -53,10 +53,64 @@ fn open_eyes(
     Ok(list)
 }
 
+// Eyes of a copy that isn't shown.
+fn closed_eyes(alloc: Global, told: &Told, eyes: u32) -> Result<EyeList, Memory>
+    requires none { told.now.publications ≡ [] }
+    ensures count { IfOk result (λ list. length list ≡ eyes) }
+    ensures each { IfOk result (λ list. All (λ eye. eye ≡ new_eye told.now.copy) list) }
+{
+    let mut list = EyeList::new(alloc)?;
+    for _k in 0..eyes {
+        list.push(Eye {
+            reader: None,
+            known: told.again(),
+            told: told.again(),
+            denied: 0,
+        })?;
+    }
+    Ok(list)
+}
+
 impl Published {
-    /// A copy of which nothing is published, with so many eyes.
-    pub fn new<R: Wait>(rt: &R, alloc: Global, eyes: u32) -> Result<(Published, EyeList), Memory>
-        ensures none { IfOk result (λ made. (made.0.publications ≡ []) × (made.0.halted ≡ false)) }
+    /// A copy of which nothing is published, with so many eyes. Where it isn't shown they may not enter it,
+    /// and it keeps nothing to look at.
+    pub fn new<R: Wait>(
+        rt: &R,
+        alloc: Global,
+        eyes: u32,
+        shown: bool,
+    ) -> Result<(Published, EyeList), Memory>
+        ensures new { IfOk result (λ made. (made.0.shown ≡ shown) × (made.0.publications ≡ []) × (made.0.halted ≡ false)) }
+        ensures count { IfOk result (λ made. length made.1 ≡ eyes) }
+        ensures each { IfOk result (λ made. All (λ eye. eye ≡ new_eye made.0.copy) made.1) }
+    {
+        if shown {
+            Published::open(rt, alloc, eyes)
+        } else {
+            Published::unseen(alloc, eyes)
+        }
+    }
+
+    // One that isn't shown.
+    fn unseen(alloc: Global, eyes: u32) -> Result<(Published, EyeList), Memory>
+        ensures new { IfOk result (λ made. (made.0.shown ≡ false) × (made.0.publications ≡ []) × (made.0.halted ≡ false)) }
+        ensures count { IfOk result (λ made. length made.1 ≡ eyes) }
+        ensures each { IfOk result (λ made. All (λ eye. eye ≡ new_eye made.0.copy) made.1) }
+    {
+        let (told, head) = Told::open();
+        let list = closed_eyes(alloc, &told, eyes)?;
+        let published = Published {
+            writer: None,
+            head,
+            told,
+            halted: false,
+        };
+        Ok((published, list))
+    }
+
+    // One that is shown.
+    fn open<R: Wait>(rt: &R, alloc: Global, eyes: u32) -> Result<(Published, EyeList), Memory>
+        ensures new { IfOk result (λ made. (made.0.shown ≡ true) × (made.0.publications ≡ []) × (made.0.halted ≡ false)) }
         ensures count { IfOk result (λ made. length made.1 ≡ eyes) }
         ensures each { IfOk result (λ made. All (λ eye. eye ≡ new_eye made.0.copy) made.1) }
     {

@@ -3,20 +3,23 @@ ghost use Rattle.left_right.specs.Sides.{view as view_of};
 ghost use Rattle.gr_peek.specs.Rule.{after, IsShown};
 ghost use Rattle.gr_peek.specs.Writing.{steps_of, IsAt};
 
+use crate::log::Grow;
 use crate::rule::{See, Shows};
 use crate::store::{Step, Store};
 use crate::told::{CopyName, Head, Told};
 use gr_cq::Turned;
-use gr_value::Memory;
+use gr_value::{ItemList, Memory};
 use left_right::writer::Writer;
+use logbook::Plain;
 use std::alloc::{AllocError, Global};
 use std::marker::Model;
 use std::sync::Wait;
 
 pub(crate) type StoreWriter = Writer<Store, Step, Option<CopyName>, Shows>;
 
-/// What publishes. It is never dropped: `end` takes it apart. Contracts see which copy it is, the
-/// publications, the oldest first, and whether memory was refused, after which nothing is published.
+/// What publishes. It is never dropped: `end` takes it apart. Contracts see which copy it is, whether eyes
+/// are shown it, the publications, the oldest first, and whether memory was refused, after which nothing is
+/// published. A copy that isn't shown counts its publications alone.
 pub struct Published {
     pub(crate) writer: Option<StoreWriter>,
     pub(crate) head: Head,
@@ -25,7 +28,7 @@ pub struct Published {
 }
 
 impl Model for Published {
-    ghost use Rattle.std.specs.Prelude.{◌≡◌, drop, IsSomeAnd};
+    ghost use Rattle.std.specs.Prelude.{◌≡◌, drop, is_some, IfSome};
     ghost use Rattle.left_right.specs.Sides.{view as view_of};
     ghost use Rattle.gr_peek.specs.Views.{Publishing};
     ghost use Rattle.gr_peek.specs.Log.{head_of};
@@ -33,10 +36,10 @@ impl Model for Published {
 
     ghost Value = { Publishing };
 
-    ghost view = { λ p. record { copy = p.told.copy; publications = p.told.publications; halted = p.halted } };
+    ghost view = { λ p. record { copy = p.told.copy; shown = is_some p.writer; publications = p.told.publications; halted = p.halted } };
 
     ghost invariant = { λ p. (p.head ≡ head_of p.told.copy)
-        × IsSomeAnd p.writer (λ w. IsAt p.told w.desk.shown.value (view_of w.desk.place) (drop w.behind w.log.items) p.halted) };
+        × IfSome p.writer (λ w. IsAt p.told w.desk.shown.value (view_of w.desk.place) (drop w.behind w.log.items) p.halted) };
 }
 
 fn append(writer: &mut StoreWriter, step: Step) -> Result<(), Memory>
@@ -113,6 +116,13 @@ fn put_back(place: &mut Option<StoreWriter>, writer: StoreWriter)
 }
 
 impl Published {
+    /// Whether eyes are shown it.
+    pub fn is_shown(&self) -> bool
+        ensures { result ≡ self.now.shown }
+    {
+        self.writer.is_some()
+    }
+
     /// Adds one publication, the turned keys of a deed, which is the `at`-th. Where memory is refused
     /// what was published stays, and nothing is published any more.
     pub fn publish<R: Wait>(
@@ -130,12 +140,13 @@ impl Published {
         if self.halted {
             return Err(Memory);
         }
-        let Some(told) = self.told.grown(&self.head, turned, at) else {
+        let Some(told) = self.told.grown::<&[Turned], Grow>(&self.head, &turned, at) else {
             self.halted = true;
             return Err(Memory);
         };
         let Some(writer) = self.writer.take() else {
-            unreachable!()
+            self.told = told;
+            return Ok(());
         };
         let (writer, sent) = publish_on(writer, rt, alloc, turned, told.again());
         put_back(&mut self.writer, writer);
@@ -149,6 +160,28 @@ impl Published {
                 Err(Memory)
             }
         }
+    }
+
+    /// Counts one publication more, the `at`-th, of a copy that isn't shown: the turned keys that are asked of
+    /// what is at hand, for contracts alone. This takes no memory, and it never waits, since nobody else counts.
+    pub fn count<R: Wait, X, M: Plain<X, ItemList<Turned>, u64>>(
+        &mut self,
+        rt: &R,
+        about: &X,
+        at: u64,
+    )
+        requires unseen { self.old.shown ≡ false }
+        requires next { at ≡ length self.old.publications + 1 }
+        requires plain { M.state about.now ≡ None }
+        ensures { self.new ≡ record self.old { publications = self.old.publications ++ M.ask about.now ∷ [] } }
+    {
+        for _ in rt.forever() {
+            if let Some(told) = self.told.grown::<X, M>(&self.head, about, at) {
+                self.told = told;
+                return;
+            }
+        }
+        unreachable!()
     }
 
     /// A note of all that was published so far.
@@ -166,7 +199,8 @@ impl Published {
             told: _told,
             halted: _,
         } = self;
-        let Some(writer) = writer else { unreachable!() };
-        drop(writer.take(rt));
+        if let Some(writer) = writer {
+            drop(writer.take(rt));
+        }
     }
 }

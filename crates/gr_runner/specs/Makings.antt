@@ -1,5 +1,8 @@
 -- The members of a run, as they are made.
-use Rattle.std.specs.Prelude.{◌≡◌, ℕ, suc, ◌+◌, ◌-◌, ◌≤◌, ◌<◌, ◌==◌, List, length, count_by, slice_index_or}
+use Rattle.std.specs.Prelude.{◌≡◌, ℕ, suc, ◌+◌, ◌-◌, ◌≤◌, ◌<◌, ◌==◌, Bool, true, false, List, length, count_by, slice_index_or}
+use Rattle.gr_script.specs.declared.line.Act.TheVariants as act
+use Rattle.gr_script.specs.declared.line.Line.{Line}
+use Rattle.gr_script.specs.declared.line.Line.TheVariants as line
 use Rattle.gr_script.specs.Rules.{Heading}
 use Rattle.gr_member.specs.declared.plan.Plan.{Plan}
 use Rattle.gr_member.specs.Seats.{Place}
@@ -13,6 +16,15 @@ plan_of h member = record { member = member; members = h.members; founders = h.f
 -- how many passes it has: one that is kept at it, its thread's, one for each client at it, and one for each member that may join
 abbrev pub passes_at : Heading → ℕ → ℕ
 passes_at h member = 2 + count_by (λ at. at == member) h.clients + (h.members - h.founders)
+
+-- whether a client peeks on the line
+abbrev pub is_peek : Line → Bool
+is_peek (line.Step client seq (act.Peek key)) = true
+is_peek _ = false
+
+-- how often clients peek
+abbrev pub peeks : List Line → ℕ
+peeks lines = count_by is_peek lines
 
 -- The member was made by this plan, with so many passes.
 pub record IsMade (plan : Plan) (passes : ℕ) (house : House) (made : List (List Place)) : Type 0 where

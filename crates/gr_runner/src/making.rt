@@ -3,16 +3,17 @@ ghost use Rattle.std.specs.Prelude.{◌≡◌, ◌==◌, ◌≤◌, count_by, If
 ghost use Rattle.gr_script.specs.Rules.{IsMember};
 ghost use Rattle.gr_script.specs.Scripts.{heading_of};
 ghost use Rattle.gr_member.specs.Plans.{IsPlan};
-ghost use Rattle.gr_runner.specs.Makings.{AreMade, IsMade, passes_at as passes_planned, plan_of as plan_for};
+ghost use Rattle.gr_runner.specs.Makings.{AreMade, IsMade, is_peek, passes_at as passes_planned, peeks, plan_of as plan_for};
 
 use crate::undoing::undo;
 use gr_member::{Member, PassList, Plan};
-use gr_script::Script;
+use gr_script::{Act, Line, Script};
 use gr_value::Memory;
 use std::alloc::Global;
 use std::sync::Wait;
 
-/// The script's members, member 1 first, with no deeds, and the passes of each.
+/// The script's members, member 1 first, with no deeds, and the passes of each. Where no client peeks they
+/// show nothing, which more than halves what a turn takes.
 pub fn make<R: Wait>(
     rt: &R,
     alloc: Global,
@@ -26,8 +27,9 @@ pub fn make<R: Wait>(
         members.destroy_empty();
         return Err(Memory);
     };
+    let shown = peeks_of(script) != 0;
     for k in 0..script.members {
-        let Ok(made) = make_one(rt, alloc, script, k + 1) else {
+        let Ok(made) = make_one(rt, alloc, script, k + 1, shown) else {
             undo(rt, members, passes);
             return Err(Memory);
         };
@@ -44,13 +46,40 @@ fn make_one<R: Wait>(
     alloc: Global,
     script: &Script,
     member: u8,
+    shown: bool,
 ) -> Result<(Member, PassList), Memory>
     requires { IsMember (heading_of script.now) member }
     ensures { IfOk result (λ made. IsMade (plan_for (heading_of script.now) member) (passes_planned (heading_of script.now) member)
         made.0 made.1) }
 {
     let passes = passes_at(script, member);
-    Ok(Member::new(rt, alloc, plan_of(script, member), passes)?)
+    let plan = plan_of(script, member);
+    Ok(Member::new(rt, alloc, plan, passes, shown)?)
+}
+
+// How many lines have a client peek.
+fn peeks_of(script: &Script) -> usize
+    ensures { result ≡ peeks script.now.lines }
+{
+    let mut count = 0;
+    for line in script.lines.as_slice() {
+        if is_peek(line) {
+            count += 1;
+        }
+    }
+    count
+}
+
+fn is_peek(line: &Line) -> bool
+    ensures { result ≡ is_peek line.now }
+{
+    match line {
+        Line::Step { act, .. } => match act {
+            Act::Peek(_) => true,
+            _ => false,
+        },
+        _ => false,
+    }
 }
 
 // What a member is planned to be.

@@ -78,7 +78,7 @@ fn publish_three<R: Wait>(rt: &R, alloc: Global, copy: &mut Published) -> Result
 #[test]
 fn a_copy_is_peeked(rt: HostRuntime) -> Result<(), Fail> {
     let alloc = rt.alloc();
-    let Ok((mut copy, mut eyes)) = Published::new(&rt, alloc, 2) else {
+    let Ok((mut copy, mut eyes)) = Published::new(&rt, alloc, 2, true) else {
         panic!(rt; "no memory")
     };
     let (Some(mut one), Some(mut two)) = (eyes.pop(), eyes.pop()) else {
@@ -90,7 +90,7 @@ fn a_copy_is_peeked(rt: HostRuntime) -> Result<(), Fail> {
     }
     let told = copy.tell();
     one.learn(&told);
-    two.reach(&rt, 3);
+    one.reach(&rt, &told);
     let gone = peeked(alloc, &mut one, b'a');
     let stands = peeked(alloc, &mut two, b'b');
     copy.end(&rt);
@@ -99,5 +99,20 @@ fn a_copy_is_peeked(rt: HostRuntime) -> Result<(), Fail> {
     assert_eq!(rt; gone, Ok((None, 3)));
     assert_eq!(rt; stands, Ok((Some(2), 3)));
     assert_eq!(rt; peeked(alloc, &mut two, b'b'), Err(PeekEnd::Denied));
+    Ok(())
+}
+
+#[test]
+fn a_copy_that_is_not_shown_is_not_peeked(rt: HostRuntime) -> Result<(), Fail> {
+    let alloc = rt.alloc();
+    let Ok((copy, mut eyes)) = Published::new(&rt, alloc, 1, false) else {
+        panic!(rt; "no memory")
+    };
+    let Some(mut eye) = eyes.pop() else {
+        panic!(rt; "no eye")
+    };
+    let denied = peeked(alloc, &mut eye, b'a');
+    copy.end(&rt);
+    assert_eq!(rt; denied, Err(PeekEnd::Denied));
     Ok(())
 }

@@ -1,9 +1,10 @@
-ghost use Rattle.std.specs.Prelude.{◌≡◌, ◌≤◌, length, Some, IfOk, IfErr, option_and_then, option_copied};
+ghost use Rattle.std.specs.Prelude.{◌≡◌, length, Some, IfOk, IfErr};
 ghost use mathlib.Core.List.{IsPrefix};
 ghost use Rattle.left_right.specs.Sides.{view};
 ghost use Rattle.gr_peek.specs.Publications.{present_after};
 ghost use Rattle.gr_peek.specs.Rule.{IsShown};
-ghost use Rattle.gr_peek.specs.Entering.{IsEntered, Follows, longer};
+ghost use Rattle.gr_peek.specs.declared.eye.PeekEnd.TheVariants as end;
+ghost use Rattle.gr_peek.specs.Entering.{IsDenied, IsEntered, Follows, longer};
 
 use super::{Eye, PeekEnd, Seen, StoreReader};
 use crate::rule::{See, Shows};
@@ -50,22 +51,19 @@ impl Eye {
         }
     }
 
-    // Enters once, and looks at the key, where one is asked for.
-    fn enter(&mut self, asked: Option<(Global, &Key)>) -> Result<Option<Value>, PeekEnd>
-        ensures seen { IfOk result (λ value. value ≡ option_and_then (λ a. present_after self.new.known a.1.now) asked.entry) }
+    // Enters once, and looks at the key.
+    fn enter(&mut self, alloc: Global, key: &Key) -> Result<Option<Value>, PeekEnd>
+        ensures seen { IfOk result (λ value. value ≡ present_after self.new.known key.now) }
         ensures entered { IsEntered result self.old self.new }
         ensures stays { self.new.copy ≡ self.old.copy }
     {
         let Some(reader) = self.reader.take() else {
-            unreachable!()
+            return Err(self.deny());
         };
         match enter(reader, &self.told) {
             Ok(reading) => {
                 let store = reading.get();
-                let value = match asked {
-                    Some((alloc, key)) => store.value(alloc, key),
-                    None => Ok(None),
-                };
+                let value = store.value(alloc, key);
                 self.known = store.told.again();
                 self.told = store.told.again();
                 self.reader = Some(reading.leave());
@@ -76,21 +74,31 @@ impl Eye {
             }
             Err(reader) => {
                 self.reader = Some(reader);
-                self.denied = self.denied.saturating_add(1);
-                Err(PeekEnd::Denied)
+                Err(self.deny())
             }
         }
     }
 
-    /// Enters again and again, until it knows just so many publications.
-    pub fn reach<R: Wait>(&mut self, rt: &R, at: u64)
-        ensures reached { length self.new.known ≡ at }
-        ensures told { self.new.told ≡ self.new.known }
-        ensures learnt { IsPrefix self.old.told self.new.known }
+    // Counts an entering that was refused.
+    fn deny(&mut self) -> PeekEnd
+        ensures end { result ≡ end.Denied }
+        ensures denied { IsDenied self.old self.new }
+    {
+        self.denied = self.denied.saturating_add(1);
+        PeekEnd::Denied
+    }
+
+    /// Takes over a note of all that was published, without an entering. It waits where more was told than
+    /// the note tells, which never happens.
+    pub fn reach<R: Wait>(&mut self, rt: &R, note: &Told)
+        requires { note.now.copy ≡ self.old.copy }
+        ensures reached { self.new ≡ record self.old { known = note.now.publications; told = note.now.publications } }
         ensures follows { Follows self.old self.new }
     {
         for _ in rt.forever() {
-            if self.enter(None).is_ok() && self.known.at() == at {
+            if note.reaches(&self.told) {
+                self.known = note.again();
+                self.told = note.again();
                 return;
             }
             thread::yield_now();
@@ -107,7 +115,7 @@ pub fn peek(alloc: Global, eye: &mut Eye, key: &Key) -> Result<Seen, PeekEnd>
     ensures entered { IsEntered result eye.old eye.new }
     ensures stays { eye.new.copy ≡ eye.old.copy }
 {
-    let value = eye.enter(Some((alloc, key)))?;
+    let value = eye.enter(alloc, key)?;
     Ok(Seen {
         value,
         at: eye.known.at(),

@@ -182,7 +182,7 @@ fn each_call_stands_once_and_each_peek_is_of_its_place(rt: HostRuntime) -> Resul
     let Ok(room) = Vec::with_capacity(alloc, PASSES as usize) else {
         panic!(rt; "no memory")
     };
-    let Ok((member, passes)) = Member::new(&rt, alloc, plan(), PASSES) else {
+    let Ok((member, passes)) = Member::new(&rt, alloc, plan(), PASSES, true) else {
         panic!(rt; "no memory")
     };
     let mut slots = slots_of(alloc, &member, room, passes);

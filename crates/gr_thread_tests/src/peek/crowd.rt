@@ -123,9 +123,8 @@ fn all_at_once<R: Threads + Wait + Sync>(
     );
 }
 
-// Goes to the last place, and says whether each key has what that gives it.
-fn is_last<R: Wait>(rt: &R, alloc: Global, eye: &mut Eye) -> bool {
-    eye.reach(rt, PUBLICATIONS);
+// Whether each key has what the last place gives it.
+fn is_last(alloc: Global, eye: &mut Eye) -> bool {
     let mut good = true;
     for number in 0..4 {
         good = is_due(alloc, eye, number, PUBLICATIONS) == Some(PUBLICATIONS) && good;
@@ -136,7 +135,7 @@ fn is_last<R: Wait>(rt: &R, alloc: Global, eye: &mut Eye) -> bool {
 #[test]
 fn each_peek_is_of_the_place_that_it_names(rt: HostRuntime) -> Result<(), Fail> {
     let alloc = rt.alloc();
-    let Ok((mut copy, eyes)) = Published::new(&rt, alloc, 8) else {
+    let Ok((mut copy, eyes)) = Published::new(&rt, alloc, 8, true) else {
         panic!(rt; "no memory")
     };
     let Some(mut slots) = slots_of(alloc, eyes) else {
@@ -148,7 +147,7 @@ fn each_peek_is_of_the_place_that_it_names(rt: HostRuntime) -> Result<(), Fail> 
     all_at_once(&rt, alloc, &mut copy, &mut first, slots.as_mut_slice());
     assert!(rt; first.good == PUBLICATIONS);
     assert!(rt; slots.len() == 7 && slots.iter().all(|slot| slot.good == PEEKS));
-    assert!(rt; is_last(&rt, alloc, &mut first.eye));
+    assert!(rt; is_last(alloc, &mut first.eye));
     copy.end(&rt);
     Ok(())
 }
