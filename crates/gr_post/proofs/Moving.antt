@@ -1,5 +1,5 @@
 -- What waited was sent.
-use Rattle.std.proofs.Common.{◌≡◌, ◌≤◌, ℕ, List, ◌∷◌, ◌++◌, Option, sym, ap, ◌∙◌, subst}
+use Rattle.std.proofs.Common.{◌≡◌, ◌≤◌, ℕ, List, [], ◌∷◌, ◌++◌, Option, refl, sym, ap, ◌∙◌, subst, append-nil}
 use Rattle.gr_post.specs.declared.mail.Mail.{Mail}
 use Rattle.gr_post.specs.declared.fate.Held.{Held}
 use Rattle.gr_post.specs.declared.fate.Fate.{Fate}
@@ -22,4 +22,21 @@ full_moves pass before after waited left behind now held0 held ready0 ready gone
       λ i. record { table = table i; number = number i; sent = sent i; refused = after.refused };
   rises = subst (λ (n : ℕ). n ≤ after.refused) (ap (λ (s : Sending). s.refused) b) g;
   held = c;
+}
+
+-- the inbox was full at once
+pub refused_moves : (pass after : Sending) (waiting : List Mail) (held : List Held) (ready : Option Fate) → after ≡ refused_by pass
+    → pass.refused ≤ after.refused
+    → Moves (record { pass = pass; waiting = waiting; held = held; ready = ready })
+    (record { pass = after; waiting = waiting; held = held; ready = ready })
+refused_moves pass after waiting held ready a b = record {
+  gone = [];
+  waiting = refl;
+  pass =
+      let table = ap (λ (s : Sending). s.table) a in
+      let number = ap (λ (s : Sending). s.number) a in
+      let sent = ap (λ (s : Sending). s.sent) a ∙ sym (append-nil pass.sent) in
+      λ i. record { table = table i; number = number i; sent = sent i; refused = after.refused };
+  rises = b;
+  held = refl;
 }

@@ -1,4 +1,4 @@
-ghost use Rattle.std.specs.Prelude.{◌≡◌, ◌≤◌, ◌<◌, ℕ, [], length, slice_index_or, true, IfNone, IfSome, IfOk, IfErr};
+ghost use Rattle.std.specs.Prelude.{◌≡◌, ◌≤◌, ◌<◌, ℕ, [], length, slice_index_or, true, false, IfNone, IfSome, IfOk, IfErr};
 ghost use Rattle.crossbeam_queue.specs.Fifo.{Held};
 ghost use Rattle.gr_post.specs.Mails.{EndsWith, of, has_end, IsClosed};
 ghost use Rattle.gr_post.specs.Passes.{Sending, sender_of, taker_of, sent_by, refused_by, taken_by, met_by, IsInOrder, HasAll};
@@ -66,6 +66,21 @@ impl Inbox {
                 Err(Full { mail: posted.mail })
             }
         }
+    }
+
+    // Whether the inbox is full at a step of the call, which the pass counts then.
+    pub(crate) fn refuses(&self, pass: &mut SendPass) -> bool
+        requires { pass.old.table ≡ self.now.table }
+        ensures yes { result ≡ true → (pass.new ≡ refused_by pass.old) × Rose pass.old.refused pass.new.refused }
+        ensures no { result ≡ false → pass.new ≡ pass.old }
+        ensures never_falls { pass.old.refused ≤ pass.new.refused }
+        ensures full { result ≡ true → Held self.now.capacity (λ mails. EndsWith pass.old.sent (of pass.old.number mails)) }
+    {
+        let full = self.queue.is_full_as::<Sends>(&mut pass.token);
+        if full {
+            pass.refused = pass.refused.saturating_add(1);
+        }
+        full
     }
 
     /// Takes the first mail. It may wait for other threads that are in the middle of a call.

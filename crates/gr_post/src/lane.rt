@@ -217,8 +217,21 @@ impl Lane {
         release_all(&mut self.waiting, &mut self.held);
     }
 
-    // Sends what waits until the inbox is full, and says whether all was sent.
+    // Sends what waits until the inbox is full, and says whether all was sent. Where it's full at once no mail
+    // is moved.
     pub(crate) fn send<R: Wait + Sync>(&mut self, rt: &R, inbox: &Inbox) -> bool
+        requires { self.old.pass.table ≡ inbox.now.table }
+        ensures moves { Moves self.old self.new }
+        ensures all { result ≡ is_none self.new.waiting }
+        ensures refused { result ≡ false → Rose self.old.pass.refused self.new.pass.refused }
+    {
+        if !self.waiting.is_empty() && inbox.refuses(&mut self.pass) {
+            return false;
+        }
+        self.send_until_full(rt, inbox)
+    }
+
+    fn send_until_full<R: Wait + Sync>(&mut self, rt: &R, inbox: &Inbox) -> bool
         requires { self.old.pass.table ≡ inbox.now.table }
         ensures moves { Moves self.old self.new }
         ensures all { result ≡ is_none self.new.waiting }

@@ -2,7 +2,7 @@ use Rattle.std.proofs.Common.{◌≡◌, ◌++◌, List}
 use Rattle.std.specs.VecDeque.{deque_len}
 use Rattle.gr_post.specs.declared.mail.Mail.{Mail}
 use Rattle.gr_post.specs.Lanes.{HasRoom}
-use Rattle.gr_post.proofs.lane.Lane.send.Given as goal
+use Rattle.gr_post.proofs.lane.Lane.send_until_full.Given as goal
 
 abbrev pub invariant-loop-mail : goal.invariant-loop-mail
 invariant-loop-mail g l = (gone : List Mail) × (l.initial.self-inside.waiting.items ≡ gone ++ l.self-inside.waiting.items)
