@@ -59,6 +59,9 @@ impl Inbox {
             from: pass.number,
             mail,
         };
+        let Err(posted) = self.queue.try_push_as::<Sends>(&mut pass.token, posted) else {
+            return Ok(());
+        };
         match self.queue.push_as::<Sends, R>(rt, &mut pass.token, posted) {
             Ok(()) => Ok(()),
             Err(posted) => {
