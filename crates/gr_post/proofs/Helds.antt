@@ -1,6 +1,7 @@
 -- What is held back, and the room for it.
-use Rattle.std.proofs.Common.{◌≡◌, ◌≢◌, ◌+◌, ◌-◌, ◌≤◌, ◌<◌, ◌==◌, ℕ, true, false, List, [], ◌∷◌, ◌++◌, length, Option, Some, None}
-use Rattle.std.proofs.Common.{sym, refl, ap, ◌∙◌, append_assoc, append-nil, subst, length-append, arith, if◌then◌else◌}
+use Rattle.std.proofs.Common.{◌≡◌, ◌≢◌, ◌+◌, ◌-◌, ◌≤◌, ◌<◌, ◌==◌, ℕ, Bool, true, false, List, [], ◌∷◌, ◌++◌, length, Option, Some, None}
+use Rattle.std.proofs.Common.{slice_index_or, slice_set, sym, refl, ap, ◌∙◌, append_assoc, append-nil, subst, length-append, arith, if◌then◌else◌}
+use Rattle.std.proofs.lemmas.Bool.Decides.{nat_tests}
 use Rattle.gr_post.specs.declared.fate.Held.{Held}
 use Rattle.gr_post.specs.declared.fate.Fate.{Fate}
 use Rattle.gr_post.specs.declared.fate.Fate.TheVariants.{Once, Twice, Hold, Last}
@@ -67,21 +68,47 @@ room_less fewer waiting late held (Some (Hold one)) less same r =
     record { released = (let a = r.released in omega arith); held_back = r.held_back; set_aside = r.set_aside }
 room_less fewer waiting late held (Some Last) less same r = omega arith
 
-cons_same : {A : Type 0} (x y : A) (xs ys : List A) → x ∷ xs ≡ y ∷ ys → (x ≡ y) × (xs ≡ ys)
-cons_same x y xs ys e = (cc, cc)
+-- one of a list is set, and read
+pub read_inside : {A : Type 0} (before : List A) (one d : A) (behind : List A) → slice_index_or (before ++ one ∷ behind) (length before) d ≡ one
+read_inside [] one d behind = refl
+read_inside (x ∷ before) one d behind = read_inside before one d behind
 
--- one more of those that are left was looked at
-pub one_more : (seen left all : List Held) (one : Held) (behind now : List Held) → seen ++ left ≡ all → length seen < length all
-    → left ++ kept seen ≡ one ∷ behind → now ≡ behind ++ kept (one ∷ [])
-    → (rest : List Held) × ((seen ++ one ∷ []) ++ rest ≡ all) × (now ≡ rest ++ kept (seen ++ one ∷ []))
-one_more seen [] all one behind now e less head is = let n = length-append seen [] in let m = ap length e in absurd (omega arith)
-one_more seen (t ∷ ts) all one behind now e less head is =
-    let s = cons_same t one (ts ++ kept seen) behind head in (
-      ts,
-      append_assoc seen (one ∷ []) ts ∙ ap (λ (h : Held). seen ++ h ∷ ts) (sym s.0) ∙ e,
-      is ∙ ap (λ (l : List Held). l ++ kept (one ∷ [])) (sym s.1) ∙ append_assoc ts (kept seen) (kept (one ∷ []))
-          ∙ ap (λ (l : List Held). ts ++ l) (sym (kept-append seen (one ∷ []))),
-    )
+pub set_inside : {A : Type 0} (before : List A) (one other : A) (behind : List A)
+    → slice_set (before ++ one ∷ behind) (length before) other ≡ before ++ other ∷ behind
+set_inside [] one other behind = refl
+set_inside (x ∷ before) one other behind = ap (λ l. x ∷ l) (set_inside before one other behind)
+
+is_one : (n : ℕ) → (n == 1) ≡ true → n ≡ 1
+is_one n e = grind (arith, nat_tests)
+
+other_than_one : (n : ℕ) → n ≢ 1 → (test : Bool) → (n == 1) ≡ test → (n == 1) ≡ false
+other_than_one n other true e = absurd (other (is_one n e))
+other_than_one n other false e = e
+
+-- what is kept where a mail isn't due, and is counted down
+pub counted : (xs before : List Held) (place : ℕ) (one now read : Held) (behind : List Held) (left : ℕ) → xs ≡ before ++ one ∷ behind
+    → place ≡ length before → now ≡ slice_index_or xs place now → read ≡ slice_index_or xs place read → read.left ≢ 1
+    → left ≡ read.left - 1
+    → slice_set xs place (record { mail = now.mail; left = left }) ≡ before ++ (kept (one ∷ []) ++ behind)
+counted xs before place one now read behind left is at first second other less =
+    let same_now : now ≡ one = first ∙ ap (λ l. slice_index_or l place now) is ∙ ap (λ n. slice_index_or (before ++ one ∷ behind) n now) at
+    ∙ read_inside before one now behind in
+    let same_read : read ≡ one = second ∙ ap (λ l. slice_index_or l place read) is
+    ∙ ap (λ n. slice_index_or (before ++ one ∷ behind) n read) at ∙ read_inside before one read behind in
+    let there : Held = record one { left = one.left - 1 } in
+    let other_one : (one.left == 1) ≡ false = other_than_one one.left (subst (λ (h : Held). h.left ≢ 1) same_read other) (one.left == 1) refl in
+    let made : (let m : Held = record { mail = now.mail; left = left } in m) ≡ there =
+    λ i. record { mail = (same_now i).mail; left = (less ∙ ap (λ (h : Held). h.left - 1) same_read) i } in
+    ap (λ l. slice_set l place (record { mail = now.mail; left = left })) is
+    ∙ ap (λ n. slice_set (before ++ one ∷ behind) n (record { mail = now.mail; left = left })) at
+    ∙ set_inside before one (record { mail = now.mail; left = left }) behind ∙ ap (λ (h : Held). before ++ h ∷ behind) made
+    ∙ ap (λ (b : Bool). before ++ ((if b then [] else there ∷ []) ++ behind)) (sym other_one)
+
+-- the first of those that are left
+pub first_left : (before left : List Held) → length before < length (before ++ left)
+    → (one : Held) × (behind : List Held) × (left ≡ one ∷ behind)
+first_left before [] less = let n = length-append before [] in absurd (omega arith)
+first_left before (one ∷ behind) less = (one, behind, refl)
 
 -- where a mail is to be held back, there is room for it
 pub room_later : (waiting late held : Filled) (ready : Option Fate) (fate : Fate) (one : Held) → ready ≡ Some fate → one ∷ [] ≡

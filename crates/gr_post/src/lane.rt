@@ -1,4 +1,4 @@
-ghost use Rattle.std.specs.Prelude.{◌≡◌, ◌++◌, ◌+◌, ◌≤◌, ◌<◌, [], ◌∷◌, Some, None, false, IfOk, OnErr, length};
+ghost use Rattle.std.specs.Prelude.{◌≡◌, ◌++◌, ◌+◌, ◌≤◌, ◌<◌, List, [], ◌∷◌, Some, None, true, false, IfOk, OnErr, length};
 ghost use Rattle.std.specs.Option.{option_to_list};
 ghost use Rattle.std.specs.VecDeque.{deque_len, deque_capacity};
 ghost use Rattle.gr_post.specs.declared.mail.Mail.TheVariants.{End};
@@ -40,23 +40,32 @@ impl Model for Lane {
     ghost invariant = { λ lane. HasRoom lane.waiting lane.late lane.held lane.ready };
 }
 
-// Releases one mail if it is due, and else counts down for it.
-fn pass_on(one: Held, waiting: &mut VecDeque<Mail>, held: &mut VecDeque<Held>)
-    requires waiting { deque_len waiting.old < deque_capacity waiting.old }
-    requires held { deque_len held.old < deque_capacity held.old }
-    ensures waiting { waiting.new.items ≡ waiting.old.items ++ due (one ∷ []) }
-    ensures held { held.new.items ≡ held.old.items ++ kept (one ∷ []) }
-    ensures one { deque_len waiting.new + deque_len held.new ≡ deque_len waiting.old + deque_len held.old + 1 }
-    ensures fewer { deque_len held.new ≤ deque_len held.old + 1 }
+// Releases the mail at a place if it is due, and else counts down for it. Gives the next place to look at.
+fn count_down(place: usize, waiting: &mut VecDeque<Mail>, held: &mut VecDeque<Held>) -> usize
+    requires place { place < deque_len held.old }
+    requires room { deque_len waiting.old < deque_capacity waiting.old }
+    ensures released { (before : List Held) (one : Held) (behind : List Held) → held.old.items ≡ before ++ one ∷ behind → place ≡ length before →
+        waiting.new.items ≡ waiting.old.items ++ due (one ∷ []) }
+    ensures held { (before : List Held) (one : Held) (behind : List Held) → held.old.items ≡ before ++ one ∷ behind → place ≡ length before →
+        held.new.items ≡ before ++ (kept (one ∷ []) ++ behind) }
+    ensures next { (before : List Held) (one : Held) (behind : List Held) → held.old.items ≡ before ++ one ∷ behind → place ≡ length before →
+        result ≡ place + length (kept (one ∷ [])) }
+    ensures len { deque_len waiting.new + deque_len held.new ≡ deque_len waiting.old + deque_len held.old }
+    ensures left { deque_len held.new + (place + 1) ≡ deque_len held.old + result }
+    ensures fewer { deque_len held.new ≤ deque_len held.old }
     ensures waiting_room { deque_capacity waiting.new ≡ deque_capacity waiting.old }
     ensures held_room { deque_capacity held.new ≡ deque_capacity held.old }
 {
-    if one.left == 1 {
+    let left = held[place].left;
+    if left == 1 {
+        let Some(one) = held.remove(place) else {
+            unreachable!()
+        };
         waiting.push_back_reserved(one.mail);
-    } else {
-        let left = one.left.saturating_sub(1);
-        held.push_back_reserved(Held { left, ..one });
+        return place;
     }
+    held[place].left = left.saturating_sub(1);
+    place + 1
 }
 
 // Releases the mails that are due, and counts down for the others.
@@ -68,11 +77,20 @@ fn release_due(waiting: &mut VecDeque<Mail>, held: &mut VecDeque<Held>)
     ensures waiting_room { deque_capacity waiting.new ≡ deque_capacity waiting.old }
     ensures held_room { deque_capacity held.new ≡ deque_capacity held.old }
 {
-    for _ in 0..held.len() {
-        let Some(one) = held.pop_front() else {
-            unreachable!()
-        };
-        pass_on(one, waiting, held);
+    let mut place = 0;
+    while place < held.len() {
+        place = count_down(place, waiting, held);
+    }
+}
+
+// Whether the first of what is held back is held to the end.
+fn is_late(held: &VecDeque<Held>) -> bool
+    ensures late { (one : Held) (behind : List Held) → held.now.items ≡ one ∷ behind → result ≡ true → one.left ≡ 0 }
+    ensures some { result ≡ true → 0 < deque_len held.now }
+{
+    match held.front() {
+        Some(one) => one.left == 0,
+        None => false,
     }
 }
 
@@ -84,11 +102,10 @@ fn set_aside(late: &mut VecDeque<Mail>, held: &mut VecDeque<Held>)
     ensures late_room { deque_capacity late.new ≡ deque_capacity late.old }
     ensures held_room { deque_capacity held.new ≡ deque_capacity held.old }
 {
-    while let Some(one) = held.pop_front() {
-        if one.left != 0 {
-            held.push_front_reserved(one);
-            return;
-        }
+    while is_late(held) {
+        let Some(one) = held.pop_front() else {
+            unreachable!()
+        };
         late.push_back_reserved(one.mail);
     }
 }
@@ -117,6 +134,20 @@ fn release_all(waiting: &mut VecDeque<Mail>, held: &mut VecDeque<Held>)
         waiting.push_back_reserved(one.mail);
     }
     waiting.push_back_reserved(Mail::End);
+}
+
+// Makes room for so many mails, where there isn't enough.
+#[inline(always)]
+fn make_room(mails: &mut VecDeque<Mail>, count: usize) -> Result<(), Memory>
+    ensures items { mails.new.items ≡ mails.old.items }
+    ensures len { deque_len mails.new ≡ deque_len mails.old }
+    ensures room { deque_capacity mails.old ≤ deque_capacity mails.new }
+    ensures ok { IfOk result (λ _. deque_len mails.new + count ≤ deque_capacity mails.new) }
+{
+    if mails.capacity() - mails.len() < count {
+        mails.reserve(count)?;
+    }
+    Ok(())
 }
 
 // Puts what is released at once, and hands out what is held back.
@@ -159,8 +190,9 @@ impl Lane {
         ensures ok { IfOk result (λ _. self.new ≡ record self.old { ready = Some (fate mail.now number) }) }
         ensures err { OnErr result (self.new ≡ self.old) }
     {
-        self.waiting.reserve(self.held.len() + 2)?;
-        self.late.reserve(self.held.len() + 1)?;
+        let held = self.held.len();
+        make_room(&mut self.waiting, held + 2)?;
+        make_room(&mut self.late, held + 1)?;
         self.held.reserve(1)?;
         self.ready = Some(Fate::of(alloc, mail, number)?);
         Ok(())
@@ -180,13 +212,18 @@ impl Lane {
     pub(crate) fn skip(&mut self)
         ensures { self.new ≡ record self.old { ready = None } }
     {
-        self.ready = None;
+        if self.ready.is_some() {
+            self.ready = None;
+        }
     }
 
     // What was made ready happens.
     pub(crate) fn settle(&mut self)
         ensures { self.new ≡ settled self.old }
     {
+        if self.ready.is_none() {
+            return;
+        }
         let Some(fate) = self.ready.take() else {
             return;
         };
