@@ -1,4 +1,3 @@
-use Rattle.std.proofs.Common.{sym}
 use Rattle.gr_post.proofs.Helds.{counted}
 use Rattle.gr_post.proofs.lane.count_down.Goals as goal
 

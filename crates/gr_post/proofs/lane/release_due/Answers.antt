@@ -1,4 +1,4 @@
-use Rattle.std.proofs.Common.{◌≡◌, ◌++◌, ◌+◌, ◌∷◌, [], ℕ, List, sym, ap, ◌∙◌, append_assoc, arith, length, length-append}
+use Rattle.std.proofs.Common.{◌++◌, ◌+◌, ◌∷◌, [], ℕ, List, sym, ap, ◌∙◌, append_assoc, arith, length, length-append}
 use Rattle.gr_post.specs.declared.mail.Mail.{Mail}
 use Rattle.gr_post.specs.declared.fate.Held.{Held}
 use Rattle.gr_post.specs.Plan.{due, kept}

@@ -1,4 +1,4 @@
-use Rattle.std.proofs.Common.{◌≡◌, ap, sym, ◌∙◌}
+use Rattle.std.proofs.Common.{ap, sym, ◌∙◌}
 use Rattle.gr_post.specs.declared.mail.Posted.{Posted}
 use Rattle.gr_post.specs.declared.view.View.{View}
 use Rattle.gr_post.proofs.Steps.{sends, trails}
