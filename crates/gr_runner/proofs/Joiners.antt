@@ -19,7 +19,7 @@ use Rattle.gr_run_law.proofs.Closed.{join_line}
 use Rattle.gr_run_law.proofs.Genuine.{joins_few}
 use Rattle.gr_run_law.proofs.Lists.{count_cons, none_isnt_some, same_in_some, same_number, true_false}
 
-stands_among : (h : Heading) (past : List Line) (l : Line) → AllStand h past → Among l past → (earlier : List Line) × StandsAfter h earlier l
+pub stands_among : (h : Heading) (past : List Line) (l : Line) → AllStand h past → Among l past → (earlier : List Line) × StandsAfter h earlier l
 stands_among h [] l all a = absurd a
 stands_among h (first ∷ past) l all (inl is) = (past, subst (StandsAfter h past) (sym is) all.0)
 stands_among h (first ∷ past) l all (inr a) = stands_among h past l all.1 a

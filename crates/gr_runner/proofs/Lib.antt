@@ -9,6 +9,7 @@ pub mod Closing
 pub mod Told
 pub mod Ended
 pub mod Joiners
+pub mod StepsSorted
 pub mod Shared
 pub mod Sessions
 pub mod Threads

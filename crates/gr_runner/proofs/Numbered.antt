@@ -8,6 +8,7 @@ use Rattle.std.proofs.lemmas.List.{map-append, reverse-append, take_more}
 use Rattle.std.proofs.lemmas.Bool.Decides.{nat_tests}
 use Rattle.std.proofs.lemmas.List.Elements.{filter_map-append}
 use Rattle.gr_script.specs.declared.line.Line.{Line}
+use Rattle.gr_script.specs.declared.line.Step.{Step}
 use Rattle.gr_script.specs.Rules.{Heading, home_of}
 use Rattle.gr_script.specs.Steps.{joins_of, steps_of}
 use Rattle.gr_run_law.specs.Duties.{Duty, duty_of}
@@ -25,6 +26,7 @@ use Rattle.gr_runner.specs.declared.slots.MemberKit.{MemberKit}
 use Rattle.gr_runner.specs.Makings.{plan_of}
 use Rattle.gr_runner.specs.Kits.{AreKits, EachFrom, GivesLast, HaveMembers, HaveSome, IsClientKit, IsCourierOf, IsMemberKit}
 use Rattle.gr_runner.specs.Mailing.{AreSendersOf, HaveSenders}
+use Rattle.gr_runner.specs.Stepping.{AreStepsOf}
 use Rattle.gr_runner.proofs.Ends.{at_front, at_last, one_longer}
 
 -- ---- a member's lines
@@ -226,41 +228,46 @@ members_all h lines rings now sends takes n kits all s e is = (
       (subst (λ (m : ℕ). EachFrom (IsMemberKit h lines rings) m (reverse kits)) (omega (arith, e)) s.each),
 )
 
--- The last n clients have their kits, the last one first.
-pub record ClientsSoFar (h : Heading) (lines : List Line) (rings now : List Ring) (sends : List (List Sending)) (n : ℕ)
-    (kits : List ClientKit) : Type 0 where
+-- The last n clients have their kits, the last one first, and the steps of the others are left.
+pub record ClientsSoFar (h : Heading) (lines : List Line) (rings now : List Ring) (sends : List (List Sending))
+    (each_left : List (List Step)) (n : ℕ) (kits : List ClientKit) : Type 0 where
   pub same : now ≡ rings
   pub left : HaveSenders rings (length h.clients - n) sends
+  pub steps : AreStepsOf lines (length h.clients - n) each_left
   pub many : length kits ≡ n
   pub each : EachFrom (IsClientKit h lines rings) (suc (length h.clients - n)) (reverse kits)
 
-pub clients_none : (h : Heading) (lines : List Line) (rings : List Ring) (sends : List (List Sending)) (kits : List ClientKit)
-    → kits ≡ [] → HaveSenders rings (length h.clients) sends → ClientsSoFar h lines rings rings sends 0 kits
-clients_none h lines rings sends kits e left = record {
+pub clients_none : (h : Heading) (lines : List Line) (rings : List Ring) (sends : List (List Sending)) (each : List (List Step))
+    (kits : List ClientKit) → kits ≡ [] → HaveSenders rings (length h.clients) sends → AreStepsOf lines (length h.clients) each
+    → ClientsSoFar h lines rings rings sends each 0 kits
+clients_none h lines rings sends each kits e left steps = record {
   same = refl;
   left = subst (λ (m : ℕ). HaveSenders rings m sends) (omega arith) left;
+  steps = subst (λ (m : ℕ). AreStepsOf lines m each) (omega arith) steps;
   many = ap length e;
   each = subst (λ (l : List ClientKit). EachFrom (IsClientKit h lines rings) (suc (length h.clients - 0)) (reverse l)) (sym e) tt;
 }
 
-pub clients_more : (h : Heading) (lines : List Line) (rings now after : List Ring) (sends lists : List (List Sending)) (n : ℕ)
-    (kits more : List ClientKit) (kit : ClientKit) (count : ℕ) → count ≡ length h.clients → n < count
-    → ClientsSoFar h lines rings now sends n kits → after ≡ now → HaveSenders now (count - n - 1) lists
-    → IsClientKit h lines now (count - n) kit → more ≡ kits ++ kit ∷ [] → ClientsSoFar h lines rings after lists (n + 1) more
-clients_more h lines rings now after sends lists n kits more kit count all l s same left is e = record {
+pub clients_more : (h : Heading) (lines : List Line) (rings now after : List Ring) (sends lists : List (List Sending))
+    (each less : List (List Step)) (n : ℕ) (kits more : List ClientKit) (kit : ClientKit) (count : ℕ) → count ≡ length h.clients
+    → n < count → ClientsSoFar h lines rings now sends each n kits → after ≡ now → HaveSenders now (count - n - 1) lists
+    → AreStepsOf lines (count - n - 1) less → IsClientKit h lines now (count - n) kit → more ≡ kits ++ kit ∷ []
+    → ClientsSoFar h lines rings after lists less (n + 1) more
+clients_more h lines rings now after sends lists each less n kits more kit count all l s same left steps is e = record {
   same = same ∙ s.same;
   left = subst (λ (m : ℕ). HaveSenders rings m lists) (omega (arith, l, all))
       (subst (λ (r : List Ring). HaveSenders r (count - n - 1) lists) s.same left);
+  steps = subst (λ (m : ℕ). AreStepsOf lines m less) (omega (arith, l, all)) steps;
   many = one_longer more kits kit e ∙ ap (λ (m : ℕ). m + 1) s.many;
   each = each_more (IsClientKit h lines rings) (length h.clients) n kits more kit (omega (arith, l, all)) e
       (subst (λ (m : ℕ). IsClientKit h lines rings m kit) (omega (arith, all))
       (subst (λ (r : List Ring). IsClientKit h lines r (count - n) kit) s.same is)) s.each;
 }
 
-pub clients_all : (h : Heading) (lines : List Line) (rings now : List Ring) (sends : List (List Sending)) (n : ℕ)
-    (kits all : List ClientKit) → ClientsSoFar h lines rings now sends n kits → n ≡ length h.clients → all ≡ reverse kits
-    → EachFrom (IsClientKit h lines rings) 1 all
-clients_all h lines rings now sends n kits all s e is =
+pub clients_all : (h : Heading) (lines : List Line) (rings now : List Ring) (sends : List (List Sending)) (each : List (List Step))
+    (n : ℕ) (kits all : List ClientKit) → ClientsSoFar h lines rings now sends each n kits → n ≡ length h.clients
+    → all ≡ reverse kits → EachFrom (IsClientKit h lines rings) 1 all
+clients_all h lines rings now sends each n kits all s e is =
     subst (EachFrom (IsClientKit h lines rings) 1) (sym is)
     (subst (λ (m : ℕ). EachFrom (IsClientKit h lines rings) m (reverse kits)) (omega (arith, e)) s.each)
 

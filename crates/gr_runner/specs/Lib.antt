@@ -7,6 +7,7 @@ pub mod Receipts
 pub mod Left
 pub mod Slots
 pub mod Sorting
+pub mod Stepping
 pub mod Kits
 pub mod Dealing
 pub mod Gone

@@ -9,13 +9,15 @@ ghost use Rattle.gr_run_law.specs.Duties.{duty_of};
 ghost use Rattle.gr_host.specs.Works.{duty_is};
 ghost use Rattle.gr_runner.specs.Mailing.{HaveSenders, IsOpen};
 ghost use Rattle.gr_runner.specs.Kits.{AreKits, EachFrom, GivesLast, HaveMembers, HaveSome, IsClientKit, IsMemberKit};
+ghost use Rattle.gr_runner.specs.Stepping.{AreStepsOf};
 
 use crate::mailing::Mailing;
 use crate::making::plan_of;
 use crate::slots::{ClientKit, MemberKit};
+use crate::stepping::steps_each;
 use gr_host::{Duty, DutyList, Ends};
 use gr_post::Courier;
-use gr_script::{Line, Script};
+use gr_script::{Line, Script, StepList};
 use gr_value::Memory;
 use std::alloc::Global;
 
@@ -104,37 +106,44 @@ fn client_kits(
     ensures many { IfOk result (λ kits. length kits.items ≡ length script.now.clients) }
     ensures kits { IfOk result (λ kits. EachFrom (IsClientKit (heading_of script.now) script.now.lines sends.old.inboxes) 1 kits.items) }
 {
+    let mut each = steps_each(alloc, script)?;
     let mut kits = Vec::new(alloc);
     let count = script.clients.len() as u8;
     for k in 0..count {
-        let kit = client_kit(alloc, script, sends, count - k)?;
+        let kit = client_kit(alloc, script, &mut each, sends, count - k)?;
         kits.push(kit)?;
     }
     kits.reverse();
     Ok(kits)
 }
 
-// What the thread of the last client is given that has none yet.
+// What the thread of the last client is given that has none yet. Its steps are the last of each that are left.
 fn client_kit(
     alloc: Global,
     script: &Script,
+    each: &mut Vec<StepList>,
     sends: &mut Mailing,
     client: u8,
 ) -> Result<ClientKit, Memory>
     requires client { IsStated client (heading_of script.now) }
     requires few { length sends.old.inboxes ≤ 8 }
     requires left { HaveSenders sends.old.inboxes client sends.old.sends.items }
+    requires steps { AreStepsOf script.now.lines client each.old.items }
     ensures inboxes { sends.new.inboxes ≡ sends.old.inboxes }
+    ensures steps { OnOk result (AreStepsOf script.now.lines (client - 1) each.new.items) }
     ensures left { OnOk result (HaveSenders sends.old.inboxes (client - 1) sends.new.sends.items) }
     ensures kit { IfOk result (IsClientKit (heading_of script.now) script.now.lines sends.old.inboxes client) }
 {
     let courier = last_courier(alloc, script, sends, client)?;
     let home = home_of(script, client);
+    let Some(steps) = each.pop() else {
+        unreachable!()
+    };
     Ok(ClientKit {
         client,
         plan: plan_of(script, home),
         waits: joins_of(script, home) != 0,
-        steps: script.steps(alloc, client)?,
+        steps,
         courier,
     })
 }

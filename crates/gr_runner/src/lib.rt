@@ -16,6 +16,7 @@ mod runner;
 mod running;
 mod slots;
 mod sorting;
+mod stepping;
 mod taking;
 mod undoing;
 

@@ -4,4 +4,5 @@ use Rattle.gr_runner.proofs.kits.client_kits.Given as goal
 
 abbrev pub invariant-loop-k : goal.invariant-loop-k
 invariant-loop-k l =
-    ClientsSoFar (heading_of l.script) l.script.lines l.fn.sends.inboxes l.sends.inboxes l.sends.sends.items l.k l.kits.items
+    ClientsSoFar (heading_of l.script) l.script.lines l.fn.sends.inboxes l.sends.inboxes l.sends.sends.items l.each.items l.k
+    l.kits.items
