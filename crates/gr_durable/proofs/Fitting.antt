@@ -1,11 +1,11 @@
 -- A line of a script fits behind the lines before it.
-use Rattle.std.proofs.Common.{◌≡◌, ◌∙◌, ℕ, ◌+◌, ◌<◌, ◌≤◌, List, [], ◌∷◌, ◌++◌, length, take, drop, reverse, get_or, sym, ap, subst}
-use Rattle.std.proofs.lemmas.List.{reverse-append, reverse-reverse, take-append-drop}
+use Rattle.std.proofs.Common.{◌≡◌, ◌∙◌, ℕ, List, [], ◌∷◌, ◌++◌, length, reverse, sym, ap, subst, append_assoc}
+use Rattle.std.proofs.lemmas.Grind.{reverse_onto}
+use Rattle.std.proofs.lemmas.List.{reverse-append, reverse-reverse}
 use Rattle.gr_script.specs.declared.line.Line.{Line}
 use Rattle.gr_script.specs.declared.line.Line.TheVariants as line
 use Rattle.gr_script.specs.Expanded.{expanded}
-use Rattle.gr_script.specs.Rules.{Heading, StandsAfter, AllBehind, AllStand, IsScript}
-use Rattle.gr_world.proofs.Playable.{one_more}
+use Rattle.gr_script.specs.Rules.{Heading, StandsAfter, AllBehind, IsScript}
 use Rattle.gr_durable.specs.Expanding.{Fits}
 
 rest_behind : (Each : List Line → Line → Type 0) (front past : List Line) → AllBehind Each (front ++ past) → AllBehind Each past
@@ -23,18 +23,14 @@ line_fits h past (line.Sweep member moment) stands = tt
 line_fits h past (line.Join member from) stands = tt
 line_fits h past (line.Depart member) stands = tt
 
--- the first lines of a script, the last one first
-first_lines : (Each : List Line → Line → Type 0) (lines : List Line) (i : ℕ) → AllBehind Each (reverse lines)
-    → AllBehind Each (reverse (take i lines))
-first_lines Each lines i all =
-    rest_behind Each (reverse (drop i lines)) (reverse (take i lines))
-    (subst (AllBehind Each) (sym (ap (λ (ls : List Line). reverse ls) (take-append-drop i lines)) ∙ reverse-append (take i lines) (drop i lines)) all)
-
-pub fits_at : (h : Heading) (lines : List Line) (i : ℕ) (l : Line) → IsScript h lines → i < length lines → l ≡ get_or lines i l
-    → Fits (length h.clients) (reverse (take i lines)) l
-fits_at h lines i l is within at =
-    line_fits h (reverse (take i lines)) l
-    (subst (AllBehind (StandsAfter h)) (one_more lines i l within at) (first_lines (StandsAfter h) lines (i + 1) is.lines_stand)).0
+pub fits_behind : (h : Heading) (clients : ℕ) (lines before rest : List Line) (l : Line) → length h.clients ≡ clients → IsScript h lines
+    → lines ≡ before ++ l ∷ rest → Fits clients (reverse before) l
+fits_behind h clients lines before rest l many is at =
+    let turned : reverse lines ≡ reverse rest ++ l ∷ reverse before =
+    ap (λ (ls : List Line). reverse ls) at ∙ reverse-append before (l ∷ rest)
+    ∙ ap (λ (ls : List Line). ls ++ reverse before) (reverse_onto rest l []) ∙ append_assoc (reverse rest) (l ∷ []) (reverse before) in
+    let stand = rest_behind (StandsAfter h) (reverse rest) (l ∷ reverse before) (subst (AllBehind (StandsAfter h)) turned is.lines_stand) in
+    subst (λ (n : ℕ). Fits n (reverse before) l) many (line_fits h (reverse before) l stand.0)
 
 -- what was put last, behind the lines so far
 pub one_turn : (before : List Line) (more past next : List Line) → before ≡ reverse (expanded past) → expanded next ≡ reverse more ++ expanded past

@@ -1,12 +1,13 @@
-ghost use Rattle.std.specs.Prelude.{◌≡◌, ◌++◌, IfOk, OnOk};
+ghost use Rattle.std.specs.Prelude.{◌≡◌, ◌++◌, length, IfOk, OnOk};
 ghost use Rattle.gr_script.specs.Expanded.{expansion};
+ghost use Rattle.gr_script.specs.Rules.{Heading, IsScript};
 ghost use Rattle.gr_script.specs.Scripts.{heading_of};
 ghost use Rattle.gr_durable.specs.Expanding.{lines_in};
 
 use crate::expander::{Expander, Turn};
 use crate::expanding::expanded_scripts_are_scripts;
-use gr_script::{LineList, MemberNumberList, Script};
-use gr_value::{Copied, Memory};
+use gr_script::{LineList, Script};
+use gr_value::Memory;
 use std::alloc::Global;
 
 // Puts what is played in place of a line last.
@@ -24,46 +25,37 @@ fn push_turn(all: &mut LineList, turn: Turn) -> Result<(), Memory>
     }
 }
 
-fn expanded_lines(alloc: Global, script: &Script) -> Result<LineList, Memory>
-    ensures { IfOk result (λ lines. lines ≡ expansion script.now.lines) }
+// What is played of the lines of a script with so many clients.
+fn expanded_lines(alloc: Global, clients: usize, lines: LineList) -> Result<LineList, Memory>
+    requires { (heading : Heading) × (length heading.clients ≡ clients) × IsScript heading lines }
+    ensures { IfOk result (λ all. all ≡ expansion lines) }
 {
-    let mut expander = Expander::new(alloc, script.clients.len())?;
-    let mut all = LineList::new(alloc)?;
-    for line in script.lines.as_slice() {
-        let turn = expander.take(alloc, line.copy(alloc)?)?;
+    let mut expander = Expander::new(alloc, clients)?;
+    let mut all = LineList::from_vec(Vec::with_capacity(alloc, lines.len())?);
+    for line in lines.into_vec() {
+        let turn = expander.take(alloc, line)?;
         push_turn(&mut all, turn)?;
     }
     Ok(all)
 }
 
-// The members of the clients.
-fn homes_of(alloc: Global, script: &Script) -> Result<MemberNumberList, Memory>
-    ensures { IfOk result (λ homes. homes ≡ script.now.clients) }
-{
-    let mut homes = MemberNumberList::new(alloc)?;
-    for home in script.clients.as_slice() {
-        homes.push(*home)?;
-    }
-    Ok(homes)
-}
-
 /// The script as it is run or replayed: without the lines on which clients leave, and where a client comes
 /// back with a step on each query that it has open.
-pub fn expand(alloc: Global, script: &Script) -> Result<Script, Memory>
-    ensures heading { IfOk result (λ expanded. heading_of expanded ≡ heading_of script.now) }
-    ensures lines { IfOk result (λ expanded. expanded.lines ≡ expansion script.now.lines) }
+pub fn expand(alloc: Global, script: Script) -> Result<Script, Memory>
+    ensures heading { IfOk result (λ expanded. heading_of expanded ≡ heading_of script) }
+    ensures lines { IfOk result (λ expanded. expanded.lines ≡ expansion script.lines) }
 {
-    let lines = expanded_lines(alloc, script)?;
+    let lines = expanded_lines(alloc, script.clients.len(), script.lines)?;
     expanded_scripts_are_scripts();
     Ok(Script {
-        region: script.region.copy(alloc)?,
+        region: script.region,
         members: script.members,
         founders: script.founders,
         shards: script.shards,
         inbox: script.inbox,
         trouble: script.trouble,
         floor: script.floor,
-        clients: homes_of(alloc, script)?,
+        clients: script.clients,
         lines,
     })
 }

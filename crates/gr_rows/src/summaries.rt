@@ -36,7 +36,7 @@ fn summary_of(alloc: Global, case: &Row) -> io::Result<Vec<u8>> {
     let Ok(script) = read(alloc, case.script.as_slice(), Form::Replay) else {
         return Err(bad_case());
     };
-    let script = expand(alloc, &script).map_err(|_| no_memory())?;
+    let script = expand(alloc, script).map_err(|_| no_memory())?;
     let record_of = replay(alloc, &script).map_err(|_| no_memory())?;
     let counted = if case.words.len() > 3 {
         drill_of(alloc, start, steps)?

@@ -48,8 +48,8 @@ fn find_wanted(member: u8, wanted: &Wanted, script: &Script) -> Result<(), Cause
 }
 
 // The record of a script, expanded.
-fn replayed(alloc: Global, script: &Script) -> Result<Record, Memory>
-    ensures { (text : List ℕ) → script_of false text ≡ Ok (heading_of script.now, script.now.lines) → IfOk result (IsPlayed text) }
+fn replayed(alloc: Global, script: Script) -> Result<Record, Memory>
+    ensures { (text : List ℕ) → script_of false text ≡ Ok (heading_of script, script.lines) → IfOk result (IsPlayed text) }
 {
     let expanded = expand(alloc, script)?;
     replay(alloc, &expanded)
@@ -68,7 +68,7 @@ fn record_for<S: Source>(
 {
     let script = script_from(alloc, source, Form::Replay)?;
     find_wanted(member, wanted, &script)?;
-    match replayed(alloc, &script) {
+    match replayed(alloc, script) {
         Ok(record_of) => Ok(record_of),
         Err(Memory) => Err(Cause::Memory),
     }

@@ -25,7 +25,7 @@ use std::alloc::Global;
 use std::sync::Wait;
 use std::thread::Threads;
 
-// What threads leave of a script once it is expanded. Its lines as they were written aren't kept meanwhile.
+// What threads leave of a script once it is expanded.
 fn run_expanded<R: Threads + Wait + Sync, G: Gate>(
     rt: &R,
     alloc: Global,
@@ -34,8 +34,7 @@ fn run_expanded<R: Threads + Wait + Sync, G: Gate>(
 ) -> Result<Record, Memory>
     ensures { IfOk result (IsRecordOfRun (heading_of script) (expansion script.lines)) }
 {
-    let expanded = expand(alloc, &script)?;
-    drop(script);
+    let expanded = expand(alloc, script)?;
     run(rt, alloc, &expanded, gate)
 }
 
