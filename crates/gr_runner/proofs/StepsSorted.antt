@@ -2,7 +2,7 @@
 use Rattle.std.proofs.Common.{◌≡◌, ◌≢◌, ℕ, zero, suc, ◌+◌, ◌-◌, ◌<◌, ◌≤◌, ◌==◌, Bool, true, false, Some, None}
 use Rattle.std.proofs.Common.{List, [], ◌∷◌, ◌++◌, length, get_or, take, reverse, refl, sym, ap, ◌∙◌, subst, arith, inl, inr}
 use Rattle.std.proofs.Common.{append-nil, if◌then◌else◌}
-use Rattle.std.specs.List.{cons_option, filter_map}
+use Rattle.std.specs.List.{cons_option}
 use Rattle.std.proofs.lemmas.List.{reverse-reverse, take_more}
 use Rattle.std.proofs.lemmas.Bool.Decides.{nat_tests}
 use Rattle.std.proofs.lemmas.List.Elements.{filter_map-append}
@@ -15,7 +15,7 @@ use Rattle.gr_script.specs.Rules.{Heading, IsScript, StandsAfter}
 use Rattle.gr_script.specs.Steps.{step_of, steps_of}
 use Rattle.gr_law.specs.Grids.{Among}
 use Rattle.gr_law.proofs.Lists.{among_reverse}
-use Rattle.gr_runner.specs.Stepping.{AreStepsOf, AreWith, HasPlace, IsPutWith}
+use Rattle.gr_runner.specs.Stepping.{AreStepsOf, AreWith, HasPlace}
 use Rattle.gr_runner.proofs.Ends.{at_front, at_last, one_longer}
 use Rattle.gr_runner.proofs.Joiners.{stands_among}
 

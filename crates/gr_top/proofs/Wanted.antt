@@ -1,8 +1,7 @@
 -- What is wanted of a member of the script that the source had.
-use Rattle.std.proofs.Common.{◌≡◌, ◌∙◌, ℕ, ◌≤◌, List, refl, sym, ap, subst, false, Option, Some, None, Result, Ok, Err, IfOk, MatchResult}
+use Rattle.std.proofs.Common.{◌≡◌, ◌∙◌, ℕ, ◌≤◌, List, refl, sym, ap, subst, false, Result, Ok, Err, IfOk, MatchResult}
 use Rattle.gr_ask.specs.declared.wanted.Wanted.{Wanted}
 use Rattle.gr_history.specs.declared.record.Record.{Record}
-use Rattle.gr_script.specs.declared.ending.ScriptFault.{ScriptFault}
 use Rattle.gr_script.specs.declared.line.Line.{Line}
 use Rattle.gr_script.specs.declared.script.Script.{Script as TheScript}
 use Rattle.gr_script.specs.Expanded.{expansion}

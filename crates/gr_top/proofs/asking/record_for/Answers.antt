@@ -11,8 +11,8 @@ returns-in-Ok g c =
     let given = c.in_ok-script.ensures (request.Alone (mode.At c.args.member c.args.wanted.now)) tt refl in
     replay_for _ _ _ given.0 c.in_ok-script.script _ given.1 (c.in-Ok.ensures given.0 given.1.read) c.in_ok-find_wanted.ensures
 
-pub returns : goal.returns
-returns g c sink untouched =
+pub returns-in-Err : goal.returns-in-Err
+returns-in-Err g c sink untouched =
     let given = c.in_ok-script.ensures (request.Alone (mode.At c.args.member c.args.wanted.now)) tt refl in
     (tt, within _ given.0 given.1.whole, untouched)
 
