@@ -9,15 +9,16 @@ use crate::inbox::InboxList;
 use crate::lane::Lane;
 use crate::lanes::{
     new_lanes, passes_home, prepare_each, prepare_last_each, send_each, settle_each, stop_each,
+    waiting,
 };
 use crate::mail::{Mail, Posting};
 use crate::passes::{SendPass, SendPassList};
+use crate::rest::Rest;
 use crate::stage::Stage;
 use gr_value::{Copied, Memory};
 use std::alloc::Global;
 use std::marker::Model;
 use std::sync::Wait;
-use std::thread;
 
 /// Takes the mails of one sender to all inboxes, by the trouble plan.
 #[derive(Drop)]
@@ -117,11 +118,13 @@ impl Courier {
         ensures pushed { IsPushed self.old self.new }
         ensures all { NothingWaits self.new.lines }
     {
+        let mut rest = Rest::new();
         for _ in rt.forever() {
+            let before = waiting(&self.lanes);
             if self.push(rt, inboxes) {
                 return;
             }
-            thread::yield_now();
+            rest.wait(rt, waiting(&self.lanes) < before);
         }
         unreachable!()
     }

@@ -283,6 +283,11 @@ impl Lane {
         true
     }
 
+    // How many mails wait.
+    pub(crate) fn waiting(&self) -> usize {
+        self.waiting.len()
+    }
+
     pub(crate) fn into_pass(self) -> SendPass
         ensures { result ≡ self.pass }
     {

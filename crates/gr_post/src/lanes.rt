@@ -132,3 +132,12 @@ pub(crate) fn send_each<R: Wait + Sync>(rt: &R, lanes: &mut Vec<Lane>, inboxes: 
     }
     all
 }
+
+// How many mails wait at all lanes.
+pub(crate) fn waiting(lanes: &[Lane]) -> usize {
+    let mut count: usize = 0;
+    for lane in lanes {
+        count = count.saturating_add(lane.waiting());
+    }
+    count
+}
