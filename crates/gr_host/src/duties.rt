@@ -11,7 +11,7 @@ ghost use Rattle.gr_host.specs.Works.{HasReported, HasSwept, PostsReport};
 
 use gr_member::{Member, Pass, Plan};
 use gr_post::{Courier, Mail};
-use gr_value::{Copied, ItemList, Memory};
+use gr_value::{Copied, ItemList, Memory, Shared};
 use gr_vector::ReportList;
 use std::alloc::Global;
 use std::sync::Wait;
@@ -118,7 +118,7 @@ fn post_at(
     };
     let mail = Mail::Report {
         shard: shard as u8,
-        report: report.copy(alloc)?,
+        report: Shared::new(alloc, report.copy(alloc)?)?,
     };
     Ok(courier.post(alloc, &mail, to)?)
 }

@@ -64,7 +64,7 @@ pub(crate) fn follow<R: Wait + Sync>(
             Ok(())
         }
         Mail::Report { shard, report } => {
-            Ok(hear(rt, alloc, member, plan, pass, *shard, report)?)
+            Ok(hear(rt, alloc, member, plan, pass, *shard, report.get())?)
         }
         Mail::End => Ok(()),
     }

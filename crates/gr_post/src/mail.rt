@@ -3,11 +3,11 @@ use gr_value::{Copied, Memory, Shared};
 use gr_vector::Report;
 use std::alloc::Global;
 
-/// What members tell each other of a shard. `End` is the last mail of its sender.
+/// What members tell each other of a shard, which copies of a mail share. `End` is the last mail of its sender.
 #[derive(Drop)]
 pub enum Mail {
     Change { shard: u8, change: Shared<Change> },
-    Report { shard: u8, report: Report },
+    Report { shard: u8, report: Shared<Report> },
     End,
 }
 

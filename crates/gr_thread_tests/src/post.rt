@@ -15,22 +15,23 @@ fn mail(alloc: Global, at: u64) -> Option<Mail> {
     let Ok(vector) = Vector::new(alloc) else {
         return None;
     };
+    let report = Report {
+        member: 1,
+        at,
+        own: 0,
+        to: 0,
+        vector: Shared::new(alloc, vector).ok()?,
+    };
     Some(Mail::Report {
         shard: 0,
-        report: Report {
-            member: 1,
-            at,
-            own: 0,
-            to: 0,
-            vector: Shared::new(alloc, vector).ok()?,
-        },
+        report: Shared::new(alloc, report).ok()?,
     })
 }
 
 // The number of a mail, and 0 of an `End`.
 fn number_of(mail: &Mail) -> u64 {
     match mail {
-        Mail::Report { report, .. } => report.at,
+        Mail::Report { report, .. } => report.get().at,
         _ => 0,
     }
 }

@@ -5,7 +5,7 @@ use crate::words::Answer;
 use gr_history::{Ask, Done, Gift, Image, QueryAsk, Verdict, What};
 use gr_post::{Mail, Posting};
 use gr_stamp::Change;
-use gr_value::Shared;
+use gr_value::{Copied, Shared};
 use gr_vector::Report;
 
 impl Member {
@@ -35,7 +35,7 @@ impl Member {
     pub fn take(&mut self, rt: &HostRuntime, name: &str, mail: &Mail) -> Result<(), Stop> {
         match mail {
             Mail::Change { change, .. } => self.deliver(rt, name, change),
-            Mail::Report { report, .. } => self.hear(rt, name, report),
+            Mail::Report { report, .. } => self.hear(rt, name, report.get()),
             Mail::End => Err(Stop::Otherwise),
         }
     }
@@ -68,6 +68,7 @@ impl Member {
             return Err(Stop::Otherwise);
         }
         self.end(rt, name, Answer::Report(&report))?;
+        let report = anew!(Shared::new(rt.alloc(), anew!(report.copy(rt.alloc()))?))?;
         let mail = Mail::Report { shard: 0, report };
         Ok(Posting { mail, to })
     }

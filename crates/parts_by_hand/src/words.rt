@@ -106,7 +106,10 @@ impl fmt::Display for Came<'_> {
                 let (ver, member, rv) = (stamp.ver(), stamp.member(), stamp.rv());
                 write!(f, "change {ver}.{member}.{rv}")
             }
-            Mail::Report { report, .. } => write!(f, "report {} at {}", report.member, report.at),
+            Mail::Report { report, .. } => {
+                let Report { member, at, .. } = report.get();
+                write!(f, "report {member} at {at}")
+            }
             Mail::End => write!(f, "end"),
         }
     }
