@@ -1,5 +1,5 @@
 -- Passes while their seats are dealt, shard by shard.
-use Rattle.std.proofs.Common.{◌≡◌, ◌≢◌, ℕ, zero, suc, ◌+◌, ◌<◌, ◌≤◌, List, [], ◌∷◌, ◌++◌, length, get_or, map, reverse}
+use Rattle.std.proofs.Common.{◌≡◌, ◌≢◌, ℕ, zero, suc, ◌+◌, ◌<◌, ◌≤◌, Bool, List, [], ◌∷◌, ◌++◌, length, get_or, map, reverse}
 use Rattle.std.proofs.Common.{refl, sym, ap, ◌∙◌, subst, arith, length-append}
 use Rattle.std.proofs.lemmas.List.{get_or_push, get_or_append_left}
 use Rattle.std.specs.Prelude.{All, vec_capacity}
@@ -22,20 +22,21 @@ use Rattle.gr_member.specs.declared.plan.Plan.{Plan}
 use Rattle.gr_member.specs.Replicas.{Replicated, Watched}
 use Rattle.gr_member.specs.Seats.{Place, placed, no_seat, nowhere}
 use Rattle.gr_member.specs.Passes.{IsSeatOf, AreTheirs}
-use Rattle.gr_member.specs.Fresh.{IsFresh, IsFreshSeat, AreFresh, AreSeats, AreUnused, origin_at}
+use Rattle.gr_member.specs.Fresh.{IsFresh, IsFreshSeat, AreFresh, AreShown, AreSeats, AreUnused, origin_at}
 use Rattle.gr_member.specs.Dealing.{AreEmpty, ArePairs, HaveRoom, HasMore, AreAllTheirs}
 use Rattle.gr_member.proofs.Passing.{lock_at}
 
 -- the seat of the shard k in the pass n
-pub record IsDealt (plan : Plan) (passes n k : ℕ) (lock : ShardLock) (s : Place) : Type 0 where
+pub record IsDealt (plan : Plan) (shown : Bool) (passes n k : ℕ) (lock : ShardLock) (s : Place) : Type 0 where
   pub its : IsSeatOf plan k lock s
   pub fresh : IsFreshSeat passes n s
+  pub shown_is : s.eye.shown ≡ shown
 
 -- the seat of this number with an eye that has seen nothing
-pair_is : (plan : Plan) (passes n k : ℕ) (lock : ShardLock) (s : Seated Deed Origin) (w : Watched) → s.lock ≡ lock.lock
-    → s.view ≡ seat_view (origin_at plan k lock.name.copy) passes [] n → w ≡ record { eye = new_eye lock.name.copy; noted = [] }
-    → IsDealt plan passes n k lock (placed s w.eye)
-pair_is plan passes n k lock s w l v e = record {
+pair_is : (plan : Plan) (shown : Bool) (passes n k : ℕ) (lock : ShardLock) (s : Seated Deed Origin) (w : Watched) → s.lock ≡ lock.lock
+    → s.view ≡ seat_view (origin_at plan k lock.name.copy) passes [] n → w ≡ record { eye = new_eye shown lock.name.copy; noted = [] }
+    → IsDealt plan shown passes n k lock (placed s w.eye)
+pair_is plan shown passes n k lock s w l v e = record {
   its = record {
     here = record { its = l; watched = ap (λ (x : Watched). x.eye.copy) e };
     based = λ o f.
@@ -53,6 +54,7 @@ pair_is plan passes n k lock s w l v e = record {
     numbers = ap (λ (x : View Deed Origin). x.parts) v;
     known = ap (λ (x : Watched). x.eye.known) e;
   };
+  shown_is = ap (λ (x : Watched). x.eye.shown) e;
 }
 
 -- the origin of the shard k, part by part
@@ -74,9 +76,9 @@ seats_of plan k passes replica lock seats m e f h number s b =
     )
 
 -- an eye that has seen nothing is one of a seat that has seen nothing
-pub pairs_of : (plan : Plan) (k passes : ℕ) (lock : ShardLock) (seats : List (Seated Deed Origin)) (watches : List Watched)
-    → length seats ≡ passes → AreSeats plan k passes lock seats → AreUnused passes lock.name.copy watches → ArePairs seats watches
-pairs_of plan k passes lock seats watches m a u number s w b =
+pub pairs_of : (plan : Plan) (shown : Bool) (k passes : ℕ) (lock : ShardLock) (seats : List (Seated Deed Origin)) (watches : List Watched)
+    → length seats ≡ passes → AreSeats plan k passes lock seats → AreUnused passes shown lock.name.copy watches → ArePairs seats watches
+pairs_of plan shown k passes lock seats watches m a u number s w b =
     let c : number < passes = subst (λ (i : ℕ). number < i) m b in
     let v = (a number s c).1 in
     let e = u number w c in
@@ -89,18 +91,18 @@ pairs_of plan k passes lock seats watches m a u number s w b =
     }
 
 -- each pass has its seats at the shards below j
-pub record AreDealt (plan : Plan) (passes : ℕ) (locks : List ShardLock) (dealt : List (Vec Place)) (j : ℕ) : Type 0 where
+pub record AreDealt (plan : Plan) (shown : Bool) (passes : ℕ) (locks : List ShardLock) (dealt : List (Vec Place)) (j : ℕ) : Type 0 where
   pub count : length dealt ≡ passes
   pub locked : length locks ≡ j
   pub many : (n : ℕ) (p : Vec Place) → n < passes → length (get_or dealt n p).items ≡ j
   pub room : (n : ℕ) (p : Vec Place) → n < passes → plan.shards ≤ vec_capacity (get_or dealt n p)
   pub seats : (n : ℕ) (p : Vec Place) (k : ℕ) (s : Place) (t : ShardLock) → n < passes → k < j
-      → IsDealt plan passes n k (get_or locks k t) (get_or (get_or dealt n p).items k s)
+      → IsDealt plan shown passes n k (get_or locks k t) (get_or (get_or dealt n p).items k s)
 
-pub dealt_none : (plan : Plan) (passes shards : ℕ) (locks : List ShardLock) (made : List (Vec Place)) → AreEmpty passes shards made
+pub dealt_none : (plan : Plan) (shown : Bool) (passes shards : ℕ) (locks : List ShardLock) (made : List (Vec Place)) → AreEmpty passes shards made
     → shards ≡ plan.shards
-    → locks ≡ [] → AreDealt plan passes locks made 0
-dealt_none plan passes shards locks made h e f = record {
+    → locks ≡ [] → AreDealt plan shown passes locks made 0
+dealt_none plan shown passes shards locks made h e f = record {
   count = h.many;
   locked = ap length f;
   many = λ n p b. ap length (h.none n p b);
@@ -134,12 +136,12 @@ seat_last : (dealt more : List (Vec Place)) (seats : List (Seated Deed Origin)) 
 seat_last dealt more seats watches n j p x m b e = ap (λ (z : List Place). get_or z j x) (m.more n p no_seat no_watch b)
     ∙ get_or_push (get_or dealt n p).items (placed (get_or seats n no_seat) (get_or watches n no_watch).eye) x j e
 
-pub dealt_more : (plan : Plan) (passes : ℕ) (locks next : List ShardLock) (lock : ShardLock) (dealt more : List (Vec Place))
+pub dealt_more : (plan : Plan) (shown : Bool) (passes : ℕ) (locks next : List ShardLock) (lock : ShardLock) (dealt more : List (Vec Place))
     (seats : List (Seated Deed Origin)) (watches : List Watched) (j : ℕ)
-    → AreDealt plan passes locks dealt j → AreSeats plan j passes lock seats → AreUnused passes lock.name.copy watches
+    → AreDealt plan shown passes locks dealt j → AreSeats plan j passes lock seats → AreUnused passes shown lock.name.copy watches
     → HasMore dealt seats watches more → next ≡ locks ++ lock ∷ []
-    → AreDealt plan passes next more (j + 1)
-dealt_more plan passes locks next lock dealt more seats watches j h a u m e =
+    → AreDealt plan shown passes next more (j + 1)
+dealt_more plan shown passes locks next lock dealt more seats watches j h a u m e =
     let o = h.count in
     let below : (n : ℕ) → n < passes → n < length dealt = λ n b. omega arith in
     record {
@@ -148,36 +150,36 @@ dealt_more plan passes locks next lock dealt more seats watches j h a u m e =
       many = λ n p b. more_long dealt more seats watches n j p m (below n b) (h.many n p b);
       room = λ n p b. subst (λ (i : ℕ). plan.shards ≤ i) (sym (m.room n p (below n b))) (h.room n p b);
       seats = λ n p k s t b c. dite (ℕ_discrete k j)
-          (λ (i : k ≡ j). subst (λ (z : ℕ). IsDealt plan passes n z (get_or next z t) (get_or (get_or more n p).items z s)) (sym i)
-          (subst (λ (x : ShardLock). IsDealt plan passes n j x (get_or (get_or more n p).items j s))
+          (λ (i : k ≡ j). subst (λ (z : ℕ). IsDealt plan shown passes n z (get_or next z t) (get_or (get_or more n p).items z s)) (sym i)
+          (subst (λ (x : ShardLock). IsDealt plan shown passes n j x (get_or (get_or more n p).items j s))
           (sym (ap (λ (z : List ShardLock). get_or z j t) e ∙ get_or_push locks lock t j h.locked))
-          (subst (IsDealt plan passes n j lock) (sym (seat_last dealt more seats watches n j p s m (below n b) (h.many n p b)))
-          (pair_is plan passes n j lock (get_or seats n no_seat) (get_or watches n no_watch) (a n no_seat b).0 (a n no_seat b).1
+          (subst (IsDealt plan shown passes n j lock) (sym (seat_last dealt more seats watches n j p s m (below n b) (h.many n p b)))
+          (pair_is plan shown passes n j lock (get_or seats n no_seat) (get_or watches n no_watch) (a n no_seat b).0 (a n no_seat b).1
           (u n no_watch b)))))
           (λ (i : k ≢ j).
           let d : k < j = omega arith in
           let f : k < length locks = subst (λ (z : ℕ). k < z) (sym h.locked) d in
-          subst (λ (x : ShardLock). IsDealt plan passes n k x (get_or (get_or more n p).items k s))
+          subst (λ (x : ShardLock). IsDealt plan shown passes n k x (get_or (get_or more n p).items k s))
           (sym (ap (λ (z : List ShardLock). get_or z k t) e ∙ get_or_append_left locks (lock ∷ []) t k f))
-          (subst (IsDealt plan passes n k (get_or locks k t))
+          (subst (IsDealt plan shown passes n k (get_or locks k t))
           (sym (seat_before dealt more seats watches n j k p s m (below n b) (h.many n p b) d))
           (h.seats n p k s t b d)));
     }
 
 -- there is room for a shard more
-pub dealt_room : (plan : Plan) (passes : ℕ) (locks : List ShardLock) (dealt : List (Vec Place)) (j : ℕ) → AreDealt plan passes locks dealt j
+pub dealt_room : (plan : Plan) (shown : Bool) (passes : ℕ) (locks : List ShardLock) (dealt : List (Vec Place)) (j : ℕ) → AreDealt plan shown passes locks dealt j
     → j < plan.shards
     → HaveRoom dealt
-dealt_room plan passes locks dealt j h b n p c =
+dealt_room plan shown passes locks dealt j h b n p c =
     let d : n < passes = subst (λ (i : ℕ). n < i) h.count c in
     let o = (get_or dealt n p).ok in
     let m = h.many n p d in
     let r = h.room n p d in
     omega arith
 
-pub dealt_theirs : (plan : Plan) (passes : ℕ) (locks : List ShardLock) (dealt : List (Vec Place)) (j : ℕ)
-    → AreDealt plan passes locks dealt j → AreAllTheirs locks dealt
-dealt_theirs plan passes locks dealt j h n p c =
+pub dealt_theirs : (plan : Plan) (shown : Bool) (passes : ℕ) (locks : List ShardLock) (dealt : List (Vec Place)) (j : ℕ)
+    → AreDealt plan shown passes locks dealt j → AreAllTheirs locks dealt
+dealt_theirs plan shown passes locks dealt j h n p c =
     let d : n < passes = subst (λ (i : ℕ). n < i) h.count c in
     record {
       many = h.many n p d ∙ sym h.locked;
@@ -200,9 +202,9 @@ all_map P [] h n x b = absurd (omega arith)
 all_map P (v ∷ vs) h zero x b = h 0 v b
 all_map P (v ∷ vs) h (suc n) x b = all_map (λ i. P (suc i)) vs (λ i p c. h (suc i) p (omega arith)) n x (omega arith)
 
-pub dealt_fresh : (plan : Plan) (passes : ℕ) (locks : List ShardLock) (dealt : List (Vec Place)) (j : ℕ)
-    → AreDealt plan passes locks dealt j → AreFresh (record { plan = plan; locks = locks }) passes (map (λ (v : Vec Place). v.items) dealt)
-dealt_fresh plan passes locks dealt j h n x b = all_map (IsFresh (record { plan = plan; locks = locks }) passes) dealt (λ i p c.
+pub dealt_fresh : (plan : Plan) (shown : Bool) (passes : ℕ) (locks : List ShardLock) (dealt : List (Vec Place)) (j : ℕ)
+    → AreDealt plan shown passes locks dealt j → AreFresh (record { plan = plan; locks = locks }) passes (map (λ (v : Vec Place). v.items) dealt)
+dealt_fresh plan shown passes locks dealt j h n x b = all_map (IsFresh (record { plan = plan; locks = locks }) passes) dealt (λ i p c.
     let d : i < passes = subst (λ (z : ℕ). i < z) h.count c in
     record {
       its = record {
@@ -211,6 +213,12 @@ dealt_fresh plan passes locks dealt j h n x b = all_map (IsFresh (record { plan 
       };
       fresh = λ k s f. (h.seats i p k s (lock_at s) d (subst (λ (z : ℕ). k < z) (h.many i p d) f)).fresh;
     }) n x (subst (λ (z : ℕ). n < z) (sym h.count) b)
+
+pub dealt_shown : (plan : Plan) (shown : Bool) (passes : ℕ) (locks : List ShardLock) (dealt : List (Vec Place)) (j : ℕ)
+    → AreDealt plan shown passes locks dealt j → AreShown shown passes (map (λ (v : Vec Place). v.items) dealt)
+dealt_shown plan shown passes locks dealt j h n x k s b = all_map (λ i p. k < length p → (get_or p k s).eye.shown ≡ shown) dealt (λ i p c f.
+    let d : i < passes = subst (λ (z : ℕ). i < z) h.count c in
+    (h.seats i p k s (lock_at s) d (subst (λ (z : ℕ). k < z) (h.many i p d) f)).shown_is) n x (subst (λ (z : ℕ). n < z) (sym h.count) b)
 
 -- ---- eyes that have seen nothing
 

@@ -13,6 +13,7 @@ use Rattle.gr_peek.proofs.Prefixes.{prefix_self, prefix_trans}
 pub follows_same : (w : Watching) → Follows w w
 follows_same w = record {
   copy_is = refl;
+  shown_is = refl;
   knew = prefix_self w.known;
   learnt = prefix_self w.told;
   never_falls = omega arith;
@@ -21,6 +22,7 @@ follows_same w = record {
 pub follows_trans : (a b c : Watching) → Follows a b → Follows b c → Follows a c
 follows_trans a b c f g = record {
   copy_is = g.copy_is ∙ f.copy_is;
+  shown_is = g.shown_is ∙ f.shown_is;
   knew = prefix_trans a.known b.known c.known f.knew g.knew;
   learnt = prefix_trans a.told b.told c.told f.learnt g.learnt;
   never_falls = let i = f.never_falls in let j = g.never_falls in omega arith;
@@ -31,6 +33,7 @@ pub follows_learnt : (old new : Watching) (told : List (List Turned)) → new �
     → Follows old new
 follows_learnt old new told e p = record {
   copy_is = ap (λ (w : Watching). w.copy) e;
+  shown_is = ap (λ (w : Watching). w.shown) e;
   knew = subst (λ (w : Watching). IsPrefix old.known w.known) (sym e) (prefix_self old.known);
   learnt = p;
   never_falls = subst (λ (w : Watching). old.denied ≤ w.denied) (sym e) (omega arith);
@@ -39,6 +42,7 @@ follows_learnt old new told e p = record {
 denied : (old new : Watching) → IsDenied old new → Follows old new
 denied old new h = record {
   copy_is = ap (λ (w : Watching). w.copy) h.rest;
+  shown_is = ap (λ (w : Watching). w.shown) h.rest;
   knew = subst (λ (w : Watching). IsPrefix old.known w.known) (sym h.rest) (prefix_self old.known);
   learnt = subst (λ (w : Watching). IsPrefix old.told w.told) (sym h.rest) (prefix_self old.told);
   never_falls = h.never_falls;

@@ -1,5 +1,5 @@
 -- Passes as they are made.
-use Rattle.std.specs.Prelude.{◌≡◌, ℕ, ◌<◌, List, [], ◌∷◌, length, slice_index_or}
+use Rattle.std.specs.Prelude.{◌≡◌, ℕ, ◌<◌, Bool, List, [], ◌∷◌, length, slice_index_or}
 use Rattle.logbook.specs.Pages.{Book}
 use Rattle.gr_history.specs.declared.deed.Deed.{Deed}
 use Rattle.gr_peek.specs.Entering.{new_eye}
@@ -29,6 +29,11 @@ pub record IsFresh (house : House) (passes number : ℕ) (p : List Place) : Type
 abbrev pub AreFresh : House → ℕ → List (List Place) → Type 0
 AreFresh house passes made = (number : ℕ) (p : List Place) → number < passes → IsFresh house passes number (slice_index_or made number p)
 
+-- Each of so many passes is shown the copies, or none is.
+abbrev pub AreShown : Bool → ℕ → List (List Place) → Type 0
+AreShown shown passes made = (number : ℕ) (p : List Place) (k : ℕ) (s : Place) → number < passes → k < length (slice_index_or made number p)
+    → (slice_index_or (slice_index_or made number p) k s).eye.shown ≡ shown
+
 -- the origin of the shard k, with its copy
 abbrev pub origin_at : Plan → ℕ → Book → Origin
 origin_at plan k copy = record { id = identity_of plan k; opening = plan.floor; copy = copy }
@@ -39,6 +44,7 @@ AreSeats plan k passes lock seats = (number : ℕ) (s : Seated Deed Origin) → 
     → ((slice_index_or seats number s).lock ≡ lock.lock)
     × ((slice_index_or seats number s).view ≡ seat_view (origin_at plan k lock.name.copy) passes [] number)
 
--- so many eyes of the copy that have seen nothing
-abbrev pub AreUnused : ℕ → Book → List Watched → Type 0
-AreUnused passes copy watches = (k : ℕ) (w : Watched) → k < passes → slice_index_or watches k w ≡ record { eye = new_eye copy; noted = [] }
+-- so many eyes of the copy that have seen nothing, which are shown it or not
+abbrev pub AreUnused : ℕ → Bool → Book → List Watched → Type 0
+AreUnused passes shown copy watches = (k : ℕ) (w : Watched) → k < passes
+    → slice_index_or watches k w ≡ record { eye = new_eye shown copy; noted = [] }

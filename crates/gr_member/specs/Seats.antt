@@ -41,7 +41,7 @@ no_seat = record {
 }
 
 abbrev pub nowhere : Place
-nowhere = placed no_seat (new_eye (record { number = 0; log_name = 0; cells_name = 0 }))
+nowhere = placed no_seat (new_eye false (record { number = 0; log_name = 0; cells_name = 0 }))
 
 -- the seat, where there is one
 abbrev pub seat_in : Option (Seated Deed Origin) → Seated Deed Origin

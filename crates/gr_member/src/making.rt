@@ -1,8 +1,7 @@
 // How a member is made.
-ghost use Rattle.std.specs.Prelude.{◌≡◌, ◌≤◌, ◌<◌, ℕ, [], All, length, vec_len, IfOk};
-ghost use Rattle.gr_peek.specs.Entering.{new_eye};
+ghost use Rattle.std.specs.Prelude.{◌≡◌, ◌≤◌, ◌<◌, ℕ, length, vec_len, IfOk};
 ghost use Rattle.gr_member.specs.Plans.{IsPlan, identity_of};
-ghost use Rattle.gr_member.specs.Fresh.{AreFresh, AreSeats, AreUnused};
+ghost use Rattle.gr_member.specs.Fresh.{AreFresh, AreShown, AreSeats, AreUnused};
 
 use crate::dealing::{deal, empty_passes, let_go};
 use crate::ending::undo;
@@ -13,7 +12,6 @@ use crate::plan::Plan;
 use crate::replica::Replica;
 use crate::watch::Watch;
 use gr_history::Identity;
-use gr_peek::EyeList;
 use gr_turn::{SeatList, TurnLock};
 use gr_value::Memory;
 use std::alloc::Global;
@@ -35,6 +33,7 @@ impl Member {
         ensures locks { IfOk result (λ made. length made.0.locks ≡ plan.shards) }
         ensures count { IfOk result (λ made. length made.1 ≡ passes) }
         ensures fresh { IfOk result (λ made. AreFresh made.0 passes made.1) }
+        ensures shown { IfOk result (λ made. AreShown shown passes made.1) }
     {
         let shards = usize::from(plan.shards);
         let mut dealt = empty_passes(alloc, passes, shards)?;
@@ -79,7 +78,7 @@ fn open<R: Wait>(
     requires some { 1 ≤ passes }
     ensures count { IfOk result (λ made. (length made.seats ≡ passes) × (vec_len made.watches ≡ passes)) }
     ensures each { IfOk result (λ made. AreSeats plan shard passes made.lock made.seats) }
-    ensures watched { IfOk result (λ made. AreUnused passes made.lock.name.copy made.watches.items) }
+    ensures watched { IfOk result (λ made. AreUnused passes shown made.lock.name.copy made.watches.items) }
 {
     let id = Identity {
         member: plan.member,
@@ -88,12 +87,8 @@ fn open<R: Wait>(
         shard,
         shards: plan.shards,
     };
-    let (replica, eyes) = Replica::new(rt, alloc, id, plan.floor, passes, shown)?;
+    let (replica, watches) = Replica::new(rt, alloc, id, plan.floor, passes, shown)?;
     let name = replica.tell();
-    let Ok(watches) = watches_of(alloc, &replica, eyes) else {
-        replica.end(rt);
-        return Err(Memory);
-    };
     match TurnLock::new(alloc, replica, passes) {
         Ok(made) => Ok(Opened {
             lock: ShardLock { lock: made.0, name },
@@ -105,19 +100,4 @@ fn open<R: Wait>(
             Err(memory)
         }
     }
-}
-
-// Each eye with a note of a copy of which nothing was published.
-fn watches_of(alloc: Global, replica: &Replica, eyes: EyeList) -> Result<Vec<Watch>, Memory>
-    requires none { replica.now.deeds ≡ [] }
-    requires each { All (λ eye. eye ≡ new_eye replica.now.origin.copy) eyes }
-    ensures count { IfOk result (λ watches. vec_len watches ≡ length eyes) }
-    ensures each { IfOk result (λ watches. AreUnused (length eyes) replica.now.origin.copy watches.items) }
-{
-    let mut rest = eyes;
-    let mut watches = Vec::with_capacity(alloc, rest.len())?;
-    while let Some(eye) = rest.pop() {
-        watches.push_reserved(Watch::new(eye, replica.tell()));
-    }
-    Ok(watches)
 }

@@ -1,18 +1,19 @@
-ghost use Rattle.std.specs.Prelude.{◌≡◌, [], reverse, length, false, All, IfOk, OnOk, OnErr};
+ghost use Rattle.std.specs.Prelude.{◌≡◌, [], reverse, vec_len, false, IfOk, OnOk, OnErr};
 ghost use Rattle.std.specs.List.{AllByRecursion};
 ghost use Rattle.gr_history.specs.Recipients.{NamesMembers, is_ready};
 ghost use Rattle.gr_history.specs.Lawful.{IsLawful, IsOfShard};
 ghost use Rattle.gr_value.specs.Lists.{StartsWith};
-ghost use Rattle.gr_peek.specs.Entering.{new_eye};
 ghost use Rattle.gr_peek_law.specs.Turns.{turned_each};
 ghost use Rattle.gr_shard.specs.View.{IsPlace};
 ghost use Rattle.gr_shard.specs.Prepared.{Belongs};
 ghost use Rattle.gr_history.specs.Regions.{IsRegionOf};
+ghost use Rattle.gr_member.specs.Fresh.{AreUnused};
 ghost use Rattle.gr_member.specs.Replicas.{Does};
 
 use crate::serving::{Newest, serve};
+use crate::watch::{Watch, watches_of};
 use gr_history::{Deed, Identity, ShardRecord};
-use gr_peek::{CopyName, EyeList, Published, Told};
+use gr_peek::{CopyName, Published, Told};
 use gr_shard::{Came, Next, Shard};
 use gr_turn::Kept;
 use gr_value::Memory;
@@ -66,7 +67,7 @@ impl Kept for Replica {
 }
 
 impl Replica {
-    // A shard with no deeds, and so many eyes of its copy, which is shown to them or isn't.
+    // A shard with no deeds, and what looks at its copy, which is shown or isn't.
     pub(crate) fn new<R: Wait>(
         rt: &R,
         alloc: Global,
@@ -74,18 +75,22 @@ impl Replica {
         floor: u64,
         eyes: u32,
         shown: bool,
-    ) -> Result<(Replica, EyeList), Memory>
+    ) -> Result<(Replica, Vec<Watch>), Memory>
         requires { IsPlace id floor }
         ensures id { IfOk result (λ made. made.0.origin.id ≡ id) }
         ensures floor { IfOk result (λ made. made.0.origin.opening ≡ floor) }
         ensures none { IfOk result (λ made. made.0.deeds ≡ []) }
-        ensures count { IfOk result (λ made. length made.1 ≡ eyes) }
-        ensures each { IfOk result (λ made. All (λ eye. eye ≡ new_eye made.0.origin.copy) made.1) }
+        ensures count { IfOk result (λ made. vec_len made.1 ≡ eyes) }
+        ensures each { IfOk result (λ made. AreUnused eyes shown made.0.origin.copy made.1.items) }
     {
         let shard = Box::new(alloc, Shard::new(alloc, id, floor)?)?;
         let (published, eyes) = Published::new(rt, alloc, eyes, shown)?;
+        let Ok(watches) = watches_of(alloc, &published, eyes) else {
+            published.end(rt);
+            return Err(Memory);
+        };
         match Box::new(alloc, published) {
-            Ok(published) => Ok((Replica { shard, published }, eyes)),
+            Ok(published) => Ok((Replica { shard, published }, watches)),
             Err(refused) => {
                 refused.value.end(rt);
                 Err(Memory)

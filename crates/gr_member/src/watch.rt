@@ -1,11 +1,12 @@
-ghost use Rattle.std.specs.Prelude.{◌≡◌, [], length, IfOk};
+ghost use Rattle.std.specs.Prelude.{◌≡◌, [], All, length, vec_len, IfOk};
 ghost use mathlib.Core.List.{IsPrefix};
 ghost use Rattle.gr_turn.specs.Views.{longer};
-ghost use Rattle.gr_peek.specs.Entering.{Follows, IsEntered};
+ghost use Rattle.gr_peek.specs.Entering.{Follows, IsEntered, new_eye};
 ghost use Rattle.gr_peek.specs.Publications.{present_after};
+ghost use Rattle.gr_member.specs.Fresh.{AreUnused};
 
-use gr_peek::{Eye, PeekEnd, Seen, Told, peek};
-use gr_value::Key;
+use gr_peek::{Eye, EyeList, PeekEnd, Published, Seen, Told, peek};
+use gr_value::{Key, Memory};
 use std::alloc::Global;
 use std::marker::Model;
 use std::sync::Wait;
@@ -82,4 +83,23 @@ impl Watch {
         self.eye.reach(rt, &note);
         self.note = note;
     }
+}
+
+// Each eye with a note of a copy of which nothing was published.
+pub(crate) fn watches_of(
+    alloc: Global,
+    published: &Published,
+    eyes: EyeList,
+) -> Result<Vec<Watch>, Memory>
+    requires none { published.now.publications ≡ [] }
+    requires each { All (λ eye. eye ≡ new_eye published.now.shown published.now.copy) eyes }
+    ensures count { IfOk result (λ watches. vec_len watches ≡ length eyes) }
+    ensures each { IfOk result (λ watches. AreUnused (length eyes) published.now.shown published.now.copy watches.items) }
+{
+    let mut rest = eyes;
+    let mut watches = Vec::with_capacity(alloc, rest.len())?;
+    while let Some(eye) = rest.pop() {
+        watches.push_reserved(Watch::new(eye, published.tell()));
+    }
+    Ok(watches)
 }

@@ -16,9 +16,11 @@ pub record Publishing : Type 0 where
   pub publications : List (List Turned)
   pub halted : Bool
 
--- An eye: of which copy, the publications that it knows, the longest of these and of its notes, and how many enterings were denied.
+-- An eye: of which copy, whether it is shown it, the publications that it knows, the longest of these and of its notes, and how many
+-- enterings were denied.
 pub record Watching : Type 0 where
   pub copy : Book
+  pub shown : Bool
   pub known : List (List Turned)
   pub told : List (List Turned)
   pub denied : ℕ

@@ -16,7 +16,7 @@ use std::sync::Wait;
 fn open_eye(writer: &mut StoreWriter, told: &Told) -> Result<Eye, Memory>
     requires named { view writer.old.desk.place ≡ Some told.now.copy }
     requires none { told.now.publications ≡ [] }
-    ensures eye { IfOk result (λ eye. eye ≡ new_eye told.now.copy) }
+    ensures eye { IfOk result (λ eye. eye ≡ new_eye true told.now.copy) }
     ensures shown { writer.new.desk.shown ≡ writer.old.desk.shown }
     ensures view { view writer.new.desk.place ≡ view writer.old.desk.place }
     ensures laid { drop writer.new.behind writer.new.log.items ≡ drop writer.old.behind writer.old.log.items }
@@ -41,7 +41,7 @@ fn open_eyes(
     requires named { view writer.old.desk.place ≡ Some told.now.copy }
     requires none { told.now.publications ≡ [] }
     ensures count { IfOk result (λ list. length list ≡ eyes) }
-    ensures each { IfOk result (λ list. All (λ eye. eye ≡ new_eye told.now.copy) list) }
+    ensures each { IfOk result (λ list. All (λ eye. eye ≡ new_eye true told.now.copy) list) }
     ensures shown { writer.new.desk.shown ≡ writer.old.desk.shown }
     ensures view { view writer.new.desk.place ≡ view writer.old.desk.place }
     ensures laid { drop writer.new.behind writer.new.log.items ≡ drop writer.old.behind writer.old.log.items }
@@ -57,7 +57,7 @@ fn open_eyes(
 fn closed_eyes(alloc: Global, told: &Told, eyes: u32) -> Result<EyeList, Memory>
     requires none { told.now.publications ≡ [] }
     ensures count { IfOk result (λ list. length list ≡ eyes) }
-    ensures each { IfOk result (λ list. All (λ eye. eye ≡ new_eye told.now.copy) list) }
+    ensures each { IfOk result (λ list. All (λ eye. eye ≡ new_eye false told.now.copy) list) }
 {
     let mut list = EyeList::new(alloc)?;
     for _k in 0..eyes {
@@ -82,7 +82,7 @@ impl Published {
     ) -> Result<(Published, EyeList), Memory>
         ensures new { IfOk result (λ made. (made.0.shown ≡ shown) × (made.0.publications ≡ []) × (made.0.halted ≡ false)) }
         ensures count { IfOk result (λ made. length made.1 ≡ eyes) }
-        ensures each { IfOk result (λ made. All (λ eye. eye ≡ new_eye made.0.copy) made.1) }
+        ensures each { IfOk result (λ made. All (λ eye. eye ≡ new_eye shown made.0.copy) made.1) }
     {
         if shown {
             Published::open(rt, alloc, eyes)
@@ -95,7 +95,7 @@ impl Published {
     fn unseen(alloc: Global, eyes: u32) -> Result<(Published, EyeList), Memory>
         ensures new { IfOk result (λ made. (made.0.shown ≡ false) × (made.0.publications ≡ []) × (made.0.halted ≡ false)) }
         ensures count { IfOk result (λ made. length made.1 ≡ eyes) }
-        ensures each { IfOk result (λ made. All (λ eye. eye ≡ new_eye made.0.copy) made.1) }
+        ensures each { IfOk result (λ made. All (λ eye. eye ≡ new_eye false made.0.copy) made.1) }
     {
         let (told, head) = Told::open();
         let list = closed_eyes(alloc, &told, eyes)?;
@@ -112,7 +112,7 @@ impl Published {
     fn open<R: Wait>(rt: &R, alloc: Global, eyes: u32) -> Result<(Published, EyeList), Memory>
         ensures new { IfOk result (λ made. (made.0.shown ≡ true) × (made.0.publications ≡ []) × (made.0.halted ≡ false)) }
         ensures count { IfOk result (λ made. length made.1 ≡ eyes) }
-        ensures each { IfOk result (λ made. All (λ eye. eye ≡ new_eye made.0.copy) made.1) }
+        ensures each { IfOk result (λ made. All (λ eye. eye ≡ new_eye true made.0.copy) made.1) }
     {
         let (told, head) = Told::open();
         let (first, second) = (Store::new(alloc, &told), Store::new(alloc, &told));

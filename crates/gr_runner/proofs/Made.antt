@@ -1,5 +1,5 @@
 -- Members as they are made, and as they are taken apart.
-use Rattle.std.proofs.Common.{◌≡◌, ℕ, suc, ◌+◌, ◌<◌, ◌≤◌, List, [], ◌∷◌, ◌++◌, length, get_or}
+use Rattle.std.proofs.Common.{◌≡◌, ℕ, suc, ◌+◌, ◌<◌, ◌≤◌, Bool, List, [], ◌∷◌, ◌++◌, length, get_or}
 use Rattle.std.proofs.Common.{refl, sym, ap, ◌∙◌, subst, arith, length-append}
 use Rattle.std.proofs.lemmas.List.{get_or_push, get_or_append_left}
 use mathlib.Core.Logic.{dite}
@@ -8,7 +8,8 @@ use Rattle.gr_script.specs.Rules.{Heading}
 use Rattle.gr_member.specs.declared.plan.Plan.{Plan}
 use Rattle.gr_member.specs.Seats.{Place}
 use Rattle.gr_member.specs.Passes.{House, IsPassOf}
-use Rattle.gr_runner.specs.Makings.{AreAt, AreEachAt, AreMade, AreOf, IsMade, passes_at, plan_of}
+use Rattle.gr_member.specs.Fresh.{AreShown}
+use Rattle.gr_runner.specs.Makings.{AreAt, AreEachAt, AreMade, AreOf, AreAllShown, IsMade, passes_at, plan_of}
 
 -- what holds of each pair of two lists
 abbrev EachPair : {A B : Type 0} → (ℕ → A → B → Type 0) → List A → List B → Type 0
@@ -67,6 +68,23 @@ made_more h n houses more made deal house passes are one is dealt =
           (subst (λ (i : ℕ). IsMade (plan_of h i) (passes_at h i) house passes) (omega arith) one) k x y
           (let long : length (houses ++ house ∷ []) ≡ length houses + 1 = length-append houses (house ∷ []) in omega arith)));
     }
+
+pub shown_none : (h : Heading) (shown : Bool) → AreAllShown h shown 0 []
+shown_none h shown k passes less = absurd (omega arith)
+
+-- the passes of one member more
+pub shown_more : (h : Heading) (shown : Bool) (n : ℕ) (made deal : List (List (List Place))) (passes : List (List Place))
+    → length made ≡ n → AreAllShown h shown n made → AreShown shown (passes_at h (n + 1)) passes → deal ≡ made ++ passes ∷ []
+    → AreAllShown h shown (n + 1) deal
+shown_more h shown n made deal passes many are one dealt k x less =
+    subst (λ (l : List (List (List Place))). AreShown shown (passes_at h (suc k)) (get_or l k x)) (sym dealt)
+    (dite (ℕ_discrete k n)
+    (λ (e : k ≡ n). subst (AreShown shown (passes_at h (suc k))) (sym (get_or_push made passes x k (many ∙ sym e)))
+    (subst (λ (i : ℕ). AreShown shown (passes_at h i) passes) (omega arith) one))
+    (λ (d : k ≡ n → ⊥).
+    let here : k < n = omega arith in
+    subst (AreShown shown (passes_at h (suc k)))
+    (sym (get_or_append_left made (passes ∷ []) x k (subst (λ (i : ℕ). k < i) (sym many) here))) (are k x here)))
 
 -- ---- taking apart
 

@@ -1,5 +1,5 @@
 -- The members of a run, as they are made.
-use Rattle.std.specs.Prelude.{◌≡◌, ℕ, suc, ◌+◌, ◌-◌, ◌≤◌, ◌<◌, ◌==◌, Bool, true, false, List, length, count_by, slice_index_or}
+use Rattle.std.specs.Prelude.{◌≡◌, ℕ, suc, ◌+◌, ◌-◌, ◌≤◌, ◌<◌, ◌==◌, Bool, true, false, not, List, length, count_by, slice_index_or}
 use Rattle.gr_script.specs.declared.line.Act.TheVariants as act
 use Rattle.gr_script.specs.declared.line.Line.{Line}
 use Rattle.gr_script.specs.declared.line.Line.TheVariants as line
@@ -7,7 +7,7 @@ use Rattle.gr_script.specs.Rules.{Heading}
 use Rattle.gr_member.specs.declared.plan.Plan.{Plan}
 use Rattle.gr_member.specs.Seats.{Place}
 use Rattle.gr_member.specs.Passes.{House, IsPassOf}
-use Rattle.gr_member.specs.Fresh.{AreFresh}
+use Rattle.gr_member.specs.Fresh.{AreFresh, AreShown}
 
 -- what a member is planned to be
 abbrev pub plan_of : Heading → ℕ → Plan
@@ -26,6 +26,10 @@ is_peek _ = false
 abbrev pub peeks : List Line → ℕ
 peeks lines = count_by is_peek lines
 
+-- whether copies are shown: where some client peeks
+abbrev pub shows : List Line → Bool
+shows lines = not (peeks lines == 0)
+
 -- The member was made by this plan, with so many passes.
 pub record IsMade (plan : Plan) (passes : ℕ) (house : House) (made : List (List Place)) : Type 0 where
   pub plan_is : house.plan ≡ plan
@@ -39,6 +43,11 @@ pub record AreMade (h : Heading) (members : ℕ) (houses : List House) (made : L
   pub dealt : length made ≡ members
   pub each : (k : ℕ) (house : House) (passes : List (List Place)) → k < members
       → IsMade (plan_of h (suc k)) (passes_at h (suc k)) (slice_index_or houses k house) (slice_index_or made k passes)
+
+-- The passes of the first members of the script are shown their copies, or none is.
+abbrev pub AreAllShown : Heading → Bool → ℕ → List (List (List Place)) → Type 0
+AreAllShown h shown members made = (k : ℕ) (passes : List (List Place)) → k < members
+    → AreShown shown (passes_at h (suc k)) (slice_index_or made k passes)
 
 -- Each of the passes is one of this member.
 abbrev pub AreOf : House → List (List Place) → Type 0

@@ -2,8 +2,9 @@
 ghost use Rattle.std.specs.Prelude.{◌≡◌, ◌==◌, ◌≤◌, count_by, IfOk};
 ghost use Rattle.gr_script.specs.Rules.{IsMember};
 ghost use Rattle.gr_script.specs.Scripts.{heading_of};
+ghost use Rattle.gr_member.specs.Fresh.{AreShown};
 ghost use Rattle.gr_member.specs.Plans.{IsPlan};
-ghost use Rattle.gr_runner.specs.Makings.{AreMade, IsMade, is_peek, passes_at as passes_planned, peeks, plan_of as plan_for};
+ghost use Rattle.gr_runner.specs.Makings.{AreMade, AreAllShown, IsMade, is_peek, passes_at as passes_planned, peeks, plan_of as plan_for, shows};
 
 use crate::undoing::undo;
 use gr_member::{Member, PassList, Plan};
@@ -19,7 +20,8 @@ pub fn make<R: Wait>(
     alloc: Global,
     script: &Script,
 ) -> Result<(Vec<Member>, Vec<PassList>), Memory>
-    ensures { IfOk result (λ made. AreMade (heading_of script.now) script.now.members made.0.items made.1.items) }
+    ensures made { IfOk result (λ made. AreMade (heading_of script.now) script.now.members made.0.items made.1.items) }
+    ensures shown { IfOk result (λ made. AreAllShown (heading_of script.now) (shows script.now.lines) script.now.members made.1.items) }
 {
     let count = usize::from(script.members);
     let mut members = Vec::with_capacity(alloc, count)?;
@@ -49,8 +51,9 @@ fn make_one<R: Wait>(
     shown: bool,
 ) -> Result<(Member, PassList), Memory>
     requires { IsMember (heading_of script.now) member }
-    ensures { IfOk result (λ made. IsMade (plan_for (heading_of script.now) member) (passes_planned (heading_of script.now) member)
+    ensures made { IfOk result (λ made. IsMade (plan_for (heading_of script.now) member) (passes_planned (heading_of script.now) member)
         made.0 made.1) }
+    ensures shown { IfOk result (λ made. AreShown shown (passes_planned (heading_of script.now) member) made.1) }
 {
     let passes = passes_at(script, member);
     let plan = plan_of(script, member);

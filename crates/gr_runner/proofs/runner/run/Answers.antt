@@ -13,7 +13,7 @@ use Rattle.gr_runner.proofs.NewPasses.{counted_of}
 use Rattle.gr_runner.proofs.runner.run.Goals as goal
 
 pub deal-dealt-requires-clause-passes : goal.deal-dealt-requires-clause-passes
-deal-dealt-requires-clause-passes g c = counted_of (heading_of c.args.script.now) c.in-Ok.members.items c.in-Ok.passes.items c.in-Ok.ensures
+deal-dealt-requires-clause-passes g c = counted_of (heading_of c.args.script.now) c.in-Ok.members.items c.in-Ok.passes.items c.in-Ok.ensures.made
 
 pub deal-dealt-requires-clause-clients : goal.deal-dealt-requires-clause-clients
 deal-dealt-requires-clause-clients g c =
@@ -27,8 +27,8 @@ conduct-desks-requires-clause-ready g c κs within =
     let rings = c.in_ok-inboxes.field-0.inboxes in
     let dealt = c.deal-dealt.result in
     let first = is_ready h lines c.in-Ok.members.items rings c.in-Ok.passes.items c.in_ok-inboxes.field-0.kits dealt c.args.script.now.ruled
-    c.in-Ok.ensures c.in_ok-inboxes.ensures.inboxes c.in_ok-inboxes.ensures.kits c.deal-dealt.ensures.all
-    (c.deal-dealt.ensures.new c.in-Ok.members.items c.in-Ok.ensures) in
+    c.in-Ok.ensures.made c.in_ok-inboxes.ensures.inboxes c.in_ok-inboxes.ensures.kits c.deal-dealt.ensures.all
+    (c.deal-dealt.ensures.new c.in-Ok.members.items c.in-Ok.ensures.made) in
     let ready = subst (λ (hs : List House). IsReady h lines hs rings dealt) (sym c.deref.ensures.value) first in
     (h, lines, ready)
 
@@ -39,8 +39,8 @@ end_run-requires-clause-all g c =
     let rings = c.in_ok-inboxes.field-0.inboxes in
     let dealt = c.deal-dealt.result in
     let first = is_ready h lines c.in-Ok.members.items rings c.in-Ok.passes.items c.in_ok-inboxes.field-0.kits dealt c.args.script.now.ruled
-    c.in-Ok.ensures c.in_ok-inboxes.ensures.inboxes c.in_ok-inboxes.ensures.kits c.deal-dealt.ensures.all
-    (c.deal-dealt.ensures.new c.in-Ok.members.items c.in-Ok.ensures) in
+    c.in-Ok.ensures.made c.in_ok-inboxes.ensures.inboxes c.in_ok-inboxes.ensures.kits c.deal-dealt.ensures.all
+    (c.deal-dealt.ensures.new c.in-Ok.members.items c.in-Ok.ensures.made) in
     let ready = subst (λ (hs : List House). IsReady h lines hs rings dealt) (sym c.deref.ensures.value) first in
     have_numbers h lines c.deref.result.now rings c.conduct-desks.result.desks.items dealt c.conduct-desks.result.told ready
     c.conduct-desks.ensures.gone
@@ -52,8 +52,8 @@ returns-clause-left g c =
     let rings = c.in_ok-inboxes.field-0.inboxes in
     let dealt = c.deal-dealt.result in
     let first = is_ready h lines c.in-Ok.members.items rings c.in-Ok.passes.items c.in_ok-inboxes.field-0.kits dealt c.args.script.now.ruled
-    c.in-Ok.ensures c.in_ok-inboxes.ensures.inboxes c.in_ok-inboxes.ensures.kits c.deal-dealt.ensures.all
-    (c.deal-dealt.ensures.new c.in-Ok.members.items c.in-Ok.ensures) in
+    c.in-Ok.ensures.made c.in_ok-inboxes.ensures.inboxes c.in_ok-inboxes.ensures.kits c.deal-dealt.ensures.all
+    (c.deal-dealt.ensures.new c.in-Ok.members.items c.in-Ok.ensures.made) in
     let ready = subst (λ (hs : List House). IsReady h lines hs rings dealt) (sym c.deref.ensures.value) first in
     ok_both (λ (r : Record). c.conduct-desks.result.told ≡ Some r.clients)
     (λ (r : Record). AreEnded c.in-Ok.members.items c.conduct-desks.result.desks.items r.members) (IsLeftByThreads h lines)

@@ -3,11 +3,11 @@ use Rattle.std.specs.Prelude.{vec_len}
 use Rattle.gr_peek.specs.Entering.{new_eye}
 use Rattle.gr_peek.specs.Views.{Watching}
 use Rattle.gr_member.proofs.Dealt.{eyes_last, unused_more}
-use Rattle.gr_member.proofs.making.watches_of.Goals as goal
+use Rattle.gr_member.proofs.watch.watches_of.Goals as goal
 
 pub loop-eye-preserved : goal.loop-eye-preserved
 loop-eye-preserved c =
-    let both = eyes_last (λ eye. eye ≡ new_eye c.args.replica.now.origin.copy) c.loop-eye.rest c.pop.new.self c.in-Some.eye
+    let both = eyes_last (λ eye. eye ≡ new_eye c.args.published.now.shown c.args.published.now.copy) c.loop-eye.rest c.pop.new.self c.in-Some.eye
     c.loop-eye.invariant.each c.in-Some.ensures.item in
     let ok = c.loop-eye.watches.ok in
     let less : length c.loop-eye.rest ≡ length c.pop.new.self + 1 =
@@ -21,7 +21,7 @@ loop-eye-preserved c =
       held = omega arith;
       each = both.0;
       made = λ k w b. unused_more c.loop-eye.watches.items c.push_reserved.new.self.items (vec_len c.loop-eye.watches) c.new.result
-          (record { eye = new_eye c.args.replica.now.origin.copy; noted = [] }) c.push_reserved.ensures.items (omega arith)
+          (record { eye = new_eye c.args.published.now.shown c.args.published.now.copy; noted = [] }) c.push_reserved.ensures.items (omega arith)
           (c.new.ensures ∙ ap (λ (eye : Watching). record { eye = eye; noted = [] }) both.1) c.loop-eye.invariant.made k w
           (subst (λ (n : ℕ). k < n) one b);
     }
