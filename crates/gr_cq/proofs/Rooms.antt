@@ -2,8 +2,11 @@
 use Rattle.std.proofs.Common.{◌≡◌, ℕ, zero, suc, ◌+◌, ◌≤◌, ◌<◌, List, [], ◌∷◌, ◌++◌, length, take, set, get_or, Vec}
 use Rattle.std.proofs.Common.{Global, sym, subst, arith}
 use Rattle.std.specs.List.{AllByRecursion}
+use Rattle.std.specs.Option.{option_to_list}
 use Rattle.std.proofs.Math.Seq.{map-set_same}
 use Rattle.std.proofs.lemmas.List.{take_more_set}
+use Rattle.gr_oql.specs.declared.event.Event.{Event}
+use Rattle.gr_oql.specs.declared.event.Turned.{Turned}
 use Rattle.gr_cq.specs.declared.open.Open.{Open}
 use Rattle.gr_cq.specs.declared.foreseen.Plan.{Plan}
 use Rattle.gr_cq.specs.declared.foreseen.Plan.TheVariants as plan
@@ -41,13 +44,18 @@ none_roomy all = record { one_more = λ le. absurd (never le); each = no_room al
     never : 1 ≤ 0 → ⊥
     never le = omega (arith, le)
 
+-- there is room for what each query is told
+fits_lists : (spare : ℕ) (all : List Open) (lists : List (List Event)) → HaveRoom spare all → (turned : List Turned)
+    → lists ≡ coming_to_each turned (entries_of all) → AreWithin spare lists → Fit lists all
+fits_lists spare all lists room turned is within =
+    subst (λ told. Fit told all) (sym is) (fit_told turned spare all (subst (AreWithin spare) is within) room)
+
 -- there is room for what was foreseen
 pub fits_made : (spare : ℕ) (all : Vec Open Global) (it : Plan) → IsRoomy spare all
     → IsMadeFor (record { entries = entries_of all.items; spare = spare }) (change_of it) → FitsIn all it
 fits_made spare all (plan.Enrol one) roomy made = roomy.one_more made.room
 fits_made spare all (plan.Take client name) roomy made = tt
+fits_made spare all (plan.Tell event) roomy made =
+    fits_lists spare all.items (option_to_list event ∷ []) roomy.each made.made.0 made.made.1 made.within
 fits_made spare all (plan.Note lists) roomy made =
-    let turned = made.made.0 in
-    let is : events_in lists.items ≡ coming_to_each turned (entries_of all.items) = made.made.1 in
-    let within : AreWithin spare (coming_to_each turned (entries_of all.items)) = subst (AreWithin spare) is made.within in
-    subst (λ told. Fit told all.items) (sym is) (fit_told turned spare all.items within roomy.each)
+    fits_lists spare all.items (events_in lists.items) roomy.each made.made.0 made.made.1 made.within

@@ -1,5 +1,5 @@
 -- A query that a change can't concern is told nothing of it.
-use Rattle.std.proofs.Common.{◌≡◌, ◌↔◌, ◌∙◌, ap, sym, refl, subst, List, [], ◌∷◌, ◌++◌, append-nil, Bool, true, false, ◌||◌, Option, Some, None}
+use Rattle.std.proofs.Common.{◌≡◌, ◌↔◌, ◌∙◌, ap, sym, refl, subst, List, [], ◌∷◌, ◌++◌, Bool, true, false, ◌||◌, Option, Some, None}
 use Rattle.std.proofs.Common.{ℕ, ◌+◌, ◌<◌, length, take, get_or}
 use Rattle.std.specs.Prelude.{option_map}
 use Rattle.std.specs.List.{AllByRecursion, cons_option}
@@ -77,9 +77,6 @@ pub told_next : (question : Question) (turned : List Turned) (i : ℕ) (d : Turn
 told_next question turned i d lt =
     ap (told_all question) (take_more turned i d lt) ∙ filter_map-append (told question) (take i turned) (get_or turned i d ∷ [])
 
-pub told_same : (question : Question) (turned : List Turned) (i : ℕ) (d : Turned) → i < length turned
-    → can_concern (must_of question) (get_or turned i d) ≡ false → told_all question (take (i + 1) turned) ≡ told_all question (take i turned)
-told_same question turned i d lt none =
-    told_next question turned i d lt
-    ∙ ap (λ found. told_all question (take i turned) ++ cons_option found []) (untold question (get_or turned i d) none)
-    ∙ append-nil (told_all question (take i turned))
+-- of a key that can't concern it nothing is told
+pub none_told : (question : Question) (turned : Turned) → can_concern (must_of question) turned ≡ false → told_all question (turned ∷ []) ≡ []
+none_told question turned none = ap (λ found. cons_option found []) (untold question turned none)

@@ -1,7 +1,8 @@
 -- An open query as contracts see it, and the room for the events that are coming.
-use Rattle.std.specs.Prelude.{◌≤◌, ◌<◌, ℕ, List, [], ◌∷◌, length, map, vec_len, vec_capacity, Vec}
+use Rattle.std.specs.Prelude.{◌≤◌, ◌<◌, ℕ, List, [], ◌∷◌, length, map, vec_len, vec_capacity, Vec, box_value}
 use Rattle.std.specs.Global.{Global}
 use Rattle.std.specs.List.{AllByRecursion}
+use Rattle.std.specs.Option.{option_to_list}
 use Rattle.gr_oql.specs.declared.event.Event.{Event}
 use Rattle.gr_cq.specs.declared.open.Open.{Open}
 use Rattle.gr_cq.specs.declared.foreseen.Plan.{Plan}
@@ -37,12 +38,14 @@ abbrev pub events_in : List (Vec Event Global) → List (List Event)
 events_in lists = map (λ (events : Vec Event Global). events.items) lists
 
 abbrev pub change_of : Plan → Foresight
-change_of (plan.Enrol one) = Enrolling (entry_of one)
+change_of (plan.Enrol one) = Enrolling (entry_of (box_value one))
 change_of (plan.Take client name) = Taking client name
+change_of (plan.Tell event) = Telling (option_to_list event ∷ [])
 change_of (plan.Note lists) = Telling (events_in lists.items)
 
 -- room for a change
 abbrev pub FitsIn : Vec Open Global → Plan → Type 0
 FitsIn all (plan.Enrol one) = vec_len all < vec_capacity all
 FitsIn all (plan.Take client name) = Unit {0}
+FitsIn all (plan.Tell event) = Fit (option_to_list event ∷ []) all.items
 FitsIn all (plan.Note lists) = Fit (events_in lists.items) all.items

@@ -14,8 +14,10 @@ use std::marker::Model;
 /// What a call that is coming changes.
 #[derive(Drop)]
 pub(crate) enum Plan {
-    Enrol(Open),
+    Enrol(Box<Open>),
     Take { client: u8, name: Key },
+    /// What the only query is told of the only key, if anything: this takes no list.
+    Tell(Option<Event>),
     /// What each open query is told, in their order.
     Note(Vec<Vec<Event>>),
 }
@@ -50,7 +52,7 @@ impl Foreseen {
         ensures { IfOk result (λ foreseen. foreseen ≡ Enrolling (entry_opened client name.now query.now)) }
     {
         Ok(Foreseen {
-            plan: Plan::Enrol(Open::new(alloc, client, name, query)?),
+            plan: Plan::Enrol(Box::new(alloc, Open::new(alloc, client, name, query)?)?),
         })
     }
 
@@ -66,6 +68,11 @@ impl Foreseen {
     pub(crate) fn note(alloc: Global, all: &[Open], turned: &[Turned]) -> Result<Foreseen, Memory>
         ensures { IfOk result (λ foreseen. foreseen ≡ Telling (coming_to_each turned.now (entries_of all.now))) }
     {
+        if all.len() == 1 && turned.len() == 1 {
+            return Ok(Foreseen {
+                plan: Plan::Tell(all[0].coming_of(alloc, &turned[0])?),
+            });
+        }
         Ok(Foreseen {
             plan: Plan::Note(coming_to_each(alloc, all, turned)?),
         })
@@ -78,7 +85,7 @@ impl Foreseen {
         ensures within { IsWithin result self.now }
     {
         match &self.plan {
-            Plan::Enrol(_) | Plan::Take { .. } => 1,
+            Plan::Enrol(_) | Plan::Take { .. } | Plan::Tell(_) => 1,
             Plan::Note(lists) => longest(lists),
         }
     }

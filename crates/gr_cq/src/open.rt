@@ -1,5 +1,5 @@
 ghost use Rattle.std.specs.Prelude.{◌≡◌, ◌≤◌, [], ◌∷◌, ◌++◌, length, map, true, false, Some, IfOk, IfSome, OnOk, OnErr, option_copied, option_map};
-ghost use Rattle.std.specs.List.{AllByRecursion};
+ghost use Rattle.std.specs.Option.{option_to_list};
 ghost use Rattle.gr_oql.specs.Events.{told_all};
 ghost use Rattle.gr_cq.specs.Entries.{is_at, find, changed_at, with_kept, kept_stopped, kept_taken, kept_with, coming_to, entry_opened};
 ghost use Rattle.gr_cq.specs.View.{kept_of, entry_of};
@@ -82,6 +82,26 @@ impl Open {
         self.waiting.append(events);
     }
 
+    /// Puts an event, if there is one, behind those that wait; there is room.
+    pub fn hear_one(&mut self, event: Option<Event>)
+        requires { length (option_to_list event) ≤ self.old.waiting.spare }
+        ensures { entry_of self.new ≡ with_kept (kept_with (option_to_list event)) (entry_of self.old) }
+    {
+        if let Some(event) = event {
+            self.waiting.push(event);
+        }
+    }
+
+    /// What the query is told of one key, if anything. One that was stopped is told nothing.
+    pub fn coming_of(&self, alloc: Global, one: &Turned) -> Result<Option<Event>, Memory>
+        ensures { IfOk result (λ event. option_to_list event ≡ coming_to (one.now ∷ []) (kept_of self.now)) }
+    {
+        if !self.runs {
+            return Ok(None);
+        }
+        event_of(alloc, &self.query, one)
+    }
+
     /// What the query is told of these keys. One that was stopped is told nothing.
     pub fn coming(&self, alloc: Global, turned: &[Turned]) -> Result<Vec<Event>, Memory>
         ensures { IfOk result (λ events. events.items ≡ coming_to turned.now (kept_of self.now)) }
@@ -94,27 +114,36 @@ impl Open {
     }
 }
 
-// Adds what a query is told of a key that can concern it.
+// What a query is told of a key, if anything.
+#[tactic(auto, using(crate::proofs::Untold::none_told))]
+fn event_of(alloc: Global, query: &Query, one: &Turned) -> Result<Option<Event>, Memory>
+    ensures { IfOk result (λ event. option_to_list event ≡ told_all query.now (one.now ∷ [])) }
+{
+    if can_concern(query.must(), one) {
+        Event::of(alloc, query, one)
+    } else {
+        Ok(None)
+    }
+}
+
+// Adds what a query is told of a key.
 fn tell(alloc: Global, query: &Query, one: &Turned, events: &mut Vec<Event>) -> Result<(), Memory>
     ensures { OnOk result (events.new.items ≡ events.old.items ++ told_all query.now (one.now ∷ [])) }
 {
-    if let Some(event) = Event::of(alloc, query, one)? {
+    if let Some(event) = event_of(alloc, query, one)? {
         events.push(event)?;
     }
     Ok(())
 }
 
 // What a query is told of all these keys, in order.
-#[tactic(auto, using(crate::proofs::Untold::told_next, crate::proofs::Untold::told_same))]
+#[tactic(auto, using(crate::proofs::Untold::told_next))]
 fn told_all(alloc: Global, query: &Query, turned: &[Turned]) -> Result<Vec<Event>, Memory>
     ensures { IfOk result (λ events. events.items ≡ told_all query.now turned.now) }
 {
-    let must = query.must();
     let mut events = Vec::new(alloc);
     for one in turned {
-        if can_concern(must, one) {
-            tell(alloc, query, one, &mut events)?;
-        }
+        tell(alloc, query, one, &mut events)?;
     }
     Ok(events)
 }

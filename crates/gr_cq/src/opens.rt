@@ -1,5 +1,6 @@
-ghost use Rattle.std.specs.Prelude.{◌≡◌, ◌≤◌, ◌<◌, ℕ, List, length, position, map, IfOk, IfSome, OnOk, is_some, option_map, option_copied};
+ghost use Rattle.std.specs.Prelude.{◌≡◌, ◌≤◌, ◌<◌, ℕ, List, [], ◌∷◌, length, position, map, IfOk, IfSome, OnOk, is_some, option_map, option_copied};
 ghost use Rattle.std.specs.List.{AllByRecursion};
+ghost use Rattle.std.specs.Option.{option_to_list};
 ghost use Rattle.gr_oql.specs.declared.event.Event.{Event};
 ghost use Rattle.gr_cq.specs.Entries.{is_at, find, changed_at, kept_stopped, kept_taken};
 ghost use Rattle.gr_cq.specs.Foresight.{changed, coming_to_each, longest, told_each};
@@ -84,9 +85,10 @@ pub fn carry_out(all: &mut Vec<Open>, plan: Plan)
 {
     match plan {
         Plan::Enrol(one) => {
-            let _ = all.push(one);
+            let _ = all.push(Box::into_inner(one));
         }
         Plan::Take { client, name } => take_at(all, client, &name),
+        Plan::Tell(event) => tell_first(all, event),
         Plan::Note(mut lists) => hear_each(all, &mut lists),
     }
 }
@@ -109,6 +111,14 @@ fn take_at(all: &mut [Open], client: u8, name: &Key)
     if let Some(place) = place_of(all, client, name) {
         all[place].clear();
     }
+}
+
+// Puts an event, if there is one, behind what waits at the first query, which there is.
+fn tell_first(all: &mut [Open], event: Option<Event>)
+    requires { Fit (option_to_list event ∷ []) all.old }
+    ensures { entries_of all.new ≡ told_each (option_to_list event ∷ []) (entries_of all.old) }
+{
+    all[0].hear_one(event);
 }
 
 // Puts behind what waits at each query the events that it is told.

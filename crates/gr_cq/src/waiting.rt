@@ -1,4 +1,4 @@
-ghost use Rattle.std.specs.Prelude.{◌≡◌, ◌≤◌, [], ◌++◌, length, IfOk, OnOk};
+ghost use Rattle.std.specs.Prelude.{◌≡◌, ◌≤◌, [], ◌∷◌, ◌++◌, length, IfOk, OnOk};
 
 use gr_oql::{Event, EventList};
 use gr_value::{Copied, Memory};
@@ -48,6 +48,14 @@ impl Waiting {
         ensures { self.new.events ≡ self.old.events ++ more.old.items }
     {
         let _ = self.events.append(more);
+    }
+
+    /// Moves one behind those that wait; there is room.
+    pub fn push(&mut self, event: Event)
+        requires { 1 ≤ self.old.spare }
+        ensures { self.new.events ≡ self.old.events ++ event ∷ [] }
+    {
+        self.events.push_reserved(event);
     }
 
     /// Drops all events, with their room.
