@@ -1,5 +1,6 @@
 -- A merge that is prepared can be committed.
-use Rattle.std.proofs.Common.{◌≡◌, ◌≤◌, ◌∙◌, ap, sym, refl, subst, ℕ, List, [], ◌∷◌, reverse, true, not, Some}
+use Rattle.std.proofs.Common.{◌≡◌, ◌≤◌, ◌∙◌, ap, sym, refl, subst, Box, Global, ℕ, List, [], ◌∷◌, reverse, true, not, Some}
+use Rattle.std.specs.Prelude.{box_value}
 use Rattle.std.specs.List.Sorted.{IsStrictlySortedBy}
 use Rattle.std.specs.Ordering.{nat_cmp}
 use Rattle.std.specs.Cmp.Lexicographic.{slice_cmp}
@@ -43,9 +44,9 @@ in_step_after deed past after queries unasked tells same in_step =
     (subst (λ all. IsInStep all (deed ∷ past)) (sym tells)
     (noted_in_step deed past (opened past) unasked (subst (λ all. IsInStep all past) same in_step)))
 
-module _ (account : Account) (image : Image) (slots : HeldSlots) (vector : Ids) (floor : ℕ) (after : QueriesAfter) where
-  pub fit_imaged : needs after ≤ account.spare → IsImageFor account.id image → Hold slots.entries (Imaged image ∷ reverse account.deeds)
-      → vector.ids ≡ known (Imaged image ∷ reverse account.deeds)
+module _ (account : Account) (image : Image) (slots : Box HeldSlots Global) (vector : Box Ids Global) (floor : ℕ) (after : QueriesAfter) where
+  pub fit_imaged : needs after ≤ account.spare → IsImageFor account.id image → Hold (box_value slots).entries (Imaged image ∷ reverse account.deeds)
+      → (box_value vector).ids ≡ known (Imaged image ∷ reverse account.deeds)
       → floor ≡ floor_of account.opening (Imaged image ∷ reverse account.deeds) → floor ≤ LIMIT
       → queries_after after (opened (reverse account.deeds))
       ≡ noted (turned (Imaged image) (reverse account.deeds)) (opened (reverse account.deeds))

@@ -12,7 +12,7 @@ use Rattle.std.specs.Ordering.{nat_cmp}
 use Rattle.gr_stamp.specs.declared.change.Change.{Change}
 use Rattle.gr_stamp.specs.Winner.{is_removal, winner, wins}
 use Rattle.gr_vector.specs.declared.report.Report.{Report}
-use Rattle.gr_vector.specs.Ids.{Id, covers, has_id, is_same_id}
+use Rattle.gr_vector.specs.Ids.{Id, covers, has_id}
 use Rattle.gr_vector.specs.Order.{with_id}
 use Rattle.gr_vector.proofs.Order.{has_with}
 use Rattle.gr_history.specs.declared.identity.Identity.{Identity}
@@ -30,7 +30,7 @@ use Rattle.gr_history.specs.Regions.{keys_of}
 use Rattle.gr_history.specs.Stable.{due, is_covered, is_due, is_due_from, is_stable}
 use Rattle.gr_history.specs.Standing.{changes, lasting, names, standing}
 use Rattle.gr_slots.specs.declared.slot.Slot.{Slot}
-use Rattle.gr_stable.specs.Heard.{Reports, heard, heard_after, is_counting_by, is_passed, is_stable_by, is_stable_now}
+use Rattle.gr_stable.specs.Heard.{Reports, heard, is_counting_by, is_passed, is_stable_by, is_stable_now}
 use Rattle.gr_stable.proofs.Counting.{heard_next}
 use Rattle.gr_shard.specs.Entries.{slot_from, slot_of}
 use Rattle.gr_shard.specs.Looked.{IsLooked, id_in, looked_after}

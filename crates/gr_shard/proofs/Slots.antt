@@ -9,7 +9,7 @@ use Rattle.gr_stamp.specs.Winner.{winner, wins}
 use Rattle.gr_history.specs.declared.deed.Deed.{Deed}
 use Rattle.gr_history.specs.Clock.{clock, since, is_same_stamp, is_same_standing}
 use Rattle.gr_history.specs.Standing.{lasting, standing}
-use Rattle.gr_slots.specs.Slots.{Entries, slot_at, with_slot}
+use Rattle.gr_slots.specs.Slots.{Entries, with_slot}
 use Rattle.gr_slots.proofs.Found.{slot_at-with_slot}
 use Rattle.gr_shard.specs.Asking.{Hold}
 use Rattle.gr_shard.specs.Entries.{slot_from, slot_of}

@@ -62,12 +62,16 @@ noted_nothing (entry ∷ entries) =
     ap (λ kept. record { client = entry.client; name = entry.name; kept = kept } ∷ noted [] entries) (kept_still entry.kept)
     ∙ ap (λ rest. entry ∷ rest) (noted_nothing entries)
 
+not_none : (n : ℕ) → (suc n == 0) ≡ true → ⊥
+not_none n e = let is : suc n ≡ 0 = grind (arith, nat_tests) in omega (arith, is)
+
 pub noted_none : (all : List Turned) (entries : List Entry) → (length entries == 0) ≡ true → noted all entries ≡ entries
 noted_none all [] none = refl
-noted_none all (entry ∷ entries) none = absurd (some (length entries) none)
-  where
-    some : (n : ℕ) → (suc n == 0) ≡ true → ⊥
-    some n e = let is : suc n ≡ 0 = grind (arith, nat_tests) in omega (arith, is)
+noted_none all (entry ∷ entries) none = absurd (not_none (length entries) none)
+
+pub none_noted : (all : List Turned) (entries : List Entry) → (length all == 0) ≡ true → entries ≡ noted all entries
+none_noted [] entries none = sym (noted_nothing entries)
+none_noted (one ∷ all) entries none = absurd (not_none (length all) none)
 
 -- ---- what was foreseen
 

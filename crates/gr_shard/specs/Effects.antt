@@ -1,5 +1,5 @@
 -- What a deed that was prepared changes of what a shard keeps, and what that takes.
-use Rattle.std.specs.Prelude.{◌≡◌, ◌≤◌, ℕ, ◌+◌, List, ◌||◌, false, Option, Some, None, unwrap_or}
+use Rattle.std.specs.Prelude.{◌≡◌, ◌≤◌, ℕ, ◌+◌, List, ◌||◌, false, Option, Some, None, unwrap_or, box_value}
 use Rattle.gr_cq.specs.Entries.{Entry, Queries}
 use Rattle.gr_cq.specs.Foresight.{IsMadeFor, IsOf, changed, room_of}
 use Rattle.gr_history.specs.declared.identity.Identity.{Identity}
@@ -40,7 +40,7 @@ unchanged = record {
 abbrev pub slots_after : SlotsAfter → Entries → Entries
 slots_after slots_.Same slots = slots
 slots_after (slots_.With key slot) slots = with_slot key slot slots
-slots_after (slots_.New new) slots = new.entries
+slots_after (slots_.New new) slots = (box_value new).entries
 slots_after (slots_.Without keys) slots = without_all keys slots
 
 -- what becomes of the slots by what comes in at this clock, and of the ids by what was made, if anything is
@@ -55,7 +55,7 @@ noting (Some change) = ids_.With change.stamp
 abbrev pub ids_after : IdsAfter → List Id → List Id
 ids_after ids_.Same ids = ids
 ids_after (ids_.With stamp) ids = with_id (record { member = stamp.member; rv = stamp.rv }) ids
-ids_after (ids_.New new) ids = new.ids
+ids_after (ids_.New new) ids = (box_value new).ids
 
 abbrev pub queries_after : QueriesAfter → List Entry → List Entry
 queries_after queries_.Same queries = queries

@@ -21,7 +21,7 @@ pub fn settle(slots: &mut Slots, after: SlotsAfter)
     match after {
         SlotsAfter::Same => {}
         SlotsAfter::With { key, slot } => slots.set_reserved(key, slot),
-        SlotsAfter::New(new) => *slots = new,
+        SlotsAfter::New(new) => *slots = Box::into_inner(new),
         SlotsAfter::Without(keys) => drop_all(slots, keys.as_slice()),
     }
 }
@@ -36,7 +36,7 @@ pub fn know(vector: &mut Vector, after: IdsAfter)
         IdsAfter::With(stamp) => {
             let _ = vector.note(stamp.member(), stamp.rv());
         }
-        IdsAfter::New(new) => *vector = new,
+        IdsAfter::New(new) => *vector = Box::into_inner(new),
     }
 }
 

@@ -12,7 +12,7 @@ use gr_vector::{Report, Vector};
 pub enum SlotsAfter {
     Same,
     With { key: Key, slot: Slot },
-    New(Slots),
+    New(Box<Slots>),
     Without(KeyList),
 }
 
@@ -21,7 +21,7 @@ pub enum SlotsAfter {
 pub enum IdsAfter {
     Same,
     With(Stamp),
-    New(Vector),
+    New(Box<Vector>),
 }
 
 /// What becomes of the open queries.

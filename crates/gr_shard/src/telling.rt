@@ -76,7 +76,8 @@ fn foresee(
     }
 }
 
-/// Makes ready what the open queries are to be told of these keys.
+/// Makes ready what the open queries are to be told of these keys, if anything.
+#[tactic(auto, using(crate::proofs::Turning::none_noted))]
 pub fn foretell_turned(
     alloc: Global,
     queries: &mut Registry,
@@ -89,6 +90,9 @@ pub fn foretell_turned(
     ensures room { IfOk result (λ after. needs after ≤ 1 + queries.new.spare) }
 {
     if queries.is_empty() {
+        return Ok(QueriesAfter::Same);
+    }
+    if turned.is_empty() {
         return Ok(QueriesAfter::Same);
     }
     match queries.foresee(alloc, &Coming::Note { turned }) {

@@ -9,7 +9,7 @@ ghost use Rattle.gr_history.specs.Recipients.{recipients};
 ghost use Rattle.std.specs.List.{AllByRecursion};
 ghost use Rattle.std.specs.Option.{option_to_list};
 ghost use Rattle.gr_history.specs.Standing.{standing};
-ghost use Rattle.gr_shard.specs.Calls.{call_with, given_with, served};
+ghost use Rattle.gr_shard.specs.Calls.{IsNextCall, call_with, given_with, served};
 ghost use Rattle.gr_shard.specs.View.{after_deed, with_spare};
 
 use super::Shard;
@@ -24,8 +24,7 @@ use gr_value::{Copied, Key, Memory};
 use std::alloc::Global;
 
 impl Shard {
-    /// Does a client's step and adds it to the history. What stands is looked up twice, and once by
-    /// `serve`.
+    /// Does a client's step and adds it to the history.
     pub fn call(&mut self, alloc: Global, client: u8, seq: u32, ask: &Ask) -> Result<Done, Memory>
         requires { shard_of (key_of ask.now) self.old.id.shards ≡ self.old.id.shard }
         ensures given { IfOk result (λ done. done ≡ call_gives self.old.id self.old.opening (reverse self.old.deeds) ask.now) }
@@ -38,10 +37,11 @@ impl Shard {
     {
         // So that what the shard keeps of the members is known to the proof.
         let _ = &self.id;
-        let given = self.gives(alloc, ask)?;
         let asked = ask.copy(alloc)?;
-        self.serve(alloc, client, seq, asked)?;
-        Ok(given)
+        let deed = self.answered(alloc, client, seq, asked)?;
+        let done = done_of(alloc, &deed)?;
+        self.enter_call(alloc, deed)?;
+        Ok(done)
     }
 
     /// Does a client's step as `call` does, of which it keeps what was asked, and answers what the
@@ -55,19 +55,27 @@ impl Shard {
         ensures err { OnErr result (self.new ≡ with_spare self.new.spare self.old) }
     {
         let deed = self.answered(alloc, client, seq, ask)?;
+        let reply = deed.reply(alloc)?;
+        let made = deed.made().is_some();
+        self.enter_call(alloc, deed)?;
+        Ok(Served { reply, made })
+    }
+
+    // Adds the deed of a call to the history, and what it made to what the shard keeps.
+    #[inline(always)]
+    fn enter_call(&mut self, alloc: Global, deed: Entry) -> Result<(), Memory>
+        requires { IsNextCall self.old deed }
+        ensures added { OnOk result (self.new ≡ after_deed self.old deed) }
+        ensures err { OnErr result (self.new ≡ with_spare self.new.spare self.old) }
+    {
         self.roomy = false;
         self.history.reserve(1)?;
         self.vector.reserve()?;
-        let reply = deed.reply(alloc)?;
         let made = lent(deed.made());
         come_in(alloc, &mut self.slots, &mut self.queries, self.clock, made)?;
         note(&mut self.vector, made);
-        let changed = made.is_some();
         let _ = self.history.push(deed);
-        Ok(Served {
-            reply,
-            made: changed,
-        })
+        Ok(())
     }
 
     // The deed of the call that would be done now.
@@ -96,15 +104,6 @@ impl Shard {
             Some(stamp) => Entry::changed(alloc, client, self.to, seq, ask, reply, stamp),
             None => Entry::answered(alloc, client, seq, ask, Reply::Limit),
         }
-    }
-
-    // What the call gives now.
-    fn gives(&self, alloc: Global, ask: &Ask) -> Result<Done, Memory>
-        ensures { IfOk result (λ done. done ≡ call_gives self.now.id self.now.opening (reverse self.now.deeds) ask.now) }
-    {
-        let asked = ask.copy(alloc)?;
-        let deed = self.answered(alloc, 0, 0, asked)?;
-        done_of(alloc, &deed)
     }
 
     // The stamp of a change that is made where this version stands, if there are numbers for it.

@@ -153,6 +153,8 @@ impl Shard {
         ids.unite(&image.vector)?;
         let slots = merged(alloc, &self.slots, image, &self.vector, self.clock)?;
         let turned = turned_between(alloc, &self.slots, &slots)?;
+        let new_slots = Box::new(alloc, slots)?;
+        let new_ids = Box::new(alloc, ids)?;
         let floor = image.floor.max(self.floor);
         let deed = Entry::of(alloc, Deed::Imaged { image: kept })?;
         let queries = self.tell_ahead(alloc, turned.as_slice())?;
@@ -161,8 +163,8 @@ impl Shard {
             came: Came::Merged,
             turned,
             effect: Effect {
-                slots: SlotsAfter::New(slots),
-                ids: IdsAfter::New(ids),
+                slots: SlotsAfter::New(new_slots),
+                ids: IdsAfter::New(new_ids),
                 queries,
                 floor: Some(floor),
                 joined: true,

@@ -1,4 +1,4 @@
-use Rattle.std.proofs.Common.{ℕ, ◌≡◌, ◌∙◌, ap, refl, Option, [], ◌∷◌, ◌++◌, reverse}
+use Rattle.std.proofs.Common.{◌≡◌, ◌∙◌, ap, refl, Option, [], ◌∷◌, ◌++◌, reverse}
 use Rattle.std.proofs.lemmas.List.{reverse-append}
 use Rattle.gr_value.specs.Shard.{shard_of}
 use Rattle.gr_stamp.specs.declared.change.Change.{Change}
@@ -17,20 +17,21 @@ use Rattle.gr_shard.proofs.Pushed.{on_ok}
 use Rattle.gr_shard.proofs.Stocked.{unstocked}
 use Rattle.gr_shard.proofs.Kept.{kept_called}
 use Rattle.gr_shard.proofs.Looked.{looked_on}
-use Rattle.gr_shard.proofs.shard.Shard.serve.Goals as goal
+use Rattle.gr_shard.proofs.shard.Shard.enter_call.Goals as goal
 
 pub invariant_of-self-2 : goal.invariant_of-self-2
 invariant_of-self-2 c =
     let was = c.self.inside in
     let past = reverse was.history.deeds in
-    let done : Done = call_gives was.id was.opening past c.args.ask in
-    let deed : Deed = call_with c.args.client c.args.seq c.args.ask done in
-    let here : shard_of (key_of c.args.ask) was.id.shards ≡ was.id.shard = rw (← c.self.view_is) at c.requires in
-    let is : c.in_ok-deed.deed ≡ deed = rw (← c.self.view_is) at c.in_ok-deed.ensures in
+    let call = c.requires in
+    let done : Done = call_gives was.id was.opening past call.ask in
+    let deed : Deed = call_with call.client call.seq call.ask done in
+    let here : shard_of (key_of call.ask) was.id.shards ≡ was.id.shard = rw (← c.self.view_is) at call.here in
+    let is : c.args.deed ≡ deed = rw (← c.self.view_is) at call.gives in
     let made_is = c.lent-made.ensures ∙ c.made.ensures ∙ ap made_in is in
     let pushed : c.push.new.self.deeds ≡ was.history.deeds ++ deed ∷ [] =
     on_ok c.push.result (c.push.ensures.room c.in_ok-reserve.ensures.room) c.push.ensures.ok
-    ∙ ap (λ deeds. deeds ++ c.in_ok-deed.deed ∷ []) c.in_ok-reserve.ensures.deeds
+    ∙ ap (λ deeds. deeds ++ c.args.deed ∷ []) c.in_ok-reserve.ensures.deeds
     ∙ ap (λ last. was.history.deeds ++ last ∷ []) is in
     let noted : c.note.new.vector.ids ≡ with_made done.made was.vector.ids = c.note.ensures
     ∙ ap (λ (m : Option Change). with_made m c.reserve-2.new.self.ids) made_is
@@ -42,11 +43,11 @@ invariant_of-self-2 c =
     ∙ ap (λ (m : Option Change). noted_ (turned_by_change was.slots.entries m) was.queries.entries) made_is in
     let behind =
     kept_called was.id was.opening (kept was.slots.entries was.vector.ids was.floor was.clock was.joined was.to was.heard
-    was.queries.entries) past c.args.client c.args.seq c.args.ask done.reply done.made done.to c.self.invariant.0 here refl in
+    was.queries.entries) past call.client call.seq call.ask done.reply done.made done.to c.self.invariant.0 here refl in
     rw (pushed, reverse-append, noted, entered, told) (
       behind,
       unstocked _ _ _ _ _ _
-          (opened_made was.id was.opening c.args.client c.args.seq c.args.ask done.reply done.made done.to past was.slots.entries
+          (opened_made was.id was.opening call.client call.seq call.ask done.reply done.made done.to past was.slots.entries
           was.queries.entries c.self.invariant.0.stands c.self.invariant.1.open_are refl),
       looked_on was.id was.opening was.looked _ deed past behind c.self.invariant.2,
     )

@@ -2,7 +2,6 @@ use Rattle.std.proofs.Common.{◌≡◌, ◌∙◌, ap, sym, subst, refl, revers
 use Rattle.gr_value.specs.Shard.{shard_of}
 use Rattle.gr_stamp.specs.declared.change.Change.{Change}
 use Rattle.gr_cq.specs.Entries.{noted}
-use Rattle.gr_history.specs.declared.deed.Deed.{Deed}
 use Rattle.gr_history.specs.declared.done.Done.{Done}
 use Rattle.gr_history.specs.Asks.{key_of}
 use Rattle.gr_history.specs.Calls.{call_gives}

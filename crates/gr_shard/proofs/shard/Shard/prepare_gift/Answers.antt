@@ -1,5 +1,4 @@
 use Rattle.std.proofs.Common.{◌≤◌, ◌∙◌, sym, subst, refl, reverse, Some}
-use Rattle.gr_history.specs.declared.deed.Deed.TheVariants.{Gave}
 use Rattle.gr_law.proofs.Turns.{turned_gave}
 use Rattle.gr_shard.specs.Prepared.{IsFit}
 use Rattle.gr_shard.specs.View.{Account, with_spare}

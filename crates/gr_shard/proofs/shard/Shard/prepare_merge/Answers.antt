@@ -4,6 +4,9 @@ use Rattle.gr_cq.specs.Entries.{noted}
 use Rattle.gr_history.specs.declared.deed.Deed.TheVariants.{Imaged}
 use Rattle.gr_history.specs.Turned.{turned}
 use Rattle.gr_history.specs.Floor.{floor as floor_of}
+use Rattle.std.specs.Prelude.{box_value}
+use Rattle.gr_slots.specs.Slots.{HeldSlots}
+use Rattle.gr_vector.specs.Ids.{Ids}
 use Rattle.gr_vector.specs.Order.{united}
 use Rattle.gr_shard.specs.declared.effect.IdsAfter.TheVariants as ids_
 use Rattle.gr_shard.specs.declared.effect.SlotsAfter.TheVariants as slots_
@@ -49,16 +52,20 @@ returns-clause-made c =
     let floor_is : c.max-floor.result ≡ floor_of was.opening (Imaged image ∷ past) =
     c.max-floor.ensures ∙ ap (max image.floor) c.self.invariant.0.floored in
     let low : c.max-floor.result ≤ LIMIT = omega (arith, c.max-floor.ensures, fits.low, c.self.invariant.0.low) in
+    let slots = c.in_ok-new_slots.new_slots in
+    let slots_are : Hold (box_value slots).entries (Imaged image ∷ past) =
+    subst (λ (s : HeldSlots). Hold s.entries (Imaged image ∷ past)) (sym c.in_ok-new_slots.ensures.ok) stands in
+    let ids = c.in_ok-new_ids.new_ids in
     subst (λ a. IsFit a c.in_ok-deed.deed (record c.none.result {
-      slots = slots_.New c.in_ok-slots.slots;
-      ids = ids_.New c.unite.new.self;
+      slots = slots_.New slots;
+      ids = ids_.New ids;
       queries = c.in_ok-queries.queries;
       floor = Some c.max-floor.result;
       joined = true;
     })) (sym c.in_ok-queries.ensures.same)
     (rw (← c.self.view_is, c.in_ok-deed.ensures, c.in_ok-kept.ensures, c.none.ensures)
-    (fit_imaged (with_spare c.tell_ahead.new.self.spare account) image c.in_ok-slots.slots c.unite.new.self c.max-floor.result
-    c.in_ok-queries.queries c.in_ok-queries.ensures.room fits stands
-    (known_built was.id was.opening now past image c.self.invariant.0 c.unite.new.self
-    (c.in_ok-unite.ensures.ids ∙ ap (λ v. united v.ids image.vector.ids) c.in_ok-ids.ensures))
+    (fit_imaged (with_spare c.tell_ahead.new.self.spare account) image slots ids c.max-floor.result
+    c.in_ok-queries.queries c.in_ok-queries.ensures.room fits slots_are
+    (known_built was.id was.opening now past image c.self.invariant.0 (box_value ids)
+    (ap (λ (v : Ids). v.ids) c.in_ok-new_ids.ensures.ok ∙ c.in_ok-unite.ensures.ids ∙ ap (λ v. united v.ids image.vector.ids) c.in_ok-ids.ensures))
     floor_is low (after ∙ ap (λ all. noted all (opened past)) turned_is) made))
