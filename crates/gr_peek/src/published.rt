@@ -1,4 +1,4 @@
-ghost use Rattle.std.specs.Prelude.{◌≡◌, ◌+◌, [], ◌∷◌, ◌++◌, true, false, drop, fold, length, Some, IsErr, None, OnOk, OnErr};
+ghost use Rattle.std.specs.Prelude.{◌≡◌, ◌+◌, [], ◌∷◌, ◌++◌, true, false, if◌then◌else◌, is_ok, drop, fold, length, Some, IsErr, None, OnOk, OnErr};
 ghost use Rattle.left_right.specs.Sides.{view as view_of};
 ghost use Rattle.gr_peek.specs.Rule.{after, IsShown};
 ghost use Rattle.gr_peek.specs.Writing.{steps_of, IsAt};
@@ -80,26 +80,31 @@ pub(crate) fn send<R: Wait>(writer: StoreWriter, rt: &R) -> (StoreWriter, Result
     writer.publish_as::<See, R>(rt)
 }
 
-// One publication more, of which this is told.
+// Sends one publication more. Once it is sent the next is told.
 fn publish_on<R: Wait>(
     mut writer: StoreWriter,
     rt: &R,
     alloc: Global,
     turned: &[Turned],
-    told: Told,
+    told: &mut Told,
+    next: Told,
 ) -> (StoreWriter, Result<(), Memory>)
-    requires at { IsAt writer.desk.shown.value.told writer.desk.shown.value (view_of writer.desk.place) (drop writer.behind writer.log.items) false }
-    requires copy { told.copy ≡ writer.desk.shown.value.told.copy }
-    requires next { told.publications ≡ writer.desk.shown.value.told.publications ++ turned.now ∷ [] }
-    ensures ok { OnOk result.1 (IsAt told result.0.desk.shown.value (view_of result.0.desk.place) (drop result.0.behind result.0.log.items) false) }
-    ensures err { OnErr result.1 (IsAt writer.desk.shown.value.told result.0.desk.shown.value (view_of result.0.desk.place) (drop result.0.behind result.0.log.items) true) }
+    requires at { IsAt told.old writer.desk.shown.value (view_of writer.desk.place) (drop writer.behind writer.log.items) false }
+    requires copy { next.copy ≡ told.old.copy }
+    requires next { next.publications ≡ told.old.publications ++ turned.now ∷ [] }
+    ensures told { told.new ≡ if is_ok result.1 then next else told.old }
+    ensures ok { OnOk result.1 (IsAt next result.0.desk.shown.value (view_of result.0.desk.place) (drop result.0.behind result.0.log.items) false) }
+    ensures err { OnErr result.1 (IsAt told.old result.0.desk.shown.value (view_of result.0.desk.place) (drop result.0.behind result.0.log.items) true) }
 {
-    if lay_out(&mut writer, alloc, turned, told).is_err() {
+    if lay_out(&mut writer, alloc, turned, next.again()).is_err() {
         return (writer, Err(Memory));
     }
     let (writer, sent) = send(writer, rt);
     match sent {
-        Ok(()) => (writer, Ok(())),
+        Ok(()) => {
+            *told = next;
+            (writer, Ok(()))
+        }
         Err(_) => (writer, Err(Memory)),
     }
 }
@@ -123,7 +128,8 @@ impl Published {
         self.writer.is_some()
     }
 
-    /// Adds one publication, the turned keys of a deed, which is the `at`-th. Where memory is refused
+    /// Adds one publication, the turned keys of a deed, which is the `at`-th. One that turns no key isn't
+    /// sent, since the entries stay as they are: the next that turns one tells it too. Where memory is refused
     /// what was published stays, and nothing is published any more.
     pub fn publish<R: Wait>(
         &mut self,
@@ -140,21 +146,26 @@ impl Published {
         if self.halted {
             return Err(Memory);
         }
-        let Some(told) = self.told.grown::<&[Turned], Grow>(&self.head, &turned, at) else {
+        let turns = !turned.is_empty();
+        let Some(told) = self
+            .told
+            .grown::<&[Turned], Grow>(&self.head, &turned, at, turns)
+        else {
             self.halted = true;
             return Err(Memory);
         };
+        if !turns {
+            self.told = told;
+            return Ok(());
+        }
         let Some(writer) = self.writer.take() else {
             self.told = told;
             return Ok(());
         };
-        let (writer, sent) = publish_on(writer, rt, alloc, turned, told.again());
+        let (writer, sent) = publish_on(writer, rt, alloc, turned, &mut self.told, told);
         put_back(&mut self.writer, writer);
         match sent {
-            Ok(()) => {
-                self.told = told;
-                Ok(())
-            }
+            Ok(()) => Ok(()),
             Err(_) => {
                 self.halted = true;
                 Err(Memory)
@@ -176,7 +187,8 @@ impl Published {
         ensures { self.new ≡ record self.old { publications = self.old.publications ++ M.ask about.now ∷ [] } }
     {
         for _ in rt.forever() {
-            if let Some(told) = self.told.grown::<X, M>(&self.head, about, at) {
+            // What is asked is for contracts alone, so it may turn a key.
+            if let Some(told) = self.told.grown::<X, M>(&self.head, about, at, true) {
                 self.told = told;
                 return;
             }

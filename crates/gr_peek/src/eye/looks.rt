@@ -1,7 +1,7 @@
 ghost use Rattle.std.specs.Prelude.{◌≡◌, length, Some, IfOk, IfErr};
 ghost use mathlib.Core.List.{IsPrefix};
 ghost use Rattle.left_right.specs.Sides.{view};
-ghost use Rattle.gr_peek.specs.Publications.{present_after};
+ghost use Rattle.gr_peek.specs.Publications.{present_after, AddsNoTurn};
 ghost use Rattle.gr_peek.specs.Rule.{IsShown};
 ghost use Rattle.gr_peek.specs.declared.eye.PeekEnd.TheVariants as end;
 ghost use Rattle.gr_peek.specs.Entering.{IsDenied, IsEntered, Follows, longer};
@@ -18,20 +18,20 @@ use std::thread;
 
 type StoreReading = Reading<Store, Option<CopyName>, Shows>;
 
-// Enters the copy once. It is refused too where less is shown than was told, which never happens.
+// Enters the copy once. It is refused too where a turned key that was told isn't shown, which never happens.
 fn enter(reader: StoreReader, least: &Told) -> Result<StoreReading, StoreReader>
     requires { view reader.place ≡ Some least.now.copy }
     ensures view { IfOk result (λ reading. view reading.place ≡ Some least.now.copy) }
     ensures copy { IfOk result (λ reading. reading.part.value.told.copy ≡ least.now.copy) }
     ensures shown { IfOk result (λ reading. IsShown reading.part.value) }
-    ensures begins { IfOk result (λ reading. IsPrefix least.now.publications reading.part.value.told.publications) }
+    ensures turns { IfOk result (λ reading. let told = reading.part.value.told.publications in AddsNoTurn told (longer least.now.publications told)) }
     ensures err { IfErr result (λ reader. view reader.place ≡ Some least.now.copy) }
 {
     let reading = match reader.enter_as::<See>() {
         Ok(reading) => reading,
         Err(reader) => return Err(reader),
     };
-    if reading.get().told.reaches(least) {
+    if reading.get().told.shows(least) {
         Ok(reading)
     } else {
         Err(reading.leave())
@@ -46,9 +46,7 @@ impl Eye {
         ensures before { IsPrefix self.old.told self.new.told }
         ensures learnt { IsPrefix told.now.publications self.new.told }
     {
-        if !self.told.reaches(told) {
-            self.told = told.again();
-        }
+        self.told = self.told.longer(told);
     }
 
     // Enters once, and looks at the key.
@@ -64,8 +62,8 @@ impl Eye {
             Ok(reading) => {
                 let store = reading.get();
                 let value = store.value(alloc, key);
-                self.known = store.told.again();
-                self.told = store.told.again();
+                self.told = self.told.longer(&store.told);
+                self.known = self.told.again();
                 self.reader = Some(reading.leave());
                 match value {
                     Ok(value) => Ok(value),
