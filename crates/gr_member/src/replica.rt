@@ -111,18 +111,32 @@ impl Replica {
         ensures done { IfOk result (λ came. Does self.old next.now came self.new) }
         ensures err { OnErr result (self.new.deeds ≡ self.old.deeds) }
     {
-        let at = self.len() + 1;
         if self.published.is_shown() {
-            let prepared = self.shard.prepare(alloc, next)?;
-            self.published.publish(rt, alloc, prepared.turned(), at)?;
-            let came = self.shard.commit(prepared);
-            // So that what the shard's type says of the new deed is known to the proof.
-            let _ = self.shard.history();
-            return Ok(came);
+            return self.act_shown(rt, alloc, next);
         }
+        let at = self.len() + 1;
         let came = serve(&mut self.shard, alloc, next)?;
         self.published
             .count::<R, Shard, Newest>(rt, &self.shard, at);
+        // So that what the shard's type says of the new deed is known to the proof.
+        let _ = self.shard.history();
+        Ok(came)
+    }
+
+    // The same, where the copy is shown. (What is prepared takes much room, which a deed that isn't has no
+    // need to clear.)
+    #[inline(never)]
+    fn act_shown<R: Wait>(&mut self, rt: &R, alloc: Global, next: &Next) -> Result<Came, Memory>
+        requires { Belongs self.old.origin.id next.now }
+        ensures based { self.new.origin ≡ self.old.origin }
+        ensures grows { StartsWith self.new.deeds self.old.deeds }
+        ensures done { IfOk result (λ came. Does self.old next.now came self.new) }
+        ensures err { OnErr result (self.new.deeds ≡ self.old.deeds) }
+    {
+        let at = self.len() + 1;
+        let prepared = self.shard.prepare(alloc, next)?;
+        self.published.publish(rt, alloc, prepared.turned(), at)?;
+        let came = self.shard.commit(prepared);
         let _ = self.shard.history();
         Ok(came)
     }

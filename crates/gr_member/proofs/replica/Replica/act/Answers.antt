@@ -4,14 +4,8 @@ use Rattle.gr_member.specs.Replicas.{Replicated}
 use Rattle.gr_member.proofs.Publishing.{next_place}
 use Rattle.gr_member.proofs.replica.Replica.act.Goals as goal
 
-pub publish-requires : goal.publish-requires
-publish-requires g c =
-    next_place _ c.self.inside.shard.value.deeds (c.len-at.result + 1)
-    (ap (λ (p : Publishing). p.publications) c.deref_mut-then-is_shown.ensures.value ∙ c.self.invariant)
-    (ap (λ (n : ℕ). n + 1) (c.len-at.ensures.is ∙ ap (λ (r : Replicated). length r.deeds) (sym c.self.view_is)))
-
 pub count-requires-clause-next : goal.count-requires-clause-next
 count-requires-clause-next g c =
     next_place _ c.self.inside.shard.value.deeds (c.len-at.result + 1)
-    (ap (λ (p : Publishing). p.publications) c.deref_mut-3.ensures.value ∙ c.self.invariant)
+    (ap (λ (p : Publishing). p.publications) c.deref_mut-2.ensures.value ∙ c.self.invariant)
     (ap (λ (n : ℕ). n + 1) (c.len-at.ensures.is ∙ ap (λ (r : Replicated). length r.deeds) (sym c.self.view_is)))
