@@ -24,3 +24,4 @@ pub mod Prepares
 pub mod Imaging
 pub mod Coming
 pub mod Expiring
+pub mod Entered

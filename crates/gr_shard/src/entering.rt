@@ -1,7 +1,7 @@
 ghost use Rattle.std.specs.Prelude.{◌≡◌, ◌≤◌, IfOk, OnOk, OnErr, option_copied, option_and_then};
 ghost use Rattle.gr_stamp.specs.Winner.{put_value};
 ghost use Rattle.gr_shard.specs.Effects.{arriving, noting};
-ghost use Rattle.gr_shard.specs.Entries.{slot_ver, with_change, applied, verdict_at};
+ghost use Rattle.gr_shard.specs.Entries.{slot_from, slot_ver, with_change, applied, verdict_at};
 ghost use Rattle.gr_shard.specs.Telling.{slot_there};
 
 use crate::effect::{IdsAfter, SlotsAfter};
@@ -39,6 +39,18 @@ pub fn ver_of(slot: Option<&Slot>) -> u64
     }
 }
 
+/// The slot of a change that comes in at this clock.
+#[inline(always)]
+pub fn slot_from(alloc: Global, change: &Change, clock: u64) -> Result<Slot, Memory>
+    ensures { IfOk result (λ slot. slot ≡ slot_from change.now clock) }
+{
+    Ok(Slot {
+        kind: change.kind.copy(alloc)?,
+        stamp: change.stamp,
+        taken_at: clock,
+    })
+}
+
 /// Sets what came in at this clock, if anything did. Where memory is refused the slots are as before.
 #[inline(always)]
 pub fn enter(
@@ -53,12 +65,7 @@ pub fn enter(
     let Some(change) = came else {
         return Ok(());
     };
-    let slot = Slot {
-        kind: change.kind.copy(alloc)?,
-        stamp: change.stamp,
-        taken_at: clock,
-    };
-    slots.set(&change.key, slot)
+    slots.set(&change.key, slot_from(alloc, change, clock)?)
 }
 
 /// What becomes of a change that is known or isn't, over what stands.

@@ -29,6 +29,7 @@ mod changing;
 mod expiring;
 mod halves;
 mod preparing;
+mod publishing;
 
 use crate::asking::{Foretold, Replies, foretell};
 use crate::committing::carry_out;

@@ -6,8 +6,9 @@ ghost use Rattle.gr_shard.specs.Entries.{with_change};
 ghost use Rattle.gr_stamp.specs.Winner.{put_value};
 ghost use Rattle.gr_shard.specs.Telling.{IsForeseen, IsReady, is_other_slot, slot_value, told_of, turned_between, turned_by_change, turned_slot, with_keys};
 
+use crate::Publisher;
 use crate::effect::QueriesAfter;
-use crate::entering::{enter, is_there, value_of};
+use crate::entering::{enter, is_there, slot_from, value_of};
 use gr_cq::{Coming, Foreseen, Registry, Turned};
 use gr_slots::{Slot, Slots};
 use gr_stamp::{Change, Kind};
@@ -61,7 +62,7 @@ pub fn turned_by(alloc: Global, slots: &Slots, came: Option<&Change>) -> Result<
     Ok(turned)
 }
 
-// What the open queries are to be told of these keys.
+// What the open queries are to be told of these keys, if any is open.
 fn foresee(
     alloc: Global,
     queries: &mut Registry,
@@ -70,6 +71,9 @@ fn foresee(
     ensures entries { queries.new.entries ≡ queries.old.entries }
     ensures foreseen { IfOk result (IsForeseen turned.now queries.new) }
 {
+    if queries.is_empty() {
+        return Ok(None);
+    }
     match queries.foresee(alloc, &Coming::Note { turned }) {
         Ok(foreseen) => Ok(Some(foreseen)),
         Err(_) => Err(Memory),
@@ -184,6 +188,39 @@ pub fn come_in(
     } else {
         come_in_told(alloc, slots, queries, clock, came)
     }
+}
+
+/// The same, once the key that is turned was published.
+pub fn come_in_published<P: Publisher>(
+    alloc: Global,
+    slots: &mut Slots,
+    queries: &mut Registry,
+    clock: u64,
+    came: Option<&Change>,
+    published: &mut P::Published,
+    by: &P::By,
+) -> Result<(), Memory>
+    requires { P.ready published.old by.now }
+    ensures slots { OnOk result (slots.new.entries ≡ with_change (option_copied came.entry) clock slots.old.entries) }
+    ensures told { OnOk result (queries.new.entries ≡ noted (turned_by_change slots.old.entries (option_copied came.entry)) queries.old.entries) }
+    ensures turned { OnOk result (P.note published.new
+        ≡ P.adds (P.note published.old) (turned_by_change slots.old.entries (option_copied came.entry))) }
+    ensures slots_err { OnErr result (slots.new.entries ≡ slots.old.entries) }
+    ensures told_err { OnErr result (queries.new.entries ≡ queries.old.entries) }
+    ensures unpublished { OnErr result (P.note published.new ≡ P.note published.old) }
+{
+    let Some(change) = came else {
+        return P::publish(published, by, &[]);
+    };
+    slots.reserve(clock)?;
+    let key = change.key.copy(alloc)?;
+    let slot = slot_from(alloc, change, clock)?;
+    let turned = [turned_one(alloc, slots, change)?];
+    let foreseen = foresee(alloc, queries, &turned)?;
+    P::publish(published, by, &turned)?;
+    slots.set_reserved(key, slot);
+    tell(queries, foreseen);
+    Ok(())
 }
 
 /// Takes over slots in the place of those before and further ids, and tells the open queries.
