@@ -6,7 +6,7 @@ use Rattle.gr_history.specs.declared.identity.Identity.{Identity}
 use Rattle.gr_history.specs.Recipients.{NamesMembers}
 use Rattle.gr_history.specs.Turned.{turned}
 use Rattle.gr_oql.specs.declared.event.Turned.{Turned}
-use Rattle.gr_peek.specs.Views.{Watching}
+use Rattle.gr_peek.specs.Views.{Note, Publishing, Watching}
 use Rattle.gr_peek_law.specs.Turns.{turned_each}
 use Rattle.gr_shard.specs.View.{Account, after_deed}
 use Rattle.gr_shard.specs.Prepared.{Gives}
@@ -33,6 +33,19 @@ pub record Serves (old : Account) (to_do : Next) (came : Came) (new : Account) :
   pub deed : Deed
   pub added : new ≡ after_deed old deed
   pub gives : Gives old.id old.opening (reverse old.deeds) to_do came deed
+
+-- what is told of all that was published
+abbrev pub told_of : Publishing → Note
+told_of published = record { copy = published.copy; publications = published.publications }
+
+-- what is told once these keys are published too
+abbrev pub told_more : Note → List Turned → Note
+told_more note turned = record note { publications = note.publications ++ turned ∷ [] }
+
+-- The same, and what the deed turned was published.
+pub record Shows (old : Account) (to_do : Next) (came : Came) (new : Account) (before after : Note) : Type 0 where
+  pub served : Serves old to_do came new
+  pub told : after ≡ told_more before (turned served.deed (reverse old.deeds))
 
 -- One deed was added: the one that a shard adds where this is done and so answered.
 pub record Does (old : Replicated) (to_do : Next) (came : Came) (new : Replicated) : Type 0 where

@@ -1,26 +1,14 @@
 // What a call of each name answers.
 ghost use Rattle.std.specs.Prelude.{◌≡◌};
-ghost use Rattle.gr_history.specs.declared.done.Done.{Done};
 ghost use Rattle.gr_history.specs.declared.image.Gift.{Gift};
 ghost use Rattle.gr_history.specs.declared.query_reply.QueryReply.{QueryReply};
-ghost use Rattle.gr_history.specs.declared.verdict.Verdict.{Verdict};
 ghost use Rattle.gr_shard.specs.declared.next.Came.TheVariants as came_;
 ghost use Rattle.gr_vector.specs.declared.report.Report.{Report};
 ghost use Rattle.std.specs.Prelude.{ℕ};
 
-use gr_history::{Done, Gift, QueryReply, Verdict};
+use gr_history::{Gift, QueryReply};
 use gr_shard::Came;
 use gr_vector::Report;
-
-pub(crate) fn done_in(came: Came) -> Done
-    requires { (done : Done) × (came ≡ came_.Done done) }
-    ensures { came ≡ came_.Done result }
-{
-    let Came::Done(done) = came else {
-        unreachable!()
-    };
-    done
-}
 
 pub(crate) fn reply_in(came: Came) -> QueryReply
     requires { (reply : QueryReply) × (came ≡ came_.Reply reply) }
@@ -30,16 +18,6 @@ pub(crate) fn reply_in(came: Came) -> QueryReply
         unreachable!()
     };
     reply
-}
-
-pub(crate) fn verdict_in(came: Came) -> Verdict
-    requires { (verdict : Verdict) × (came ≡ came_.Verdict verdict) }
-    ensures { came ≡ came_.Verdict result }
-{
-    let Came::Verdict(verdict) = came else {
-        unreachable!()
-    };
-    verdict
 }
 
 pub(crate) fn gift_in(came: Came) -> Gift

@@ -14,6 +14,7 @@ mod plan;
 mod replica;
 mod rounds;
 mod serving;
+mod tasks;
 mod turns;
 mod watch;
 

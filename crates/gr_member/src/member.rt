@@ -11,15 +11,16 @@ ghost use Rattle.gr_member.specs.Seats.{Acts, Gives, Peeks};
 ghost use Rattle.gr_member.specs.Passes.{IsPassOf, StaysAll, At, AddsAt, LooksAt, LooksAll, LooksUpAll, MeetsAll};
 ghost use Rattle.gr_member.specs.Passes.{TurnsAll, TurnsSome, SweepsAll, AreReady, OneWaits};
 
-use crate::answers::{done_in, gift_in, verdict_in};
+use crate::answers::gift_in;
 use crate::lock::ShardLock;
 use crate::meeting::meet_each;
 use crate::pass::Pass;
 use crate::plan::Plan;
 use crate::rounds::{look_each, query_each, ready_each, report_each, sweep_each};
+use crate::tasks::{Call, TakeIn, Task};
 use gr_history::{Ask, Done, Gift, Image, QueryAsk, QueryReplyList, Verdict, What};
 use gr_peek::{PeekEnd, Seen};
-use gr_shard::{Came, Next};
+use gr_shard::Next;
 use gr_stamp::Change;
 use gr_value::{Key, Memory, Shared};
 use gr_vector::{Report, ReportList};
@@ -69,8 +70,7 @@ impl Member {
         ensures refused { OnErr result (LooksAt (shard_of (key_of ask.now) self.now.plan.shards) pass.old pass.new) }
     {
         let shard = ask.key().shard(self.plan.shards);
-        let came = self.act(rt, alloc, pass, shard, &Next::Call { client, seq, ask })?;
-        Ok(done_in(came))
+        self.act(rt, alloc, pass, shard, &Call { client, seq, ask })
     }
 
     /// A change that another member made, at the shard of its key.
@@ -88,8 +88,7 @@ impl Member {
         ensures refused { OnErr result (LooksAt (shard_of change.now.key self.now.plan.shards) pass.old pass.new) }
     {
         let shard = change.get().key.shard(self.plan.shards);
-        let came = self.act(rt, alloc, pass, shard, &Next::TakeIn { change })?;
-        Ok(verdict_in(came))
+        self.act(rt, alloc, pass, shard, &TakeIn { change })
     }
 
     /// A report that another member made of the shard.
@@ -153,25 +152,25 @@ impl Member {
         Ok(())
     }
 
-    // What is done next at the shard.
-    fn act<R: Wait + Sync>(
+    // What is done at the shard.
+    fn act<R: Wait + Sync, T: Task>(
         &self,
         rt: &R,
         alloc: Global,
         pass: &mut Pass,
         shard: u8,
-        next: &Next,
-    ) -> Result<Came, Memory>
+        task: &T,
+    ) -> Result<T::Answer, Memory>
         requires pass { IsPassOf self.now pass.old }
         requires shard { shard < self.now.plan.shards }
-        requires here { Belongs (identity_of self.now.plan shard) next.now }
+        requires here { Belongs (identity_of self.now.plan shard) (T.next task.now) }
         ensures stays { StaysAll pass.old pass.new }
-        ensures done { IfOk result (λ came. At shard (λ s t. Acts s next.now came t) pass.old pass.new) }
+        ensures done { IfOk result (λ answer. At shard (λ s t. Acts s (T.next task.now) (T.came answer) t) pass.old pass.new) }
         ensures refused { OnErr result (LooksAt shard pass.old pass.new) }
     {
         let at = usize::from(shard);
         let lock = &self.locks[at];
-        pass.shards[at].act(rt, alloc, &lock.lock, next)
+        pass.shards[at].act(rt, alloc, &lock.lock, task)
     }
 }
 

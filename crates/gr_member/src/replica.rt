@@ -10,11 +10,12 @@ ghost use Rattle.gr_history.specs.Regions.{IsRegionOf};
 ghost use Rattle.gr_member.specs.Fresh.{AreUnused};
 ghost use Rattle.gr_member.specs.Replicas.{Does};
 
-use crate::serving::{Newest, serve};
+use crate::serving::Newest;
+use crate::tasks::{Means, Task};
 use crate::watch::{Watch, watches_of};
 use gr_history::{Deed, Identity, ShardRecord};
 use gr_peek::{CopyName, Published, Told};
-use gr_shard::{Came, Next, Shard};
+use gr_shard::Shard;
 use gr_turn::Kept;
 use gr_value::Memory;
 use std::alloc::Global;
@@ -99,46 +100,50 @@ impl Replica {
     }
 
     // Adds one deed and publishes what it turns, or does neither where memory is refused.
-    pub(crate) fn act<R: Wait>(
+    #[inline(always)]
+    pub(crate) fn act<R: Wait, T: Task>(
         &mut self,
         rt: &R,
         alloc: Global,
-        next: &Next,
-    ) -> Result<Came, Memory>
-        requires { Belongs self.old.origin.id next.now }
+        task: &T,
+    ) -> Result<T::Answer, Memory>
+        requires { Belongs self.old.origin.id (T.next task.now) }
         ensures based { self.new.origin ≡ self.old.origin }
         ensures grows { StartsWith self.new.deeds self.old.deeds }
-        ensures done { IfOk result (λ came. Does self.old next.now came self.new) }
+        ensures done { IfOk result (λ answer. Does self.old (T.next task.now) (T.came answer) self.new) }
         ensures err { OnErr result (self.new.deeds ≡ self.old.deeds) }
     {
         if self.published.is_shown() {
-            return self.act_shown(rt, alloc, next);
+            return self.act_shown(rt, alloc, task);
         }
         let at = self.len() + 1;
-        let came = serve(&mut self.shard, alloc, next)?;
+        let answer = task.serve(&mut self.shard, alloc)?;
         self.published
             .count::<R, Shard, Newest>(rt, &self.shard, at);
         // So that what the shard's type says of the new deed is known to the proof.
         let _ = self.shard.history();
-        Ok(came)
+        Ok(answer)
     }
 
-    // The same, where the copy is shown. (What is prepared takes much room, which a deed that isn't has no
-    // need to clear.)
-    #[inline(never)]
-    fn act_shown<R: Wait>(&mut self, rt: &R, alloc: Global, next: &Next) -> Result<Came, Memory>
-        requires { Belongs self.old.origin.id next.now }
+    // The same, where the copy is shown.
+    fn act_shown<R: Wait, T: Task>(
+        &mut self,
+        rt: &R,
+        alloc: Global,
+        task: &T,
+    ) -> Result<T::Answer, Memory>
+        requires { Belongs self.old.origin.id (T.next task.now) }
         ensures based { self.new.origin ≡ self.old.origin }
         ensures grows { StartsWith self.new.deeds self.old.deeds }
-        ensures done { IfOk result (λ came. Does self.old next.now came self.new) }
+        ensures done { IfOk result (λ answer. Does self.old (T.next task.now) (T.came answer) self.new) }
         ensures err { OnErr result (self.new.deeds ≡ self.old.deeds) }
     {
         let at = self.len() + 1;
-        let prepared = self.shard.prepare(alloc, next)?;
-        self.published.publish(rt, alloc, prepared.turned(), at)?;
-        let came = self.shard.commit(prepared);
+        let means = Means { rt, alloc, at };
+        let answer = task.show(&mut self.shard, &mut self.published, &means)?;
+        // So that what the shard's type says of the new deed is known to the proof.
         let _ = self.shard.history();
-        Ok(came)
+        Ok(answer)
     }
 
     // A note of what is published.

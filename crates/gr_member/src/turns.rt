@@ -4,8 +4,8 @@ ghost use Rattle.gr_member.specs.Bases.{BelongsBy, IsReadyBy};
 
 use crate::pass::ShardPass;
 use crate::replica::Replica;
+use crate::tasks::Task;
 use gr_peek::{PeekEnd, Seen};
-use gr_shard::{Came, Next};
 use gr_turn::TurnLock;
 use gr_value::{Key, Memory};
 use std::alloc::Global;
@@ -13,28 +13,28 @@ use std::sync::Wait;
 
 impl ShardPass {
     // One turn, in which one deed is added, or none where memory is refused. Its note is kept.
-    pub(crate) fn act<R: Wait + Sync>(
+    pub(crate) fn act<R: Wait + Sync, T: Task>(
         &mut self,
         rt: &R,
         alloc: Global,
         lock: &TurnLock<Replica>,
-        next: &Next,
-    ) -> Result<Came, Memory>
+        task: &T,
+    ) -> Result<T::Answer, Memory>
         requires its { self.old.lock ≡ lock.now }
-        requires here { BelongsBy self.old.view.base next.now }
+        requires here { BelongsBy self.old.view.base (T.next task.now) }
         ensures stays { Stays self.old self.new }
-        ensures done { IfOk result (λ came. Acts self.old next.now came self.new) }
+        ensures done { IfOk result (λ answer. Acts self.old (T.next task.now) (T.came answer) self.new) }
         ensures refused { OnErr result (Looks self.old self.new) }
     {
         let Some(seat) = self.seat.take() else {
             unreachable!()
         };
         let mut turn = lock.enter(rt, seat);
-        let came = turn.value_mut().act(rt, alloc, next);
+        let answer = turn.value_mut().act(rt, alloc, task);
         self.watch.keep(turn.value().tell());
         let before = self.seat.replace(lock.leave(turn));
         let None = before else { unreachable!() };
-        came
+        answer
     }
 
     // One turn, in which the shard is asked whether it is ready.

@@ -20,8 +20,8 @@ act-requires-clause-here g c =
     let below : c.from-at.result < length c.args.self.now.locks = omega arith in
     let seat = seat_here c.args.self.now c.args.pass.now c.pass.inside.shards.items c.from-at.result c.index_mut.result.now c.requires.pass
     c.pass.view_is below c.index_mut.ensures.value in
-    λ _ _ o e. subst (λ (i : Identity). Belongs i c.args.next.now) (sym (seat o e).0)
-    (subst (λ (k : ℕ). Belongs (identity_of c.args.self.now.plan k) c.args.next.now) (sym at) c.requires.here)
+    λ _ _ o e. subst (λ (i : Identity). Belongs i (g.T.Task.next c.args.task.now)) (sym (seat o e).0)
+    (subst (λ (k : ℕ). Belongs (identity_of c.args.self.now.plan k) (g.T.Task.next c.args.task.now)) (sym at) c.requires.here)
 
 pub returns-clause-stays : goal.returns-clause-stays
 returns-clause-stays g c =
@@ -45,7 +45,8 @@ returns-clause-done g c =
     let there = c.requires.shard in
     let below : c.from-at.result < length c.pass.inside.shards.items =
     omega (arith, c.self.inside.locks.ok, c.self.invariant.0, c.requires.pass.many) in
-    IfOk-weaker c.act.result _ _ (λ came a. at_turn (λ s t. Acts s c.args.next.now came t) c.from-at.result c.args.shard c.args.pass.now
+    IfOk-weaker c.act.result _ _ (λ answer a. at_turn
+    (λ s t. Acts s (g.T.Task.next c.args.task.now) (g.T.Task.came answer) t) c.from-at.result c.args.shard c.args.pass.now
     c.pass.inside.shards.items c.index_mut.result.now c.act.new.self below c.pass.view_is at c.index_mut.ensures.value a)
     c.act.ensures.done
 
