@@ -64,15 +64,16 @@ fn peeked(alloc: Global, eye: &mut Eye, letter: u8) -> Result<(Option<i64>, u64)
     }
 }
 
-// Makes three publications.
-fn publish_three<R: Wait>(rt: &R, alloc: Global, copy: &mut Published) -> Result<(), Memory>
+// Makes four publications, of which the second and the last turn no key.
+fn publish_four<R: Wait>(rt: &R, alloc: Global, copy: &mut Published) -> Result<(), Memory>
     requires { copy.old.publications ≡ [] }
     ensures { copy.new.copy ≡ copy.old.copy }
 {
     let first = [turned(alloc, b'a', Some(1))?, turned(alloc, b'b', Some(2))?];
     copy.publish(rt, alloc, &first, 1)?;
     copy.publish(rt, alloc, &[], 2)?;
-    copy.publish(rt, alloc, &[turned(alloc, b'a', None)?], 3)
+    copy.publish(rt, alloc, &[turned(alloc, b'a', None)?], 3)?;
+    copy.publish(rt, alloc, &[], 4)
 }
 
 #[test]
@@ -85,19 +86,22 @@ fn a_copy_is_peeked(rt: HostRuntime) -> Result<(), Fail> {
         panic!(rt; "no eye")
     };
     let nothing = peeked(alloc, &mut one, b'a');
-    if publish_three(&rt, alloc, &mut copy).is_err() {
+    if publish_four(&rt, alloc, &mut copy).is_err() {
         panic!(rt; "no memory")
     }
     let told = copy.tell();
     one.learn(&told);
+    let noted = peeked(alloc, &mut one, b'b');
+    let unnoted = peeked(alloc, &mut two, b'b');
     one.reach(&rt, &told);
     let gone = peeked(alloc, &mut one, b'a');
-    let stands = peeked(alloc, &mut two, b'b');
     copy.end(&rt);
     assert_eq!(rt; nothing, Ok((None, 0)));
-    assert_eq!(rt; told.at(), 3);
-    assert_eq!(rt; gone, Ok((None, 3)));
-    assert_eq!(rt; stands, Ok((Some(2), 3)));
+    assert_eq!(rt; told.at(), 4);
+    assert_eq!(rt; noted, Ok((Some(2), 4)));
+    // (what isn't noted may be left out where it turns no key)
+    assert!(rt; unnoted == Ok((Some(2), 3)) || unnoted == Ok((Some(2), 4)));
+    assert_eq!(rt; gone, Ok((None, 4)));
     assert_eq!(rt; peeked(alloc, &mut two, b'b'), Err(PeekEnd::Denied));
     Ok(())
 }
