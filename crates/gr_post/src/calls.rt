@@ -10,6 +10,7 @@ use crate::mail::{Mail, Posted};
 use crate::passes::{SendPass, SendPassList, TakePass};
 use crate::rule::{Enlist, Meet, Sends, Takes};
 use crossbeam_queue::RuledArrayQueue;
+use crossbeam_utils::Backoff;
 use gr_value::Memory;
 use std::alloc::Global;
 use std::sync::Wait;
@@ -45,7 +46,23 @@ impl Inbox {
         ))
     }
 
-    /// Puts a mail last. It may wait for other threads that are in the middle of a call.
+    // Puts a mail last, where the inbox isn't full and no other thread is in the middle of a call there.
+    fn try_send(&self, pass: &mut SendPass, mail: Mail) -> Result<(), Mail>
+        requires { pass.old.table ≡ self.now.table }
+        ensures sent { IfOk result (λ _. pass.new ≡ sent_by pass.old mail) }
+        ensures back { IfErr result (λ back. (back ≡ mail) × (pass.new ≡ pass.old)) }
+    {
+        let posted = Posted {
+            from: pass.number,
+            mail,
+        };
+        match self.queue.try_push_as::<Sends>(&mut pass.token, posted) {
+            Ok(()) => Ok(()),
+            Err(posted) => Err(posted.mail),
+        }
+    }
+
+    /// Puts a mail last. It may wait for other threads that are in the middle of a call, and yields to them.
     pub fn send<R: Wait + Sync>(&self, rt: &R, pass: &mut SendPass, mail: Mail) -> Result<(), Full>
         requires { pass.old.table ≡ self.now.table }
         ensures stays { (pass.new.table ≡ pass.old.table) × (pass.new.number ≡ pass.old.number) }
@@ -55,20 +72,19 @@ impl Inbox {
         ensures never_falls { pass.old.refused ≤ pass.new.refused }
         ensures full { IfErr result (λ _. Held self.now.capacity (λ mails. EndsWith pass.old.sent (of pass.old.number mails))) }
     {
-        let posted = Posted {
-            from: pass.number,
-            mail,
-        };
-        let Err(posted) = self.queue.try_push_as::<Sends>(&mut pass.token, posted) else {
-            return Ok(());
-        };
-        match self.queue.push_as::<Sends, R>(rt, &mut pass.token, posted) {
-            Ok(()) => Ok(()),
-            Err(posted) => {
-                pass.refused = pass.refused.saturating_add(1);
-                Err(Full { mail: posted.mail })
+        let mut left = mail;
+        let backoff = Backoff::new();
+        for _ in rt.forever() {
+            match self.try_send(pass, left) {
+                Ok(()) => return Ok(()),
+                Err(back) => left = back,
             }
+            if self.refuses(pass) {
+                return Err(Full { mail: left });
+            }
+            backoff.snooze();
         }
+        unreachable!()
     }
 
     // Whether the inbox is full at a step of the call, which the pass counts then.
@@ -86,7 +102,30 @@ impl Inbox {
         full
     }
 
-    /// Takes the first mail. It may wait for other threads that are in the middle of a call.
+    // Takes the first mail, where there is one and no other thread is in the middle of a call there.
+    fn try_take(&self, pass: &mut TakePass) -> Option<Mail>
+        requires { pass.old.table ≡ self.now.table }
+        ensures stays { (pass.new.table ≡ pass.old.table) × (pass.new.senders ≡ pass.old.senders) × (pass.new.met ≡ pass.old.met) }
+        ensures taken { IfSome result (λ mail. pass.new ≡ taken_by pass.old pass.new.sender mail) }
+        ensures sender { IfSome result (λ _. pass.new.sender < pass.old.senders) }
+        ensures order { IfSome result (λ _. IsInOrder pass.new) }
+        ensures none { IfNone result (pass.new ≡ pass.old) }
+    {
+        let posted = self.queue.try_pop_as::<Takes>(&mut pass.token)?;
+        pass.sender = posted.from;
+        Some(posted.mail)
+    }
+
+    // Whether the inbox is empty at a step of the call.
+    fn is_empty(&self, pass: &mut TakePass) -> bool
+        requires { pass.old.table ≡ self.now.table }
+        ensures pass { pass.new ≡ pass.old }
+        ensures empty { result ≡ true → HasAll pass.new }
+    {
+        self.queue.is_empty_as::<Takes>(&mut pass.token)
+    }
+
+    /// Takes the first mail. It may wait for other threads that are in the middle of a call, and yields to them.
     pub fn take<R: Wait + Sync>(&self, rt: &R, pass: &mut TakePass) -> Option<Mail>
         requires { pass.old.table ≡ self.now.table }
         ensures stays { (pass.new.table ≡ pass.old.table) × (pass.new.senders ≡ pass.old.senders) × (pass.new.met ≡ pass.old.met) }
@@ -96,9 +135,17 @@ impl Inbox {
         ensures none { IfNone result (pass.new ≡ pass.old) }
         ensures empty { IfNone result (HasAll pass.new) }
     {
-        let posted = self.queue.pop_as::<Takes, R>(rt, &mut pass.token)?;
-        pass.sender = posted.from;
-        Some(posted.mail)
+        let backoff = Backoff::new();
+        for _ in rt.forever() {
+            if let Some(mail) = self.try_take(pass) {
+                return Some(mail);
+            }
+            if self.is_empty(pass) {
+                return None;
+            }
+            backoff.snooze();
+        }
+        unreachable!()
     }
 
     /// Ends a sender's pass, and tells the taker what that one sent.
