@@ -115,7 +115,7 @@ impl Published {
         ensures each { IfOk result (λ made. All (λ eye. eye ≡ new_eye true made.0.copy) made.1) }
     {
         let (told, head) = Told::open();
-        let (first, second) = (Store::new(alloc, &told), Store::new(alloc, &told));
+        let (first, second) = (Store::new(alloc, &told)?, Store::new(alloc, &told)?);
         let writer = Writer::new(alloc, first, second, eyes.max(1) as usize)?;
         let (mut writer, named) = send(writer, rt);
         if named.is_err() {

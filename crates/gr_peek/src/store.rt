@@ -1,17 +1,19 @@
 use crate::told::Told;
-use gr_by_key::ByKey;
 use gr_value::{Key, Value};
 use std::alloc::Global;
 
 mod absorbing;
 mod looking;
+mod parts;
 mod steps;
+
+use parts::Parts;
 
 /// What each of the two copies holds: what is present, and what had been published then.
 #[derive(Drop)]
 pub(crate) struct Store {
     pub(crate) alloc: Global,
-    pub(crate) entries: ByKey<Value>,
+    pub(crate) entries: Parts<Value>,
     pub(crate) told: Told,
 }
 

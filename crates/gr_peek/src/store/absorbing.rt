@@ -15,7 +15,7 @@ impl Store {
             (λ step. (step ≡ Turn key value) × (self.new ≡ self.old)) }
     {
         let Some(value) = value else {
-            let _old = self.entries.take(&key);
+            self.entries.take(&key);
             return Ok(());
         };
         match self.entries.put(key, value) {
