@@ -11,7 +11,7 @@ use crate::host::{Host, Hosted};
 use crate::joining::join;
 use crate::mail::{follow, take};
 use gr_member::Member;
-use gr_post::InboxList;
+use gr_post::{InboxList, Rest};
 use gr_value::Memory;
 use std::alloc::Global;
 use std::sync::Wait;
@@ -105,24 +105,26 @@ impl Host {
         }
     }
 
-    // Takes mail until there is none, and does what it asks for.
+    // Takes mail until there is none, and does what it asks for. It says whether there was any.
     fn listen<R: Wait + Sync>(
         &mut self,
         rt: &R,
         alloc: Global,
         members: &[Member],
         inboxes: &InboxList,
-    ) -> Result<(), Memory>
+    ) -> Result<bool, Memory>
         requires at { IsHostAt members.now inboxes.now self.old }
         ensures at { IsHostAt members.now inboxes.now self.new }
         ensures goes { HostGoesOn self.old self.new }
         ensures courier { self.new.courier ≡ self.old.courier }
         ensures worked { OnOk result (Works self.old self.new []) }
     {
+        let mut took = false;
         for _ in rt.forever() {
             if !self.hear_one(rt, alloc, members, inboxes)? {
-                return Ok(());
+                return Ok(took);
             }
+            took = true;
         }
         unreachable!()
     }
@@ -165,11 +167,12 @@ impl Host {
         ensures worked { OnOk result (Works self.old self.new []) }
         ensures done { OnOk result (IsThrough self.new) }
     {
+        let mut rest = Rest::new();
         for _ in rt.forever() {
-            if self.turn(rt, alloc, members, inboxes)? {
+            if self.turn(rt, alloc, members, inboxes, &mut rest)? {
                 return Ok(());
             }
-            thread::yield_now();
+            rest.wait(rt);
         }
         unreachable!()
     }
@@ -181,6 +184,7 @@ impl Host {
         alloc: Global,
         members: &[Member],
         inboxes: &InboxList,
+        rest: &mut Rest,
     ) -> Result<bool, Memory>
         requires at { IsHostAt members.now inboxes.now self.old }
         ensures at { IsHostAt members.now inboxes.now self.new }
@@ -189,7 +193,8 @@ impl Host {
         ensures worked { OnOk result (Works self.old self.new []) }
         ensures done { IfOk result (λ done. done ≡ true → IsThrough self.new) }
     {
-        self.listen(rt, alloc, members, inboxes)?;
+        let took = self.listen(rt, alloc, members, inboxes)?;
+        rest.progress(took);
         let sent = self.courier.push(rt, inboxes);
         Ok(sent && self.ends.all())
     }

@@ -124,7 +124,8 @@ impl Courier {
             if self.push(rt, inboxes) {
                 return;
             }
-            rest.wait(rt, waiting(&self.lanes) < before);
+            rest.progress(waiting(&self.lanes) < before);
+            rest.wait(rt);
         }
         unreachable!()
     }

@@ -22,5 +22,6 @@ pub use inbox::{Full, Inbox, InboxList};
 pub use laws::each_mail_is_delivered;
 pub use mail::{Mail, Posted, Posting};
 pub use passes::{SendPass, SendPassList, TakePass};
+pub use rest::Rest;
 pub use stage::Stage;
 pub use view::{Met, View};
