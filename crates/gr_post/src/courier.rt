@@ -11,11 +11,12 @@ use crate::lanes::{
     new_lanes, passes_home, prepare_each, prepare_last_each, send_each, settle_each, stop_each,
     waiting,
 };
-use crate::mail::{Mail, Posting};
+use crate::mail::Mail;
 use crate::passes::{SendPass, SendPassList};
+use crate::postings::Postings;
 use crate::rest::Rest;
 use crate::stage::Stage;
-use gr_value::{Copied, Memory};
+use gr_value::Memory;
 use std::alloc::Global;
 use std::marker::Model;
 use std::sync::Wait;
@@ -26,7 +27,7 @@ pub struct Courier {
     first: u32,
     number: u32,
     stage: Stage,
-    posted: Vec<Posting>,
+    posted: Postings,
     lanes: Vec<Lane>,
     home: Vec<SendPass>,
 }
@@ -36,9 +37,9 @@ impl Model for Courier {
 
     ghost Value = { Carrying };
 
-    ghost view = { λ c. carrying c.lanes.items c.posted.items c.first c.stage };
+    ghost view = { λ c. carrying c.lanes.items c.posted c.first c.stage };
 
-    ghost invariant = { λ c. IsCarried c.lanes.items c.posted.items c.first c.number c.stage × HasHome c.home c.lanes };
+    ghost invariant = { λ c. IsCarried c.lanes.items c.posted c.first c.number c.stage × HasHome c.home c.lanes };
 }
 
 impl Courier {
@@ -63,7 +64,7 @@ impl Courier {
             first,
             number: first,
             stage: Stage::Open,
-            posted: Vec::new(alloc),
+            posted: Postings::new(),
             lanes,
             home,
         })
@@ -78,12 +79,10 @@ impl Courier {
         ensures plan { OnOk result (FollowsPlan self.new) }
         ensures err { OnErr result (self.new ≡ self.old) }
     {
-        let copy = mail.copy(alloc)?;
-        self.posted.reserve(1)?;
         let after = prepare_each(alloc, &mut self.lanes, mail, to, self.number)?;
         settle_each(&mut self.lanes);
         self.number = after;
-        self.posted.push_reserved(Posting { mail: copy, to });
+        self.posted.push(mail, to);
         Ok(())
     }
 

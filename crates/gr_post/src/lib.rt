@@ -10,6 +10,7 @@ mod lanes;
 mod laws;
 mod mail;
 mod passes;
+mod postings;
 mod rest;
 mod rule;
 mod stage;

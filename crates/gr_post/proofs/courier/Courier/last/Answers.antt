@@ -9,7 +9,7 @@ returns-in_err-prepare_last_each-clause-err c =
     let p = c.prepare_last_each in
     let same = lines_same s.lanes.items p.new.lanes.items p.ensures.count p.ensures.same in
     let view : Carrying → Carrying = λ k. k in
-    on_err _ ((λ i. record { lines = same i; posted = s.posted.items; first = s.first; stage = s.stage }) ∙ c.self.view_is)
+    on_err _ ((λ i. record { lines = same i; posted = s.posted; first = s.first; stage = s.stage }) ∙ c.self.view_is)
 
 pub returns-clause-passes : goal.returns-clause-passes
 returns-clause-passes c =
@@ -22,7 +22,7 @@ returns-clause-plan c =
     let s = c.self.inside in
     let p = c.prepare_last_each in
     let q = c.settle_each in
-    let was = was_open s.lanes.items s.posted.items s.first s.number s.stage _ c.self.view_is c.requires.open c.self.invariant.0 in
-    follows_plan q.new.lanes.items s.posted.items s.first s.number _
-    (ends s.lanes.items p.new.lanes.items q.new.lanes.items s.posted.items s.first s.number was p.ensures.count q.ensures.count
+    let was = was_open s.lanes.items s.posted s.first s.number s.stage _ c.self.view_is c.requires.open c.self.invariant.0 in
+    follows_plan q.new.lanes.items s.posted s.first s.number _
+    (ends s.lanes.items p.new.lanes.items q.new.lanes.items s.posted s.first s.number was p.ensures.count q.ensures.count
     c.in_ok-prepare_last_each.ensures.ready q.ensures.each)

@@ -12,7 +12,7 @@ invariant_of-result c =
     let ways = c.in_ok-lanes.lanes.items in
     let is = c.in_ok-lanes.ensures ∙ ap (map new_way) c.into_vec.ensures in
     let first = c.first_number-first.result in (
-      subst (λ (ps : List Posting). IsCarried ways ps first first Open) (sym c.new.ensures.items)
+      subst (λ (ps : List Posting). IsCarried ways ps first first Open) (sym c.new.ensures)
           (begins c.args.passes ways first is c.requires.members c.requires.unused),
       (
         c.in_ok-home.ensures.items,
@@ -26,5 +26,5 @@ returns c =
     let ways = c.in_ok-lanes.lanes.items in
     let is = c.in_ok-lanes.ensures ∙ ap (map new_way) c.into_vec.ensures in
     let first = c.first_number-first.result in
-    ap (λ (ps : List Posting). carrying ways ps first Open) c.new.ensures.items ∙ lines_begun c.args.passes ways first is
+    ap (λ (ps : List Posting). carrying ways ps first Open) c.new.ensures ∙ lines_begun c.args.passes ways first is
     ∙ ap (begun c.args.passes) c.first_number-first.ensures

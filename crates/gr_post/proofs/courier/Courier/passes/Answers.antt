@@ -10,4 +10,4 @@ returns-clause-passes c =
 pub returns-clause-plan : goal.returns-clause-plan
 returns-clause-plan c =
     let s = c.self.inside in
-    subst FollowsPlan c.self.view_is (follows_plan s.lanes.items s.posted.items s.first s.number s.stage c.self.invariant.0)
+    subst FollowsPlan c.self.view_is (follows_plan s.lanes.items s.posted s.first s.number s.stage c.self.invariant.0)

@@ -1,4 +1,4 @@
-use Rattle.std.proofs.Common.{ap, sym, subst, ◌∙◌, ◌++◌, ◌∷◌, []}
+use Rattle.std.proofs.Common.{ap, sym, subst, ◌∙◌}
 use Rattle.gr_post.specs.declared.mail.Posting.{Posting}
 use Rattle.gr_post.specs.declared.stage.Stage.{Stage}
 use Rattle.gr_post.specs.declared.stage.Stage.TheVariants.{Open}
@@ -11,8 +11,7 @@ returns-in_err-after-clause-err c =
     let s = c.self.inside in
     let p = c.prepare_each in
     let same = lines_same s.lanes.items p.new.lanes.items p.ensures.count p.ensures.same in
-    let posted = c.reserve.ensures.items in
-    on_err _ ((λ i. record { lines = same i; posted = posted i; first = s.first; stage = s.stage }) ∙ c.self.view_is)
+    on_err _ ((λ i. record { lines = same i; posted = s.posted; first = s.first; stage = s.stage }) ∙ c.self.view_is)
 
 pub returns-clause-passes : goal.returns-clause-passes
 returns-clause-passes c =
@@ -26,14 +25,12 @@ returns-clause-plan c =
     let p = c.prepare_each in
     let q = c.settle_each in
     let now = q.new.lanes.items in
-    let posted = c.push_reserved.new.self.items in
+    let posted = c.push.new.self in
     let one : Posting = record { mail = c.args.mail.now; to = c.args.to } in
     let open_ = ap (λ (k : Carrying). k.stage) c.self.view_is ∙ c.requires.open in
-    let was = was_open s.lanes.items s.posted.items s.first s.number s.stage _ c.self.view_is c.requires.open c.self.invariant.0 in
-    let more = c.push_reserved.ensures.items
-    ∙ (λ i. c.reserve.ensures.items i ++ record { mail = c.in_ok-copy.ensures i; to = c.args.to } ∷ []) in
+    let was = was_open s.lanes.items s.posted s.first s.number s.stage _ c.self.view_is c.requires.open c.self.invariant.0 in
     subst (λ (t : Stage). FollowsPlan (carrying now posted s.first t)) (sym open_)
     (follows_plan now posted s.first c.in_ok-after.after Open
-    (posts s.lanes.items p.new.lanes.items now s.posted.items posted one s.first s.number c.in_ok-after.after was
+    (posts s.lanes.items p.new.lanes.items now s.posted posted one s.first s.number c.in_ok-after.after was
     p.ensures.count q.ensures.count
-    c.in_ok-after.ensures.number c.in_ok-after.ensures.ready q.ensures.each more))
+    c.in_ok-after.ensures.number c.in_ok-after.ensures.ready q.ensures.each c.push.ensures))

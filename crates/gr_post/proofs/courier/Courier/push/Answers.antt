@@ -26,8 +26,8 @@ returns-clause-pushed g c =
       moves = subst
           (λ (k : Carrying). (n : ℕ) (d : Line) → n < length k.lines → LineMoves (get_or k.lines n d) (get_or (map line_of now) n d))
           c.self.view_is (line_moves ways now count moved);
-      plan = follows_plan now s.posted.items s.first s.number s.stage
-          (moves ways now s.posted.items s.first s.number s.stage c.self.invariant.0 count moved);
+      plan = follows_plan now s.posted s.first s.number s.stage
+          (moves ways now s.posted s.first s.number s.stage c.self.invariant.0 count moved);
     }
 
 pub returns-clause-tried : goal.returns-clause-tried

@@ -16,5 +16,5 @@ returns-clause-ends c =
     let s = c.self.inside in
     let p = c.stop_each in
     let lines = lines_stopped s.lanes.items p.new.lanes.items p.ensures.count p.ensures.each in
-    (λ i. record { lines = lines i; posted = s.posted.items; first = s.first; stage = Stopped })
+    (λ i. record { lines = lines i; posted = s.posted; first = s.first; stage = Stopped })
     ∙ ap (λ (k : Carrying). record k { lines = map stopped_line k.lines; stage = Stopped }) c.self.view_is
