@@ -5,6 +5,7 @@ pub mod Keyed
 pub mod Numbered
 pub mod Openness
 pub mod Others
+pub mod Plain
 pub mod Played
 pub mod Rows
 pub mod Shown

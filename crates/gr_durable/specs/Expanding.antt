@@ -1,7 +1,7 @@
 -- What is kept while a script is expanded line by line.
-use Rattle.std.specs.Prelude.{◌≡◌, ℕ, ◌+◌, ◌≤◌, ◌<◌, ◌==◌, List, [], ◌∷◌, ◌++◌, length, get_or, if◌then◌else◌}
+use Rattle.std.specs.Prelude.{◌≡◌, ℕ, ◌+◌, ◌≤◌, ◌<◌, ◌==◌, Bool, true, false, List, [], ◌∷◌, ◌++◌, length, get_or, if◌then◌else◌}
 use Rattle.gr_script.specs.declared.line.Line.{Line}
-use Rattle.gr_script.specs.declared.line.Line.TheVariants.{Step, Deliver, Back}
+use Rattle.gr_script.specs.declared.line.Line.TheVariants.{Step, Deliver, Leave, Back}
 use Rattle.gr_script.specs.Absence.{IsAttendance}
 use Rattle.gr_script.specs.Expanded.{added, new_number}
 use Rattle.gr_script.specs.Rules.{IsWithin}
@@ -10,6 +10,12 @@ use Rattle.gr_durable.specs.declared.expander.Expander.{Expander}
 use Rattle.gr_durable.specs.declared.expander.Turn.{Turn}
 use Rattle.gr_durable.specs.declared.expander.Turn.TheVariants as turn
 use Rattle.gr_durable.specs.declared.numbers.Numbers.{Numbers}
+
+-- whether a client leaves or comes back on the line
+abbrev pub is_absence : Line → Bool
+is_absence (Leave client moment) = true
+is_absence (Back client moment) = true
+is_absence _ = false
 
 -- ---- the numbers of one client
 

@@ -1,14 +1,33 @@
-ghost use Rattle.std.specs.Prelude.{◌≡◌, ◌++◌, length, IfOk, OnOk};
+ghost use Rattle.std.specs.Prelude.{◌≡◌, ◌++◌, true, length, IfOk, OnOk};
 ghost use Rattle.gr_script.specs.Expanded.{expansion};
 ghost use Rattle.gr_script.specs.Rules.{Heading, IsScript};
 ghost use Rattle.gr_script.specs.Scripts.{heading_of};
-ghost use Rattle.gr_durable.specs.Expanding.{lines_in};
+ghost use Rattle.gr_durable.specs.Expanding.{is_absence, lines_in};
 
 use crate::expander::{Expander, Turn};
 use crate::expanding::expanded_scripts_are_scripts;
-use gr_script::{LineList, Script};
+use gr_script::{Line, LineList, Script};
 use gr_value::Memory;
 use std::alloc::Global;
+
+// Whether a client leaves or comes back on the line.
+fn is_absence(line: &Line) -> bool
+    ensures { result ≡ is_absence line.now }
+{
+    matches!(line, Line::Leave { .. } | Line::Back { .. })
+}
+
+// Whether the lines are played as they are, since no client leaves or comes back.
+fn are_plain(lines: &[Line]) -> bool
+    ensures { result ≡ true → expansion lines.now ≡ lines.now }
+{
+    for line in lines {
+        if is_absence(line) {
+            return false;
+        }
+    }
+    true
+}
 
 // Puts what is played in place of a line last.
 fn push_turn(all: &mut LineList, turn: Turn) -> Result<(), Memory>
@@ -45,6 +64,9 @@ pub fn expand(alloc: Global, script: Script) -> Result<Script, Memory>
     ensures heading { IfOk result (λ expanded. heading_of expanded ≡ heading_of script) }
     ensures lines { IfOk result (λ expanded. expanded.lines ≡ expansion script.lines) }
 {
+    if are_plain(script.lines.as_slice()) {
+        return Ok(script);
+    }
     let lines = expanded_lines(alloc, script.clients.len(), script.lines)?;
     expanded_scripts_are_scripts();
     Ok(Script {

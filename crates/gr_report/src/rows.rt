@@ -92,11 +92,12 @@ fn lent_rows<'a>(alloc: Global, shards: &'a [ShardRecord]) -> Result<Vec<&'a Cha
     Ok(rows)
 }
 
-// Puts rows in the order of their keys.
-fn sort(rows: &mut Vec<&Change>)
+// Puts rows in the order of their keys. Those of a shard are in order, and this sort keeps runs that are.
+fn sort(rows: &mut Vec<&Change>) -> Result<(), Memory>
     ensures { IsPermutation (map deref rows.old.items) (map deref rows.new.items) }
 {
-    rows.sort_unstable_by_key(|row| &row.key);
+    rows.sort_by_key(|row| &row.key)?;
+    Ok(())
 }
 
 #[tactic(auto, using(crate::proofs::Ordered::by_neighbours))]
@@ -126,7 +127,7 @@ pub fn put_rows(alloc: Global, out: &mut Vec<u8>, shards: &[ShardRecord]) -> Res
     ensures { OnOk result (out.new.items ≡ out.old.items ++ flat_map row_line (rows_of shards.now)) }
 {
     let mut rows = lent_rows(alloc, shards)?;
-    sort(&mut rows);
+    sort(&mut rows)?;
     if are_in_order(&rows) {
         return put_lent(alloc, out, &rows);
     }

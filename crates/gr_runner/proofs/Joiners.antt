@@ -2,6 +2,7 @@
 use Rattle.std.proofs.Common.{◌≡◌, ◌≢◌, ℕ, ◌+◌, ◌<◌, ◌≤◌, ◌==◌, ◌&&◌, Bool, true, false, not, List, [], ◌∷◌, ◌++◌, length, Option, Some, None}
 use Rattle.std.proofs.Common.{refl, sym, ap, ◌∙◌, subst, arith, inl, inr, reverse, if◌then◌else◌, eqb-true, cond, append-nil}
 use Rattle.std.specs.List.{filter_map, cons_option}
+use Rattle.std.proofs.lemmas.Bool.Decides.{nat_tests}
 use Rattle.std.proofs.lemmas.Grind.{reverse_onto}
 use Rattle.std.proofs.lemmas.List.{length-reverse, reverse-reverse}
 use Rattle.std.proofs.lemmas.List.Elements.{filter_map-append}
@@ -43,6 +44,20 @@ pub joiner_is : (heading : Heading) (lines : List Line) (joiner : ℕ) → IsScr
     → (provider : ℕ) × IsJoiner heading joiner provider
 joiner_is heading lines joiner script some =
     let l = join_line joiner lines some in (l.0, line_joins heading lines joiner l.0 script l.1)
+
+some_not : (n : ℕ) → (n == 0) ≡ false → n ≢ 0
+some_not n some none = grind (arith, nat_tests)
+
+-- No line has a founder join.
+pub founder_stays : (heading : Heading) (lines : List Line) (member : ℕ) → IsScript heading lines → member ≤ heading.founders
+    → false ≡ not (joins_of member lines == 0)
+founder_stays heading lines member script founder = either (joins_of member lines == 0) refl
+  where
+    either : (none : Bool) → (joins_of member lines == 0) ≡ none → false ≡ not none
+    either true e = refl
+    either false e =
+        let behind = (joiner_is heading lines member script (some_not (joins_of member lines) e)).1.behind in
+        absurd (omega (arith, founder, behind))
 
 -- ---- what is due
 

@@ -1,5 +1,5 @@
 // What all threads are given before any member is made.
-ghost use Rattle.std.specs.Prelude.{◌≡◌, ◌≤◌, ◌+◌, ◌-◌, length, map, option_map, IfOk, OnOk};
+ghost use Rattle.std.specs.Prelude.{◌≡◌, ◌==◌, ◌≤◌, ◌+◌, ◌-◌, not, length, map, option_map, IfOk, OnOk};
 ghost use Rattle.std.specs.List.{filter_map};
 ghost use Rattle.gr_post.specs.Plan.{first_number};
 ghost use Rattle.gr_script.specs.Rules.{IsMember, IsStated, home_of};
@@ -142,7 +142,7 @@ fn client_kit(
     Ok(ClientKit {
         client,
         plan: plan_of(script, home),
-        waits: joins_of(script, home) != 0,
+        waits: joins(script, home),
         steps,
         courier,
     })
@@ -174,6 +174,16 @@ fn home_of(script: &Script, client: u8) -> u8
     ensures member { IsMember (heading_of script.now) result }
 {
     script.clients.as_slice()[usize::from(client - 1)]
+}
+
+// Whether a line has the member join. A founder's never does, so that mostly no line is looked at.
+fn joins(script: &Script, member: u8) -> bool
+    ensures { result ≡ not (joins_of member script.now.lines == 0) }
+{
+    if member <= script.founders {
+        return false;
+    }
+    joins_of(script, member) != 0
 }
 
 // How many lines have the member join.
